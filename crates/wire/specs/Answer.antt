@@ -1,0 +1,79 @@
+-- What a call comes back with: document 01, 'The numbers a call comes back with'.
+use Prim.Native.Nat.{ℕ, _+_, _≤_}
+use mathlib.Core.Path.{_≡_, refl, _∙_}
+use mathlib.Core.List.{List, _++_}
+use native.Mathlib.Omega.{arith}
+use lib.ListN.{length, drop, length-append, length-drop}
+
+-- Done, with what the call gives; or refused, with the number, the record and the offset. The record is 0 but for sheets, and the offset
+-- is 0 but for 1 to 8.
+pub data Answer (A : Type 0) : Type 0 where
+  good : A → Answer A
+  refusal : ℕ → ℕ → ℕ → Answer A
+
+-- a refusal that has neither record nor offset
+abbrev pub plain : {A : Type 0} → ℕ → Answer A
+plain n = refusal n 0 0
+
+abbrev pub mapAnswer : {A B : Type 0} → (A → B) → Answer A → Answer B
+mapAnswer f (good a) = good (f a)
+mapAnswer f (refusal n r o) = refusal n r o
+
+-- What a lent buffer holds after a call: on 0 the result over the front of what was there, on a refusal what was there.
+abbrev pub lent : {A : Type 0} → Answer (List A) → List A → List A
+lent (good r) before = r ++ drop (length r) before
+lent (refusal n r o) before = before
+
+-- ---- the table
+abbrev pub endsInside : ℕ           -- bytes end inside a field, or an inventory has no end line
+endsInside = 1
+
+abbrev pub versionOutside : ℕ       -- version outside 22..29
+versionOutside = 2
+
+abbrev pub fixedDiffers : ℕ         -- a byte, width or list version that is fixed has another value
+fixedDiffers = 3
+
+abbrev pub positionAbove : ℕ        -- position above 4095
+positionAbove = 4
+
+abbrev pub positionTwice : ℕ        -- position already in its list
+positionTwice = 5
+
+abbrev pub idTwice : ℕ              -- id already mapped
+idTwice = 6
+
+abbrev pub bytesAfter : ℕ           -- bytes after the end
+bytesAfter = 7
+
+abbrev pub idUnmapped : ℕ           -- used id unmapped
+idUnmapped = 8
+
+abbrev pub outOfRange : ℕ           -- key or coordinate out of range
+outOfRange = 9
+
+abbrev pub badPart : ℕ              -- lot out of the world or turned round; span turned round
+badPart = 10
+
+abbrev pub noRoom : ℕ               -- result longer than the output lent
+noRoom = 11
+
+abbrev pub partsMisfit : ℕ          -- parts do not fit
+partsMisfit = 12
+
+abbrev pub tallyMalformed : ℕ       -- tally malformed
+tallyMalformed = 13
+
+abbrev pub tooMany : ℕ              -- a count above 2^64-1, or more than 2^32-1 rows
+tooMany = 14
+
+abbrev pub sheetMalformed : ℕ       -- sheet mark, version, framing, or keys not rising
+sheetMalformed = 15
+
+abbrev pub noSuch : ℕ               -- no such row or node
+noSuch = 16
+
+-- ---- laws
+-- a buffer keeps its length
+pub lent-length : {A : Type 0} (r before : List A) → length r ≤ length before → length (lent (good r) before) ≡ length before
+lent-length r before h = rw (length-append, length-drop) (omega arith)

@@ -1,0 +1,39 @@
+-- Choosing by a test, and the laws of tests that proofs cite.
+use Prim.Native.Nat.{ℕ}
+use mathlib.Core.Path.{_≡_, refl}
+use mathlib.Core.Bool.{Bool, true, false, _&&_}
+use mathlib.Core.Logic.{_⊎_, inl, inr}
+use native.Mathlib.Omega.{arith}
+
+-- the first where the test holds, else the second
+abbrev pub pick {ℓ} : {A : Type ℓ} → Bool → A → A → A
+pick true a b = a
+pick false a b = b
+
+pub no-true {ℓ} : {C : Type ℓ} → false ≡ true → C
+no-true e = let z : _≡_ {A = ℕ} 0 1 = cc in absurd (omega arith)
+
+pub no-false {ℓ} : {C : Type ℓ} → true ≡ false → C
+no-false e = let z : _≡_ {A = ℕ} 0 1 = cc in absurd (omega arith)
+
+pub and-yes : (a b : Bool) → (a && b) ≡ true → (a ≡ true) × (b ≡ true)
+and-yes true b e = (refl, e)
+and-yes false b e = no-true e
+
+pub yes-and : {a b : Bool} → a ≡ true → b ≡ true → (a && b) ≡ true
+yes-and p q = rw (p, q)
+
+pub and-no : (a b : Bool) → (a ≡ false) ⊎ (b ≡ false) → (a && b) ≡ false
+and-no a b (inl e) = rw e
+and-no true b (inr e) = e
+and-no false b (inr e) = refl
+
+-- a choice between a value and false
+pub pick-yes : (a b : Bool) → pick a b false ≡ true → (a ≡ true) × (b ≡ true)
+pick-yes true b e = (refl, e)
+pick-yes false b e = no-true e
+
+-- of two ways, what the second leads to
+pub or-so {ℓ} : {X A B : Type ℓ} → (A → B) → X ⊎ A → X ⊎ B
+or-so f (inl x) = inl x
+or-so f (inr a) = inr (f a)

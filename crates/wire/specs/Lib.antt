@@ -1,0 +1,10 @@
+pub mod Choice
+pub mod Ints
+pub mod Lists
+pub mod Answer
+pub mod Bytes
+pub mod Read
+pub mod Format
+pub mod Marks
+pub mod Formats
+pub mod EveryFormat

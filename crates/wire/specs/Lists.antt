@@ -1,0 +1,16 @@
+-- Laws of lists beyond the logic's own.
+use Prim.Native.Nat.{ℕ, suc, _+_, _-_, _≤_}
+use mathlib.Core.Path.{_≡_, refl, ap, sym, _∙_}
+use mathlib.Core.List.{List, [], _∷_, _++_}
+use native.Mathlib.Nat.{le-refl}
+use native.Mathlib.Omega.{arith}
+use lib.ListN.{length, take, drop, length-drop}
+use lib.Seq.{take-all}
+
+-- a part that goes to the end
+pub rest-is : {A : Type 0} (n : ℕ) (l : List A) → take (length l - n) (drop n l) ≡ drop n l
+rest-is n l = take-all (length l - n) (drop n l) (rw length-drop (le-refl (length l - n)))
+
+pub nil-is : {A : Type 0} (l : List A) → length l ≡ 0 → l ≡ []
+nil-is [] h = refl
+nil-is (x ∷ l) h = absurd (omega arith)

@@ -1,0 +1,91 @@
+-- What reading from the front of a list finds: a value and how many bytes it took, or a fault and its place.
+use Prim.Native.Nat.{ℕ, zero-le, _+_, _-_, _≤_}
+use mathlib.Core.Path.{_≡_, refl, sym}
+use mathlib.Core.List.{List}
+use mathlib.Core.Bool.{Bool, true, false}
+use native.Mathlib.Omega.{arith}
+use lib.ListN.{length, drop, length-drop}
+use Rattle.wire.specs.Choice.{pick}
+
+pub data Read (E A : Type 0) : Type 0 where
+  done : A → ℕ → Read E A
+  refused : E → ℕ → Read E A
+
+-- what follows, where the first was done
+abbrev pub bind : {E A B : Type 0} → Read E A → (A → ℕ → Read E B) → Read E B
+bind (done a n) f = f a n
+bind (refused e p) f = refused e p
+
+-- another value for the same bytes
+abbrev pub mapRead : {E A B : Type 0} → (A → B) → Read E A → Read E B
+mapRead f (done a n) = done (f a) n
+mapRead f (refused e p) = refused e p
+
+-- what is said of the bytes from n on, told from n bytes before
+abbrev pub onward : {E A B : Type 0} → ℕ → (A → B) → Read E A → Read E B
+onward n f (done a m) = done (f a) (n + m)
+onward n f (refused e p) = refused e (n + p)
+
+-- where the reading ended, or the place of the fault
+abbrev pub reach : {E A : Type 0} → Read E A → ℕ
+reach (done a n) = n
+reach (refused e p) = p
+
+-- the same with one fault for every fault
+abbrev pub blaming : {E F A : Type 0} → F → Read E A → Read F A
+blaming f (done a n) = done a n
+blaming f (refused e p) = refused f p
+
+-- ---- taking apart what was read
+pub never : {E A C : Type 0} {e : E} {a : A} {p n : ℕ} → refused e p ≡ done a n → C
+never h = let z : _≡_ {A = ℕ} 0 1 = cc in absurd (omega arith)
+
+-- a refusal is the same whatever was to be read
+pub same-refusal : {E A B : Type 0} {e k : E} {p q : ℕ} → _≡_ {A = Read E A} (refused e p) (refused k q) → _≡_ {A = Read E B} (refused e p) (refused k q)
+same-refusal {e = e} {k = k} {p = p} {q = q} h = let x : e ≡ k = cc in let y : p ≡ q = cc in rw (x, y)
+
+pub bind-done : {E A B : Type 0} (r : Read E A) (f : A → ℕ → Read E B) (b : B) (m : ℕ) → bind r f ≡ done b m
+    → (a : A) × (n : ℕ) × (r ≡ done a n) × (f a n ≡ done b m)
+bind-done (done a n) f b m h = (a, n, refl, h)
+bind-done (refused e p) f b m h = never h
+
+pub map-done : {E A B : Type 0} (f : A → B) (r : Read E A) (b : B) (n : ℕ) → mapRead f r ≡ done b n → (a : A) × (r ≡ done a n) × (f a ≡ b)
+map-done f (done a m) b n h = let q : m ≡ n = cc in (a, (cc), (cc))
+map-done f (refused e p) b n h = never h
+
+pub map-refused : {E A B : Type 0} (f : A → B) (r : Read E A) (e : E) (p : ℕ) → mapRead f r ≡ refused e p → r ≡ refused e p
+map-refused f (done a m) e p h = never (sym h)
+map-refused f (refused k q) e p h = cc
+
+pub onward-done : {E A B : Type 0} (n : ℕ) (f : A → B) (r : Read E A) (b : B) (m : ℕ) → onward n f r ≡ done b m
+    → (a : A) × (k : ℕ) × (r ≡ done a k) × (f a ≡ b) × (n + k ≡ m)
+onward-done n f (done a k) b m h = (a, k, refl, (cc), (cc))
+onward-done n f (refused e p) b m h = never h
+
+pub onward-refused : {E A B : Type 0} (n : ℕ) (f : A → B) (r : Read E A) (e : E) (p : ℕ) → onward n f r ≡ refused e p
+    → (q : ℕ) × (r ≡ refused e q) × (n + q ≡ p)
+onward-refused n f (done a k) e p h = never (sym h)
+onward-refused n f (refused k q) e p h = (q, (cc), (cc))
+
+pub pick-done : {E A : Type 0} (c : Bool) (x : Read E A) (e : E) (p : ℕ) (a : A) (n : ℕ) → pick c x (refused e p) ≡ done a n → (c ≡ true) × (x ≡ done a n)
+pick-done true x e p a n h = (refl, h)
+pick-done false x e p a n h = never h
+
+-- ---- how far a reading reaches
+pub reach-map : {E A B : Type 0} (f : A → B) (r : Read E A) → reach (mapRead f r) ≡ reach r
+reach-map f (done a n) = refl
+reach-map f (refused e p) = refl
+
+pub reach-onward : {E A B : Type 0} (n : ℕ) (s : List ℕ) (f : A → B) (r : Read E A) → n ≤ length s → reach r ≤ length (drop n s)
+    → reach (onward n f r) ≤ length s
+reach-onward n s f (done a m) h k = omega (arith, length-drop n s)
+reach-onward n s f (refused e p) h k = omega (arith, length-drop n s)
+
+pub reach-bind : {E A B : Type 0} (r : Read E A) (f : A → ℕ → Read E B) (l : ℕ) → reach r ≤ l → ((a : A) (n : ℕ) → n ≤ l → reach (f a n) ≤ l)
+    → reach (bind r f) ≤ l
+reach-bind (done a n) f l h k = k a n h
+reach-bind (refused e p) f l h k = h
+
+pub reach-pick : {E A : Type 0} (c : Bool) (n l : ℕ) (a : A) (e : E) → (c ≡ true → n ≤ l) → reach (pick c (done a n) (refused e 0)) ≤ l
+reach-pick true n l a e h = h refl
+reach-pick false n l a e h = zero-le
