@@ -1,1 +1,4 @@
 pub mod EveryFormat
+pub mod Steps
+pub mod Numbers
+pub mod Signs

@@ -58,7 +58,7 @@ unsigned-below : (half : ℕ) (z : ℤ) → mag z < half → unsignedOf half z <
 unsigned-below half (pos n) h = omega arith
 unsigned-below half (negsuc n) h = omega arith
 
-unsigned-signed : (half n : ℕ) → n < half + half → (mag (signedOf half n) < half) × (unsignedOf half (signedOf half n) ≡ n)
+pub unsigned-signed : (half n : ℕ) → n < half + half → (mag (signedOf half n) < half) × (unsignedOf half (signedOf half n) ≡ n)
 unsigned-signed half n h = go (ltb n half) refl
   where
     go : (b : Bool) → ltb n half ≡ b → (mag (signedOf half n) < half) × (unsignedOf half (signedOf half n) ≡ n)

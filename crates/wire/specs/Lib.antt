@@ -8,3 +8,6 @@ pub mod Format
 pub mod Marks
 pub mod Formats
 pub mod EveryFormat
+pub mod Told
+pub mod Store
+pub mod Order

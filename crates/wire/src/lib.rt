@@ -1,8 +1,5 @@
-// Bytes and numbers in code.
-ghost use mathlib.Core.Path.{_≡_};
-
-pub fn wide8(b: u8) -> u64
-    ensures { λ r. ⌜ r ≡ b ⌝ }
-{
-    b as u64
-}
+// Bytes and numbers in code, each proved against the formats of specs/.
+pub mod fields;
+pub mod marks;
+pub mod order;
+pub mod store;

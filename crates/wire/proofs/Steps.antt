@@ -1,0 +1,71 @@
+-- One law for each way on, of each way to make a format: what a proof about code cites.
+use Prim.Native.Nat.{ℕ, zero, suc, _+_, _-_, _*_, _^_, _<_, _≤_}
+use mathlib.Core.Path.{_≡_, refl, ap, sym, _∙_}
+use mathlib.Core.List.{List, [], _∷_, _++_}
+use mathlib.Core.Bool.{Bool, true, false}
+use native.Mathlib.Nat.{pow-suc, pow-le-pow-right, lt-of-lt-of-le}
+use native.Mathlib.Numerals.{add-one, sub-one}
+use native.Mathlib.Omega.{arith}
+use lib.Dec.{leb, lit<}
+use lib.ListN.{length, getD, take, drop, length-drop}
+use lib.Seq.{drop-cons}
+use borrow.Author.Tests.{le-leb, lt-leb}
+use Rattle.wire.specs.Choice.{pick}
+use Rattle.wire.specs.Bytes.{Bytes, spelt}
+use Rattle.wire.specs.Read.{Read, done, refused, mapRead, onward, blaming, never}
+use Rattle.wire.specs.Format.{Format, run, such, _⨾_, along, pair}
+use Rattle.wire.specs.Formats.{number, signed, signedOf, counted}
+
+-- ---- a number, byte by byte
+pub spelt-on : (n v : ℕ) (s : List ℕ) (p : ℕ) → 0 < n → p < length s → spelt v (take n (drop p s)) ≡ spelt (v * 256 + getD s p 0) (take (n - 1) (drop (p + 1) s))
+spelt-on zero v s p h k = absurd (omega arith)
+spelt-on (suc n) v s p h k = rw (drop-cons s p 0 k, sub-one, add-one)
+
+pub digit-below : (n : ℕ) {v b : ℕ} → v < 256 ^ n → b < 256 → v * 256 + b < 256 ^ suc n
+digit-below n hv hb = rw pow-suc (omega arith)
+
+-- seven bytes and one more are a u64
+pub digit-fits : (n : ℕ) {v b : ℕ} → n < 8 → v < 256 ^ n → b < 256 → v * 256 + b < 2 ^ 64
+digit-fits n h hv hb = lt-of-lt-of-le (digit-below n hv hb) (pow-le-pow-right {n = 256} (lit< tt) {j = 8} h)
+
+module _ {E : Type 0} (ends : E) where
+  -- ---- runs and numbers
+  pub run-done : (n : ℕ) (s : List ℕ) → n ≤ length s → run {ends = ends} n .read s ≡ done (take n s) n
+  unfolding run
+  run-done n s h = simp (le-leb _ _ h)
+
+  pub run-ends : (n : ℕ) (s : List ℕ) → length s < n → run {ends = ends} n .read s ≡ refused ends 0
+  unfolding run
+  run-ends n s h = simp (lt-leb _ _ h)
+
+  pub number-done : (k : ℕ) (s : List ℕ) → k ≤ length s → number {ends = ends} k .read s ≡ done (spelt 0 (take k s)) k
+  unfolding number along
+  number-done k s h = rw (run-done k s h)
+
+  pub number-ends : (k : ℕ) (s : List ℕ) → length s < k → number {ends = ends} k .read s ≡ refused ends 0
+  unfolding number along
+  number-ends k s h = rw (run-ends k s h)
+
+  pub counted-done : (k : ℕ) (s : List ℕ) {n m : ℕ} → number {ends = ends} k .read s ≡ done n m → n ≤ length (drop m s)
+      → counted {ends = ends} k .read s ≡ done (take n (drop m s)) (m + n)
+  unfolding counted along _⨾_
+  counted-done k s h f = rw (h, run-done _ _ f)
+
+  pub counted-ends : (k : ℕ) (s : List ℕ) {n m : ℕ} → number {ends = ends} k .read s ≡ done n m → length (drop m s) < n
+      → counted {ends = ends} k .read s ≡ refused ends (m + 0)
+  unfolding counted along _⨾_
+  counted-ends k s h f = rw (h, run-ends _ _ f)
+
+  pub counted-refused : (k : ℕ) (s : List ℕ) {e : E} {p : ℕ} → number {ends = ends} k .read s ≡ refused e p → counted {ends = ends} k .read s ≡ refused e p
+  unfolding counted along _⨾_
+  counted-refused k s h = rw h
+
+  pub signed-done : (k half : ℕ) (h : 256 ^ k ≡ half + half) (s : List ℕ) {v n : ℕ} → number {ends = ends} k .read s ≡ done v n
+      → signed {ends = ends} k half h .read s ≡ done (signedOf half v) n
+  unfolding signed along
+  signed-done k half h s e = rw e
+
+  pub signed-refused : (k half : ℕ) (h : 256 ^ k ≡ half + half) (s : List ℕ) {e : E} {p : ℕ} → number {ends = ends} k .read s ≡ refused e p
+      → signed {ends = ends} k half h .read s ≡ refused e p
+  unfolding signed along
+  signed-refused k half h s e = rw e

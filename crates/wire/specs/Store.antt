@@ -1,0 +1,20 @@
+-- What a buffer holds after bytes were stored in it.
+use Prim.Native.Nat.{ℕ, _+_, _≤_}
+use mathlib.Core.Path.{_≡_}
+use mathlib.Core.List.{List, _++_}
+use lib.Dec.{leb}
+use lib.ListN.{length, take, drop}
+use borrow.Author.Tests.{le-leb, lt-leb}
+use Rattle.wire.specs.Choice.{pick}
+
+-- the bytes b from `at` on, and the rest as it was
+abbrev pub laid : ℕ → List ℕ → List ℕ → List ℕ
+laid at b d = take at d ++ (b ++ drop (at + length b) d)
+
+-- the same where they fit; else as it was
+unfoldable pub stored : ℕ → List ℕ → List ℕ → List ℕ
+stored at b d = pick (leb (at + length b) (length d)) (laid at b d) d
+
+-- the first n bytes, `by` places further back, where that fits; else as it was
+unfoldable pub movedBack : ℕ → ℕ → List ℕ → List ℕ
+movedBack n by d = pick (leb (by + n) (length d)) (laid by (take n d) d) d

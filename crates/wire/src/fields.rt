@@ -1,0 +1,166 @@
+// Fields read at a place. Numbers are most significant byte first; s-numbers are two's complement.
+ghost use mathlib.Core.Path.{_≡_};
+ghost use Prim.Native.Nat.{_+_, _^_, _<_, _≤_};
+ghost use lib.ListN.{drop};
+ghost use Rattle.wire.specs.Formats.{u8, u16, u32, u64, s32, s64, counted, signedOf};
+ghost use Rattle.wire.specs.Told.{short, toldU8, toldU16, toldU32, toldU64, toldS32, toldS64, toldCounted, NumberAt};
+
+// A field's value, or that the bytes end inside it.
+pub enum U8 {
+    Value(u8),
+    Ends,
+}
+
+pub enum U16 {
+    Value(u16),
+    Ends,
+}
+
+pub enum U32 {
+    Value(u32),
+    Ends,
+}
+
+pub enum U64 {
+    Value(u64),
+    Ends,
+}
+
+pub enum S32 {
+    Value(i32),
+    Ends,
+}
+
+pub enum S64 {
+    Value(i64),
+    Ends,
+}
+
+// A run of bytes behind its length: how many bytes it has, or the place in the field at which the bytes end.
+pub enum Counted {
+    Bytes(usize),
+    Ends(usize),
+}
+
+fn wide(b: u8) -> u64
+    ensures { λ r. ⌜ r ≡ b ⌝ }
+{
+    b as u64
+}
+
+// The number of k bytes at a place: one loop for every width.
+fn number_at(s: &[u8], at: usize, k: usize) -> U64
+    requires { ⌜ (0 < k) × (k ≤ 8) ⌝ }
+    ensures { λ r. ⌜ NumberAt k (drop at (now (s .entry))) r ⌝ }
+{
+    if s.len() < at {
+        return U64::Ends;
+    }
+    if s.len() - at < k {
+        return U64::Ends;
+    }
+    let mut v: u64 = 0;
+    let mut p = at;
+    let mut left = k;
+    while 0 < left {
+        v = v * 256 + wide(s[p]);
+        p += 1;
+        left -= 1;
+    }
+    U64::Value(v)
+}
+
+pub fn u8_at(s: &[u8], at: usize) -> U8
+    ensures { λ r. ⌜ toldU8 r ≡ u8 {ends = short} .read (drop at (now (s .entry))) ⌝ }
+{
+    match number_at(s, at, 1) {
+        U64::Value(v) => U8::Value(v as u8),
+        U64::Ends => U8::Ends,
+    }
+}
+
+pub fn u16_at(s: &[u8], at: usize) -> U16
+    ensures { λ r. ⌜ toldU16 r ≡ u16 {ends = short} .read (drop at (now (s .entry))) ⌝ }
+{
+    match number_at(s, at, 2) {
+        U64::Value(v) => U16::Value(v as u16),
+        U64::Ends => U16::Ends,
+    }
+}
+
+pub fn u32_at(s: &[u8], at: usize) -> U32
+    ensures { λ r. ⌜ toldU32 r ≡ u32 {ends = short} .read (drop at (now (s .entry))) ⌝ }
+{
+    match number_at(s, at, 4) {
+        U64::Value(v) => U32::Value(v as u32),
+        U64::Ends => U32::Ends,
+    }
+}
+
+pub fn u64_at(s: &[u8], at: usize) -> U64
+    ensures { λ r. ⌜ toldU64 r ≡ u64 {ends = short} .read (drop at (now (s .entry))) ⌝ }
+{
+    number_at(s, at, 8)
+}
+
+// The number that v stands for in two's complement, where half is half of what the width holds.
+fn signed(v: u64, half: u64) -> i64
+    requires { ⌜ (0 < half) × (half ≤ 2 ^ 63) × (v < half + half) ⌝ }
+    ensures { λ r. ⌜ r ≡ signedOf half v ⌝ }
+{
+    if v < half {
+        return v as i64;
+    }
+    let m = half - 1 - (v - half);
+    -1 - (m as i64)
+}
+
+pub fn s32_at(s: &[u8], at: usize) -> S32
+    ensures { λ r. ⌜ toldS32 r ≡ s32 {ends = short} .read (drop at (now (s .entry))) ⌝ }
+{
+    match number_at(s, at, 4) {
+        U64::Value(v) => S32::Value(signed(v, 2147483648) as i32),
+        U64::Ends => S32::Ends,
+    }
+}
+
+pub fn s64_at(s: &[u8], at: usize) -> S64
+    ensures { λ r. ⌜ toldS64 r ≡ s64 {ends = short} .read (drop at (now (s .entry))) ⌝ }
+{
+    match number_at(s, at, 8) {
+        U64::Value(v) => S64::Value(signed(v, 9223372036854775808)),
+        U64::Ends => S64::Ends,
+    }
+}
+
+// A run behind its length of k bytes.
+fn counted_at(s: &[u8], at: usize, k: usize) -> Counted
+    requires { ⌜ (0 < k) × (k ≤ 8) ⌝ }
+    ensures { λ r. ⌜ toldCounted k (drop at (now (s .entry))) r ≡ counted {ends = short} k .read (drop at (now (s .entry))) ⌝ }
+{
+    match number_at(s, at, k) {
+        U64::Ends => Counted::Ends(0),
+        U64::Value(v) => {
+            let n = v as usize;
+            if s.len() - at - k < n {
+                Counted::Ends(k)
+            } else {
+                Counted::Bytes(n)
+            }
+        }
+    }
+}
+
+// A run behind a u16 length.
+pub fn counted16_at(s: &[u8], at: usize) -> Counted
+    ensures { λ r. ⌜ toldCounted 2 (drop at (now (s .entry))) r ≡ counted {ends = short} 2 .read (drop at (now (s .entry))) ⌝ }
+{
+    counted_at(s, at, 2)
+}
+
+// A run behind a u32 length.
+pub fn counted32_at(s: &[u8], at: usize) -> Counted
+    ensures { λ r. ⌜ toldCounted 4 (drop at (now (s .entry))) r ≡ counted {ends = short} 4 .read (drop at (now (s .entry))) ⌝ }
+{
+    counted_at(s, at, 4)
+}

@@ -1,0 +1,109 @@
+// Bytes and numbers stored at a place of a lent buffer, where they fit; where they do not, nothing changes.
+ghost use mathlib.Core.Path.{_≡_};
+ghost use Prim.Native.Nat.{_≤_, _<_, _^_};
+ghost use lib.Signed.{mag};
+ghost use Rattle.wire.specs.Bytes.{spell};
+ghost use Rattle.wire.specs.Formats.{u8, u16, u32, u64, s32, s64, unsignedOf};
+ghost use Rattle.wire.specs.Store.{stored, movedBack};
+ghost use Rattle.wire.specs.Told.{short};
+
+// The number v in k bytes, the last byte first: one loop for every width.
+fn put_number(out: &mut [u8], at: usize, k: usize, v: u64)
+    ensures { λ _. ⌜ now (out .exit) ≡ stored at (spell k v) (now (out .entry)) ⌝ }
+{
+    if out.len() < at {
+        return;
+    }
+    if out.len() - at < k {
+        return;
+    }
+    let mut x = v;
+    let mut i = k;
+    while 0 < i {
+        i -= 1;
+        out[at + i] = (x % 256) as u8;
+        x = x / 256;
+    }
+}
+
+pub fn put_u8(out: &mut [u8], at: usize, v: u8)
+    ensures { λ _. ⌜ now (out .exit) ≡ stored at (u8 {ends = short} .encode v) (now (out .entry)) ⌝ }
+{
+    put_number(out, at, 1, v as u64);
+}
+
+pub fn put_u16(out: &mut [u8], at: usize, v: u16)
+    ensures { λ _. ⌜ now (out .exit) ≡ stored at (u16 {ends = short} .encode v) (now (out .entry)) ⌝ }
+{
+    put_number(out, at, 2, v as u64);
+}
+
+pub fn put_u32(out: &mut [u8], at: usize, v: u32)
+    ensures { λ _. ⌜ now (out .exit) ≡ stored at (u32 {ends = short} .encode v) (now (out .entry)) ⌝ }
+{
+    put_number(out, at, 4, v as u64);
+}
+
+pub fn put_u64(out: &mut [u8], at: usize, v: u64)
+    ensures { λ _. ⌜ now (out .exit) ≡ stored at (u64 {ends = short} .encode v) (now (out .entry)) ⌝ }
+{
+    put_number(out, at, 8, v);
+}
+
+// The number that stands for z in two's complement, where half is half of what the width holds.
+fn unsigned(z: i64, half: u64) -> u64
+    requires { ⌜ (half ≤ 2 ^ 63) × (mag z < half) ⌝ }
+    ensures { λ r. ⌜ r ≡ unsignedOf half z ⌝ }
+{
+    if 0 <= z {
+        return z as u64;
+    }
+    let m = (-1 - z) as u64;
+    half - 1 - m + half
+}
+
+pub fn put_s32(out: &mut [u8], at: usize, z: i32)
+    ensures { λ _. ⌜ now (out .exit) ≡ stored at (s32 {ends = short} .encode z) (now (out .entry)) ⌝ }
+{
+    put_number(out, at, 4, unsigned(z as i64, 2147483648));
+}
+
+pub fn put_s64(out: &mut [u8], at: usize, z: i64)
+    ensures { λ _. ⌜ now (out .exit) ≡ stored at (s64 {ends = short} .encode z) (now (out .entry)) ⌝ }
+{
+    put_number(out, at, 8, unsigned(z, 9223372036854775808));
+}
+
+// Bytes copied from another slice.
+pub fn put_bytes(out: &mut [u8], at: usize, from: &[u8])
+    ensures { λ _. ⌜ now (out .exit) ≡ stored at (now (from .entry)) (now (out .entry)) ⌝ }
+{
+    if out.len() < at {
+        return;
+    }
+    if out.len() - at < from.len() {
+        return;
+    }
+    let mut i: usize = 0;
+    while i < from.len() {
+        out[at + i] = from[i];
+        i += 1;
+    }
+}
+
+// The first n bytes move back by so many places, from the last on, so that none is lost; the bytes before them stay.
+pub fn move_back(s: &mut [u8], n: usize, by: usize)
+    ensures { λ _. ⌜ now (s .exit) ≡ movedBack n by (now (s .entry)) ⌝ }
+{
+    if s.len() < by {
+        return;
+    }
+    if s.len() - by < n {
+        return;
+    }
+    let mut i = n;
+    while 0 < i {
+        i -= 1;
+        s[i + by] = s[i];
+    }
+}
