@@ -1,61 +1,73 @@
+-- `wire::store::move_back` meets its contract. The invariant: the bytes from place i on are laid further back.
+use Prim.Native.Nat.{_+_, _≤_}
+use mathlib.Core.Path.{sym}
+use native.Mathlib.Omega.{arith}
+use denote.Ref.{now}
+use lib.ListN.{length}
+use Rattle.wire.proofs.Laid.{moved-not}
+use Rattle.wire.proofs.Stores.{Moving, moving-start, moving-length, moving-on, moving-end}
 use Rattle.wire.proofs.store.move_back.Statement.{statement}
 use Rattle.wire.proofs.store.move_back.Tie as tie
-use Rattle.wire.proofs.store.move_back.Reads as reads
-use Rattle.wire.proofs.store.move_back.Lts as lts
 
 abbrev Inv-loop : tie.InvT-loop
-Inv-loop s₀ n by i₀ s i = ?
+Inv-loop s₀ n by i₀ s i = Moving n by s₀ s i
 
 abbrev μ-loop : tie.MeasureT-loop
-μ-loop s₀ n by i₀ s i = ?
+μ-loop s₀ n by i₀ s i = i
 
--- src/store.rt:99:9
 returns : tie.Need-returns Inv-loop μ-loop
-returns c = ?
+returns c = let a = c .before .args in sym (moved-not (a .n) (a .by) (now (a .s)) (omega arith))
 
--- src/store.rt:101:8
 sub-if2 : tie.Need-sub-if2 Inv-loop μ-loop
-sub-if2 c = ?
+sub-if2 c = omega arith
 
--- src/store.rt:102:9
 returns-2 : tie.Need-returns-2 Inv-loop μ-loop
-returns-2 c = ?
+returns-2 c = let a = c .before .before .args in sym (moved-not (a .n) (a .by) (now (a .s)) (omega arith))
 
--- src/store.rt:105:5
 loop-holds : tie.Need-loop-holds Inv-loop μ-loop
-loop-holds c = ?
+loop-holds c = let a = c .before .before .args in moving-start (a .n) (a .by) (now (a .s)) (omega arith)
 
--- src/store.rt:106:9
 sub-i : tie.Need-sub-i Inv-loop μ-loop
-sub-i c = ?
+sub-i c = omega arith
 
--- src/store.rt:107:21
 slice-read-s : tie.Need-slice-read-s Inv-loop μ-loop
-slice-read-s c = ?
+slice-read-s c =
+    let a = c .before .before .before .before .before .args in
+    let l = c .before .before .loop in
+    omega (arith, l .inv .less, moving-length (a .n) (a .by) (now (a .s)) (omega arith) (l .s) (l .i) (l .inv))
 
--- src/store.rt:107:11
 add-s : tie.Need-add-s Inv-loop μ-loop
-add-s c = ?
+add-s c =
+    let a = c .before .before .before .before .before .args in
+    let l = c .before .before .loop in
+    omega (arith, l .inv .less)
 
--- src/store.rt:107:9
 slice-write-s : tie.Need-slice-write-s Inv-loop μ-loop
-slice-write-s c = ?
+slice-write-s c =
+    let a = c .before .before .before .before .before .args in
+    let l = c .before .before .loop in
+    omega (arith, l .inv .less, moving-length (a .n) (a .by) (now (a .s)) (omega arith) (l .s) (l .i) (l .inv))
 
--- src/store.rt:105:5
 loop-less : tie.Need-loop-less Inv-loop μ-loop
-loop-less c = ?
+loop-less c = omega arith
 
--- src/store.rt:105:5
 loop-again : tie.Need-loop-again Inv-loop μ-loop
-loop-again c = ?
+loop-again c =
+    let a = c .before .before .before .before .before .args in
+    let l = c .before .before .loop in
+    moving-on (a .n) (a .by) (now (a .s)) (omega arith) (l .s) (l .i) (l .inv) (omega arith)
 
--- src/store.rt:95:1
 same-length : tie.Need-same-length Inv-loop μ-loop
-same-length c = ?
+same-length c =
+    let a = c .before .before .before .before .args in
+    let l = c .before .loop in
+    moving-length (a .n) (a .by) (now (a .s)) (omega arith) (l .s) (l .i) (l .inv)
 
--- src/store.rt:95:1
 returns-3 : tie.Need-returns-3 Inv-loop μ-loop
-returns-3 c = ?
+returns-3 c =
+    let a = c .before .before .before .before .args in
+    let l = c .before .loop in
+    moving-end (a .n) (a .by) (now (a .s)) (omega arith) (l .s) (l .i) (l .inv) (omega arith)
 
 pub move-back-spec : {M : Type 1} → statement M
 move-back-spec =

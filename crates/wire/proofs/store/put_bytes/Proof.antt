@@ -1,61 +1,68 @@
+-- `wire::store::put_bytes` meets its contract. The invariant: the first i bytes are laid.
+use Prim.Native.Nat.{_+_, _-_, _≤_}
+use mathlib.Core.Path.{_≡_, sym}
+use native.Mathlib.Omega.{arith}
+use denote.Ref.{now}
+use lib.ListN.{length, take}
+use Rattle.wire.specs.Store.{laid}
+use Rattle.wire.proofs.Laid.{laid-none, stored-not}
+use Rattle.wire.proofs.Stores.{copy-length, copy-on, copy-end}
 use Rattle.wire.proofs.store.put_bytes.Statement.{statement}
 use Rattle.wire.proofs.store.put_bytes.Tie as tie
-use Rattle.wire.proofs.store.put_bytes.Reads as reads
-use Rattle.wire.proofs.store.put_bytes.Lts as lts
 
 abbrev Inv-loop : tie.InvT-loop
-Inv-loop out₀ at from i₀ out i = ?
+Inv-loop out₀ at from i₀ out i = (out ≡ laid at (take i from) out₀) × (i ≤ length from)
 
 abbrev μ-loop : tie.MeasureT-loop
-μ-loop out₀ at from i₀ out i = ?
+μ-loop out₀ at from i₀ out i = length from - i
 
--- src/store.rt:82:9
 returns : tie.Need-returns Inv-loop μ-loop
-returns c = ?
+returns c = let a = c .before .args in sym (stored-not (a .at) (now (a .from)) (now (a .out)) (omega arith))
 
--- src/store.rt:84:8
 sub-if2 : tie.Need-sub-if2 Inv-loop μ-loop
-sub-if2 c = ?
+sub-if2 c = omega arith
 
--- src/store.rt:85:9
 returns-2 : tie.Need-returns-2 Inv-loop μ-loop
-returns-2 c = ?
+returns-2 c = let a = c .before .before .args in sym (stored-not (a .at) (now (a .from)) (now (a .out)) (omega arith))
 
--- src/store.rt:88:5
 loop-holds : tie.Need-loop-holds Inv-loop μ-loop
-loop-holds c = ?
+loop-holds c = let a = c .before .before .args in (sym (laid-none (a .at) (now (a .out))), omega arith)
 
--- src/store.rt:89:23
 shared-slice-read-out : tie.Need-shared-slice-read-out Inv-loop μ-loop
-shared-slice-read-out c = ?
+shared-slice-read-out c = omega arith
 
--- src/store.rt:89:13
 add-out : tie.Need-add-out Inv-loop μ-loop
-add-out c = ?
+add-out c = omega arith
 
--- src/store.rt:89:9
 slice-write-out : tie.Need-slice-write-out Inv-loop μ-loop
-slice-write-out c = ?
+slice-write-out c =
+    let a = c .before .before .before .before .before .args in
+    let l = c .before .before .loop in
+    omega (arith, copy-length (a .at) (now (a .from)) (now (a .out)) (l .out) (l .i) (omega arith) (l .inv .0) (l .inv .1))
 
--- src/store.rt:90:9
 add-i : tie.Need-add-i Inv-loop μ-loop
-add-i c = ?
+add-i c = omega arith
 
--- src/store.rt:88:5
 loop-less : tie.Need-loop-less Inv-loop μ-loop
-loop-less c = ?
+loop-less c = omega arith
 
--- src/store.rt:88:5
 loop-again : tie.Need-loop-again Inv-loop μ-loop
-loop-again c = ?
+loop-again c =
+    let a = c .before .before .before .before .before .args in
+    let l = c .before .before .loop in
+    (copy-on (a .at) (now (a .from)) (now (a .out)) (l .out) (l .i) (omega arith) (l .inv .0) (omega arith), omega arith)
 
--- src/store.rt:78:1
 same-length : tie.Need-same-length Inv-loop μ-loop
-same-length c = ?
+same-length c =
+    let a = c .before .before .before .before .args in
+    let l = c .before .loop in
+    copy-length (a .at) (now (a .from)) (now (a .out)) (l .out) (l .i) (omega arith) (l .inv .0) (l .inv .1)
 
--- src/store.rt:78:1
 returns-3 : tie.Need-returns-3 Inv-loop μ-loop
-returns-3 c = ?
+returns-3 c =
+    let a = c .before .before .before .before .args in
+    let l = c .before .loop in
+    copy-end (a .at) (now (a .from)) (now (a .out)) (l .out) (l .i) (omega arith) (l .inv .0) (omega arith)
 
 pub put-bytes-spec : {M : Type 1} → statement M
 put-bytes-spec =

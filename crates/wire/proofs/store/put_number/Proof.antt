@@ -1,61 +1,71 @@
+-- `wire::store::put_number` meets its contract. The invariant: the bytes from place i on are laid, and x is left to be spelt in i bytes.
+use borrow.Author.Needs.{needs}
+use Prim.Native.Nat.{_+_, _≤_}
+use mathlib.Core.Path.{sym}
+use native.Mathlib.Omega.{arith}
+use denote.Ref.{now}
+use lib.ListN.{length}
+use Rattle.wire.specs.Bytes.{spell, spell-length}
+use Rattle.wire.proofs.Laid.{stored-not}
+use Rattle.wire.proofs.Stores.{Spelling, spelling-start, spelling-length, spelling-on, spelling-end}
 use Rattle.wire.proofs.store.put_number.Statement.{statement}
 use Rattle.wire.proofs.store.put_number.Tie as tie
-use Rattle.wire.proofs.store.put_number.Reads as reads
-use Rattle.wire.proofs.store.put_number.Lts as lts
 
 abbrev Inv-loop : tie.InvT-loop
-Inv-loop out₀ at k v x₀ i₀ out x i = ?
+Inv-loop out₀ at k v x₀ i₀ out x i = Spelling at k v out₀ out x i
 
 abbrev μ-loop : tie.MeasureT-loop
-μ-loop out₀ at k v x₀ i₀ out x i = ?
+μ-loop out₀ at k v x₀ i₀ out x i = i
 
--- src/store.rt:15:9
 returns : tie.Need-returns Inv-loop μ-loop
-returns c = ?
+returns c = let a = c .before .args in sym (stored-not (a .at) (spell (a .k) (a .v)) (now (a .out)) (omega arith))
 
--- src/store.rt:17:8
 sub-if2 : tie.Need-sub-if2 Inv-loop μ-loop
-sub-if2 c = ?
+sub-if2 c = omega arith
 
--- src/store.rt:18:9
 returns-2 : tie.Need-returns-2 Inv-loop μ-loop
-returns-2 c = ?
+returns-2 c = let a = c .before .before .args in sym (stored-not (a .at) (spell (a .k) (a .v)) (now (a .out)) (omega (arith, spell-length (a .k) (a .v))))
 
--- src/store.rt:22:5
 loop-holds : tie.Need-loop-holds Inv-loop μ-loop
-loop-holds c = ?
+loop-holds c = let a = c .before .before .args in spelling-start (a .at) (a .k) (a .v) (now (a .out))
 
--- src/store.rt:23:9
 sub-i : tie.Need-sub-i Inv-loop μ-loop
-sub-i c = ?
+sub-i c = omega arith
 
--- src/store.rt:24:23
 cast-out : tie.Need-cast-out Inv-loop μ-loop
-cast-out c = ?
+cast-out c = search needs
 
--- src/store.rt:24:13
 add-out : tie.Need-add-out Inv-loop μ-loop
-add-out c = ?
+add-out c =
+    let l = c .before .loop in
+    omega (arith, l .inv .less)
 
--- src/store.rt:24:9
 slice-write-out : tie.Need-slice-write-out Inv-loop μ-loop
-slice-write-out c = ?
+slice-write-out c =
+    let a = c .before .before .before .before .args in
+    let l = c .before .loop in
+    omega (arith, l .inv .less, spelling-length (a .at) (a .k) (a .v) (now (a .out)) (l .out) (l .x) (l .i) (omega arith) (l .inv))
 
--- src/store.rt:22:5
 loop-less : tie.Need-loop-less Inv-loop μ-loop
-loop-less c = ?
+loop-less c = omega arith
 
--- src/store.rt:22:5
 loop-again : tie.Need-loop-again Inv-loop μ-loop
-loop-again c = ?
+loop-again c =
+    let a = c .before .before .before .before .args in
+    let l = c .before .loop in
+    spelling-on (a .at) (a .k) (a .v) (now (a .out)) (l .out) (l .x) (l .i) (omega arith) (l .inv) (omega arith)
 
--- src/store.rt:11:1
 same-length : tie.Need-same-length Inv-loop μ-loop
-same-length c = ?
+same-length c =
+    let a = c .before .before .before .before .args in
+    let l = c .before .loop in
+    spelling-length (a .at) (a .k) (a .v) (now (a .out)) (l .out) (l .x) (l .i) (omega arith) (l .inv)
 
--- src/store.rt:11:1
 returns-3 : tie.Need-returns-3 Inv-loop μ-loop
-returns-3 c = ?
+returns-3 c =
+    let a = c .before .before .before .before .args in
+    let l = c .before .loop in
+    spelling-end (a .at) (a .k) (a .v) (now (a .out)) (l .out) (l .x) (l .i) (omega arith) (l .inv) (omega arith)
 
 pub put-number-spec : {M : Type 1} → statement M
 put-number-spec =
