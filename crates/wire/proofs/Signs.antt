@@ -1,16 +1,19 @@
 -- Two's complement, as the machine goes about it: a negative number is -1 less a natural.
 use Prim.Native.Nat.{ℕ, suc, _+_, _-_, _^_, _<_, _≤_}
+use mathlib.Core.Bool.{true, false}
 use mathlib.Core.Path.{_≡_, refl, ap, sym, _∙_}
 use native.Mathlib.Nat.{lt-of-lt-of-le}
 use native.Mathlib.Omega.{arith}
-use lib.IntN.{ℤ, pos, negsuc, _-ℤ_}
-use lib.Signed.{mag}
+use lib.Dec.{T}
+use lib.IntN.{ℤ, pos, negsuc, natAbs, _-ℤ_}
+use lib.Signed.{mag, leZ, nonNeg}
 use mir.Syntax.{Width, w64}
-use mir.Val.{SFits, hbits, toZ, ofZ}
+use mir.Val.{Fits, SFits, hbits, toZ, ofZ}
 use mir.ValLaws.{toZ-ofZ, toZ-pos}
-use borrow.Author.Tests.{lt-ltb, le-ltb}
+use borrow.Author.Tests.{lt-ltb, le-ltb, leb-false}
+use Rattle.wire.specs.Choice.{no-true}
 use Rattle.wire.specs.Ints.{int-equal, minus-is}
-use Rattle.wire.specs.Formats.{signedOf, unsigned-signed}
+use Rattle.wire.specs.Formats.{signedOf, unsignedOf, unsigned-signed}
 
 -- -1 less m
 module _ (m : ℕ) (h : m < 2 ^ 63) where
@@ -39,3 +42,39 @@ module _ (w : Width) (half v : ℕ) (h : v < half + half) (k : half ≤ 2 ^ hbit
 
   pub signed-kept : toZ w (ofZ w (signedOf half v)) ≡ signedOf half v
   signed-kept = toZ-ofZ w (signedOf half v) signed-fits
+
+-- ---- from a signed number to its bits
+module _ (half : ℕ) (z : ℤ) (f : SFits w64 z) (h : half ≤ 2 ^ 63) (k : mag z < half) where
+  -- not below 0
+  natural-by : (x : ℤ) → mag x < half → leZ (pos 0) x ≡ true → (T (nonNeg x) × Fits w64 (natAbs x)) × (natAbs x ≡ unsignedOf half x)
+  natural-by (pos n) g e = ((tt, record { fits = omega arith }), refl)
+  natural-by (negsuc n) g e = no-true e
+
+  pub natural-told : leZ (pos 0) (toZ w64 (ofZ w64 z)) ≡ true
+      → (T (nonNeg (toZ w64 (ofZ w64 z))) × Fits w64 (natAbs (toZ w64 (ofZ w64 z)))) × (natAbs (toZ w64 (ofZ w64 z)) ≡ unsignedOf half z)
+  natural-told e = rw (toZ-ofZ w64 z f) (natural-by z k (rw (toZ-ofZ w64 z f) at e))
+
+  -- below 0: -1 less z is a natural
+  above-by : (x : ℤ) → leZ (pos 0) x ≡ false → negsuc 0 -ℤ x ≡ pos (mag x)
+  above-by (pos n) e = absurd (omega (arith, leb-false 0 n e))
+  above-by (negsuc n) e = int-equal (negsuc 0 -ℤ negsuc n) (pos n) (omega (arith, minus-is (negsuc 0) (negsuc n)))
+
+  bits-by : (x : ℤ) → mag x < half → leZ (pos 0) x ≡ false → half - 1 - mag x + half ≡ unsignedOf half x
+  bits-by (pos n) g e = absurd (omega (arith, leb-false 0 n e))
+  bits-by (negsuc n) g e = omega arith
+
+  module _ (e : leZ (pos 0) (toZ w64 (ofZ w64 z)) ≡ false) where
+    above : negsuc 0 -ℤ toZ w64 (ofZ w64 z) ≡ pos (mag z)
+    above = rw (toZ-ofZ w64 z f) (above-by z (rw (toZ-ofZ w64 z f) at e))
+
+    fits : SFits w64 (pos (mag z))
+    fits = record { sfits = omega arith }
+
+    pub above-fits : SFits w64 (negsuc 0 -ℤ toZ w64 (ofZ w64 z))
+    above-fits = rw above fits
+
+    pub above-is : toZ w64 (ofZ w64 (negsuc 0 -ℤ toZ w64 (ofZ w64 z))) ≡ pos (mag z)
+    above-is = rw above (toZ-ofZ w64 (pos (mag z)) fits)
+
+    pub bits-are : half - 1 - mag z + half ≡ unsignedOf half z
+    bits-are = bits-by z k (rw (toZ-ofZ w64 z f) at e)

@@ -1,40 +1,34 @@
+-- `wire::store::unsigned` meets its contract.
 use borrow.Author.Needs.{needs}
+use native.Mathlib.Omega.{arith}
+use lib.Dec.{T}
+use Rattle.wire.proofs.Signs.{natural-told, above-fits, above-is, bits-are}
 use Rattle.wire.proofs.store.unsigned.Statement.{statement}
 use Rattle.wire.proofs.store.unsigned.Tie as tie
-use Rattle.wire.proofs.store.unsigned.Reads as reads
-use Rattle.wire.proofs.store.unsigned.Lts as lts
 
--- src/store.rt:59:16
 cast-result : tie.Need-cast-result
-cast-result c = ?
+cast-result c = let a = c .before .args in natural-told (a .half) (a .z) (c .before .fits .z) (c .before .pre .0) (c .before .pre .1) (c .if1 .taken) .0
 
--- src/store.rt:59:9
 returns : tie.Need-returns
-returns c = ?
+returns c = let a = c .before .args in natural-told (a .half) (a .z) (c .before .fits .z) (c .before .pre .0) (c .before .pre .1) (c .if1 .taken) .1
 
--- src/store.rt:61:14
 sub-m : tie.Need-sub-m
-sub-m c = ?
+sub-m c = let a = c .before .args in above-fits (a .half) (a .z) (c .before .fits .z) (c .before .pre .0) (c .before .pre .1) (c .if1 .left)
 
--- src/store.rt:61:13
 cast-m : tie.Need-cast-m
-cast-m c = ?
+cast-m c = let a = c .before .args in rw (above-is (a .half) (a .z) (c .before .fits .z) (c .before .pre .0) (c .before .pre .1) (c .if1 .left)) (tt, record { fits = omega (arith, c .before .pre) })
 
--- src/store.rt:62:5
 sub-result : tie.Need-sub-result
 sub-result c = search needs
 
--- src/store.rt:62:5
 sub-result-2 : tie.Need-sub-result-2
-sub-result-2 c = ?
+sub-result-2 c = let a = c .before .args in rw (above-is (a .half) (a .z) (c .before .fits .z) (c .before .pre .0) (c .before .pre .1) (c .if1 .left)) (omega (arith, c .before .pre))
 
--- src/store.rt:62:5
 add-result : tie.Need-add-result
 add-result c = search needs
 
--- src/store.rt:54:1
 returns-2 : tie.Need-returns-2
-returns-2 c = ?
+returns-2 c = let a = c .before .args in rw (above-is (a .half) (a .z) (c .before .fits .z) (c .before .pre .0) (c .before .pre .1) (c .if1 .left)) (bits-are (a .half) (a .z) (c .before .fits .z) (c .before .pre .0) (c .before .pre .1) (c .if1 .left))
 
 pub unsigned-spec : {M : Type 1} → statement M
 unsigned-spec =
