@@ -6,3 +6,4 @@ pub mod Starts
 pub mod Orders
 pub mod Laid
 pub mod Stores
+pub mod Items

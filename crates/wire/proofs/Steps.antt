@@ -7,14 +7,17 @@ use native.Mathlib.Nat.{pow-suc, pow-le-pow-right, lt-of-lt-of-le}
 use native.Mathlib.Numerals.{add-one, sub-one}
 use native.Mathlib.Omega.{arith}
 use lib.Dec.{leb, lit<}
+use lib.IntN.{ℤ}
 use lib.ListN.{length, getD, take, drop, length-drop}
 use lib.Seq.{drop-cons}
 use borrow.Author.Tests.{le-leb, lt-leb}
 use Rattle.wire.specs.Choice.{pick}
 use Rattle.wire.specs.Bytes.{Bytes, spelt}
-use Rattle.wire.specs.Read.{Read, done, refused, mapRead, onward, blaming, never}
-use Rattle.wire.specs.Format.{Format, run, such, _⨾_, along, pair}
-use Rattle.wire.specs.Formats.{number, signed, signedOf, counted}
+use Rattle.wire.specs.Read.{Read, done, refused, bind, mapRead, onward, blaming}
+use Rattle.wire.specs.Format.{Format, run, such, _⨾_, next, along, pair}
+use Rattle.wire.specs.Formats.{number, signed, signedOf, counted, behind, mark}
+use Rattle.wire.specs.Marks.{starts, starts-long, starts-take}
+use Rattle.wire.specs.Told.{Short, short}
 
 -- ---- a number, byte by byte
 pub spelt-on : (n v : ℕ) (s : List ℕ) (p : ℕ) → 0 < n → p < length s → spelt v (take n (drop p s)) ≡ spelt (v * 256 + getD s p 0) (take (n - 1) (drop (p + 1) s))
@@ -69,3 +72,56 @@ module _ {E : Type 0} (ends : E) where
       → signed {ends = ends} k half h .read s ≡ refused e p
   unfolding signed along
   signed-refused k half h s e = rw e
+
+  -- ---- marks
+  module _ {A : Type 0} (m : List ℕ) (e : E) (f : Format E ends A) (s : List ℕ) where
+    pub mark-done : {r : Read E A} → starts m s ≡ true → f .read (drop (length m) s) ≡ r → mark m e f .read s ≡ onward (length m) (λ a. a) r
+    unfolding behind along _⨾_ such
+    mark-done {r = done a n} h k = rw (run-done (length m) s (starts-long m s h), starts-take m s, h, k)
+    mark-done {r = refused k₁ p} h k = rw (run-done (length m) s (starts-long m s h), starts-take m s, h, k)
+
+    pub mark-fails : length m ≤ length s → starts m s ≡ false → mark m e f .read s ≡ refused e 0
+    unfolding behind along _⨾_ such
+    mark-fails l h = rw (run-done (length m) s l, starts-take m s, h)
+
+    pub mark-ends : length s < length m → mark m e f .read s ≡ refused ends 0
+    unfolding behind along _⨾_ such
+    mark-ends l = rw (run-ends (length m) s l)
+
+-- ---- what a leaf was told, with the fault that its caller gives
+module _ {E : Type 0} (ends : E) where
+  run-blamed : (n : ℕ) (s : List ℕ) → run {ends = ends} n .read s ≡ blaming ends (run {ends = short} n .read s)
+  unfolding run
+  run-blamed n s = go (leb n (length s))
+    where
+      go : (b : Bool) → pick b (done (take n s) n) (refused ends 0) ≡ blaming ends (pick b (done (take n s) n) (refused short 0))
+      go true = refl
+      go false = refl
+
+  map-blamed : {A B : Type 0} (f : A → B) (r : Read Short A) → mapRead f (blaming ends r) ≡ blaming ends (mapRead f r)
+  map-blamed f (done a n) = refl
+  map-blamed f (refused e p) = refl
+
+  number-blamed : (k : ℕ) (s : List ℕ) → number {ends = ends} k .read s ≡ blaming ends (number {ends = short} k .read s)
+  unfolding number along
+  number-blamed k s = rw (run-blamed k s) (map-blamed (spelt 0) (run {ends = short} k .read s))
+
+  pub number-told : (k : ℕ) (s : List ℕ) {r : Read Short ℕ} → r ≡ number {ends = short} k .read s → number {ends = ends} k .read s ≡ blaming ends r
+  number-told k s h = rw h (number-blamed k s)
+
+  pub signed-told : (k half : ℕ) (h : 256 ^ k ≡ half + half) (s : List ℕ) {r : Read Short ℤ} → r ≡ signed {ends = short} k half h .read s
+      → signed {ends = ends} k half h .read s ≡ blaming ends r
+  unfolding signed along
+  signed-told k half h s e = rw (e, number-blamed k s) (map-blamed (signedOf half) (number {ends = short} k .read s))
+
+  counted-by : (s : List ℕ) (r : Read Short ℕ) → bind (blaming ends r) (next (run {ends = ends}) s) ≡ blaming ends (bind r (next (run {ends = short}) s))
+  counted-by s (done n m) = rw (run-blamed n (drop m s)) (go (run {ends = short} n .read (drop m s)))
+    where
+      go : (r : Read Short (List ℕ)) → onward m (pair n) (blaming ends r) ≡ blaming ends (onward m (pair n) r)
+      go (done a i) = refl
+      go (refused e p) = refl
+  counted-by s (refused e p) = refl
+
+  pub counted-told : (k : ℕ) (s : List ℕ) {r : Read Short (List ℕ)} → r ≡ counted {ends = short} k .read s → counted {ends = ends} k .read s ≡ blaming ends r
+  unfolding counted along _⨾_
+  counted-told k s h = rw (h, number-blamed k s, counted-by s (number {ends = short} k .read s)) (map-blamed _ (bind (number {ends = short} k .read s) (next (run {ends = short}) s)))
