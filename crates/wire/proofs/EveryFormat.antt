@@ -35,5 +35,5 @@ every-format f = record {
   reads-back = reads-back f;
   local = local f;
   firm = f .firm;
-  prefix-free = prefix-free f
+  prefix-free = prefix-free f;
 }

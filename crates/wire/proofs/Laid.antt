@@ -40,7 +40,7 @@ pub laid-two : (at : ℕ) (u w d : List ℕ) → at + length u + length w ≤ le
 laid-two at u w d h =
     let room : at + length u ≤ length d = omega arith in
     let behind : drop (at + length u + length w) (laid at u d) ≡ drop (at + length (u ++ w)) d =
-          sym (drop-drop (length w) (at + length u) (laid at u d)) ∙ ap (drop (length w)) (laid-drop at u d room) ∙ drop-drop (length w) (at + length u) d ∙ rw (length-append, add-assoc) in
+    sym (drop-drop (length w) (at + length u) (laid at u d)) ∙ ap (drop (length w)) (laid-drop at u d room) ∙ drop-drop (length w) (at + length u) d ∙ rw (length-append, add-assoc) in
     ap₂ (λ (x y : List ℕ). x ++ (w ++ y)) (laid-take at u d room) behind ∙ append-assoc (take at d) u (w ++ drop (at + length (u ++ w)) d)
     ∙ rw append-assoc
 

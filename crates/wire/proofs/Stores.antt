@@ -53,7 +53,7 @@ module _ (at k v : ℕ) (d out : List ℕ) (x i : ℕ) (room : at + k ≤ length
         shape = ap (λ (l : List ℕ). set l (at + (i - 1)) (x % 256)) (p .shape ∙ ap (λ (n : ℕ). laid n (p .W) d) place)
             ∙ laid-first (at + (i - 1)) (p .W) d (x % 256) (omega (arith, size));
         whole = sym (append-assoc (spell (i - 1) (x / 256)) (x % 256 ∷ []) (p .W)) ∙ ap (λ (n : ℕ). spell n x ++ p .W) (sym one) ∙ p .whole;
-        less = omega (arith, p .less)
+        less = omega (arith, p .less);
       }
 
   pub spelling-end : i ≤ 0 → out ≡ stored at (spell k v) d
@@ -92,13 +92,13 @@ module _ (n by : ℕ) (d : List ℕ) (room : by + n ≤ length d) where
         let one : i ≡ suc (i - 1) = omega arith in
         let place : i + by ≡ suc (i - 1 + by) = omega arith in
         let byte : drop (i - 1) (take n d) ≡ getD d (i - 1) 0 ∷ drop i (take n d) =
-              drop-cons (take n d) (i - 1) 0 (omega (arith, front, p .less))
-              ∙ ap₂ (λ (b m : ℕ). b ∷ drop m (take n d)) (getD-take n d (i - 1) 0 (omega (arith, p .less))) (sym one) in
+        drop-cons (take n d) (i - 1) 0 (omega (arith, front, p .less))
+        ∙ ap₂ (λ (b m : ℕ). b ∷ drop m (take n d)) (getD-take n d (i - 1) 0 (omega (arith, p .less))) (sym one) in
         record {
           shape = ap₂ (λ (l : List ℕ) (b : ℕ). set l (i - 1 + by) b) (p .shape ∙ ap (λ (m : ℕ). laid m (drop i (take n d)) d) place) (moving-read h)
               ∙ laid-first (i - 1 + by) (drop i (take n d)) d (getD d (i - 1) 0) (omega (arith, fits))
               ∙ ap (λ (l : List ℕ). laid (i - 1 + by) l d) (sym byte);
-          less = omega (arith, p .less)
+          less = omega (arith, p .less);
         }
 
     pub moving-end : i ≤ 0 → s ≡ movedBack n by d

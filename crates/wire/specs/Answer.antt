@@ -25,52 +25,52 @@ lent (good r) before = r ++ drop (length r) before
 lent (refusal n r o) before = before
 
 -- ---- the table
-abbrev pub endsInside : ℕ           -- bytes end inside a field, or an inventory has no end line
+abbrev pub endsInside : ℕ  -- bytes end inside a field, or an inventory has no end line
 endsInside = 1
 
-abbrev pub versionOutside : ℕ       -- version outside 22..29
+abbrev pub versionOutside : ℕ  -- version outside 22..29
 versionOutside = 2
 
-abbrev pub fixedDiffers : ℕ         -- a byte, width or list version that is fixed has another value
+abbrev pub fixedDiffers : ℕ  -- a byte, width or list version that is fixed has another value
 fixedDiffers = 3
 
-abbrev pub positionAbove : ℕ        -- position above 4095
+abbrev pub positionAbove : ℕ  -- position above 4095
 positionAbove = 4
 
-abbrev pub positionTwice : ℕ        -- position already in its list
+abbrev pub positionTwice : ℕ  -- position already in its list
 positionTwice = 5
 
-abbrev pub idTwice : ℕ              -- id already mapped
+abbrev pub idTwice : ℕ  -- id already mapped
 idTwice = 6
 
-abbrev pub bytesAfter : ℕ           -- bytes after the end
+abbrev pub bytesAfter : ℕ  -- bytes after the end
 bytesAfter = 7
 
-abbrev pub idUnmapped : ℕ           -- used id unmapped
+abbrev pub idUnmapped : ℕ  -- used id unmapped
 idUnmapped = 8
 
-abbrev pub outOfRange : ℕ           -- key or coordinate out of range
+abbrev pub outOfRange : ℕ  -- key or coordinate out of range
 outOfRange = 9
 
-abbrev pub badPart : ℕ              -- lot out of the world or turned round; span turned round
+abbrev pub badPart : ℕ  -- lot out of the world or turned round; span turned round
 badPart = 10
 
-abbrev pub noRoom : ℕ               -- result longer than the output lent
+abbrev pub noRoom : ℕ  -- result longer than the output lent
 noRoom = 11
 
-abbrev pub partsMisfit : ℕ          -- parts do not fit
+abbrev pub partsMisfit : ℕ  -- parts do not fit
 partsMisfit = 12
 
-abbrev pub tallyMalformed : ℕ       -- tally malformed
+abbrev pub tallyMalformed : ℕ  -- tally malformed
 tallyMalformed = 13
 
-abbrev pub tooMany : ℕ              -- a count above 2^64-1, or more than 2^32-1 rows
+abbrev pub tooMany : ℕ  -- a count above 2^64-1, or more than 2^32-1 rows
 tooMany = 14
 
-abbrev pub sheetMalformed : ℕ       -- sheet mark, version, framing, or keys not rising
+abbrev pub sheetMalformed : ℕ  -- sheet mark, version, framing, or keys not rising
 sheetMalformed = 15
 
-abbrev pub noSuch : ℕ               -- no such row or node
+abbrev pub noSuch : ℕ  -- no such row or node
 noSuch = 16
 
 -- ---- laws

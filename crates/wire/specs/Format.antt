@@ -62,15 +62,15 @@ run {E} {ends} n = record {
   bytes = λ l h. h .1;
   inside = λ s. reach-pick (leb n (length s)) n (length s) (take n s) ends (λ t. leb-true _ _ t);
   forward = λ l h t.
-    let fits : n ≤ length (l ++ t) = rw (length-append, h .0) (omega arith) in
-    rw (le-leb _ _ fits, ← h .0, take-append-seam);
+      let fits : n ≤ length (l ++ t) = rw (length-append, h .0) (omega arith) in
+      rw (le-leb _ _ fits, ← h .0, take-append-seam);
   backward = λ s l m b h.
-    let x = pick-done (leb n (length s)) (done (take n s) n) ends 0 l m h in
-    let same : take n s ≡ l = cc (x .1) in
-    let end : n ≡ m = cc (x .1) in
-    let size : length (take n s) ≡ n = length-take-le n s (leb-true _ _ (x .0)) in
-    moved same end record { ok = (size, bytes-take n s b); front = sym (take-append-drop n s); ends = sym size };
-  firm = λ s t e p b h. inl (want-of-bytes ends (leb n (length s)) (take n s) n h)
+      let x = pick-done (leb n (length s)) (done (take n s) n) ends 0 l m h in
+      let same : take n s ≡ l = cc (x .1) in
+      let end : n ≡ m = cc (x .1) in
+      let size : length (take n s) ≡ n = length-take-le n s (leb-true _ _ (x .0)) in
+      moved same end record { ok = (size, bytes-take n s b); front = sym (take-append-drop n s); ends = sym size };
+  firm = λ s t e p b h. inl (want-of-bytes ends (leb n (length s)) (take n s) n h);
 }
 
 -- ---- no bytes, with a value that stands for them
@@ -85,9 +85,9 @@ nothing {A = A} a₀ = record {
   backward = λ s a n b e. record {
     ok = (cc);
     front = let z : 0 ≡ n = cc in rw (← z);
-    ends = (cc)
+    ends = (cc);
   };
-  firm = λ s t e p b h. never (sym h)
+  firm = λ s t e p b h. never (sym h);
 }
 
 -- ---- a value that passes a test; any other is refused at its own place
@@ -121,12 +121,11 @@ such test e f = record {
   inside = λ s. reach-bind (f .read s) (tested test e) (length s) (f .inside s) (λ a n h. reach-pick (test a) n (length s) a e (λ t. h));
   forward = λ a h t. rw (f .forward a (h .0) t, h .1);
   backward = such-backward test e f;
-  firm = such-firm test e f
+  firm = such-firm test e f;
 }
 
 -- ---- one format after another, which may look at the value before it
 infixr 20 _⨾_
-
 abbrev pub pair : {A B : Type 0} → A → B → A × B
 pair a b = (a, b)
 
@@ -141,7 +140,7 @@ pub joined : {A B C : Type 0} {OkA : A → Type 0} {encA : A → List ℕ} {OkB 
 joined {encA = encA} {encB = encB} {s = s} {a = a} {n = n} {b = b} {m = m} k l h e = record {
   ok = h;
   front = rw e (k .front ∙ ap (λ (y : List ℕ). encA a ++ y) (l .front ∙ ap (λ (y : List ℕ). encB b ++ y) (drop-drop m n s)) ∙ sym (append-assoc (encA a) (encB b) (drop (n + m) s)));
-  ends = rw (e, length-append, ← k .ends, ← l .ends)
+  ends = rw (e, length-append, ← k .ends, ← l .ends);
 }
 
 -- a refusal of the second of two stays
@@ -186,9 +185,9 @@ f ⨾ g = record {
   bytes = λ x h. bytes-append (f .encode (x .0)) (g (x .0) .encode (x .1)) (f .bytes (x .0) (h .0)) (g (x .0) .bytes (x .1) (h .1));
   inside = then-inside f g;
   forward = λ x h t.
-    rw (append-assoc, f .forward (x .0) (h .0) (g (x .0) .encode (x .1) ++ t), drop-append-seam, g (x .0) .forward (x .1) (h .1) t, length-append);
+      rw (append-assoc, f .forward (x .0) (h .0) (g (x .0) .encode (x .1) ++ t), drop-append-seam, g (x .0) .forward (x .1) (h .1) t, length-append);
   backward = then-backward f g;
-  firm = then-firm f g
+  firm = then-firm f g;
 }
 
 -- ---- the same bytes under another type: `from` gives the value to write, `to` what was read
@@ -214,7 +213,7 @@ along Ok to from f there back = record {
   inside = λ s. rw reach-map (f .inside s);
   forward = λ b h t. rw (f .forward (from b) (there b h .0) t, there b h .1);
   backward = along-backward Ok to from f back;
-  firm = along-firm Ok to from f
+  firm = along-firm Ok to from f;
 }
 
 -- ---- k items, each told those before it, the last one first
@@ -302,5 +301,5 @@ items item k = record {
   inside = items-inside item k [];
   forward = items-forward item k [];
   backward = items-backward item k [];
-  firm = items-firm item k []
+  firm = items-firm item k [];
 }

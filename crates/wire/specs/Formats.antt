@@ -86,7 +86,6 @@ s64 = signed 8 9223372036854775808 refl
 
 -- ---- one after the other
 infixr 20 _▹_
-
 abbrev pub _▹_ : {E : Type 0} {ends : E} {A B : Type 0} → Format E ends A → Format E ends B → Format E ends (A × B)
 f ▹ g = f ⨾ λ _. g
 

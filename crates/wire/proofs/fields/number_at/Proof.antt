@@ -77,7 +77,7 @@ returns-3 c =
     let all : s .args .k - l .left ≡ s .args .k = omega arith in
     record {
       told = sym (number-done short _ _ (rw length-drop (omega arith)) ∙ ap (λ (x : ℕ). done x (s .args .k)) (sym value));
-      below = rw all at (l .inv .2)
+      below = rw all at (l .inv .2);
     }
 
 pub number-at-spec : {M : Type 1} → statement M

@@ -37,7 +37,7 @@ unfolding signed number along run
 returns c =
     let s = c .before .before .before .before .before .before in
     let bits : c .before .before .before .unsigned .result ≡ unsignedOf 2147483648 (s .args .z) =
-          rw (toZ-ofZ w32 (s .args .z) (s .fits .z), toZ-ofZ w64 (s .args .z) (widened (s .args .z) (s .fits .z))) at (c .before .before .before .unsigned .ensures) in
+    rw (toZ-ofZ w32 (s .args .z) (s .fits .z), toZ-ofZ w64 (s .args .z) (widened (s .args .z) (s .fits .z))) at (c .before .before .before .unsigned .ensures) in
     c .before .before .put-number .ensures ∙ ap (λ (n : ℕ). stored (s .args .at) (spell 4 n) (now (s .args .out))) bits
 
 pub put-s32-spec : {M : Type 1} → statement M

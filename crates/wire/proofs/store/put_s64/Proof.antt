@@ -26,7 +26,7 @@ unfolding signed number along run
 returns c =
     let s = c .before .before .before .before .before .before in
     let bits : c .before .before .before .unsigned .result ≡ unsignedOf 9223372036854775808 (s .args .z) =
-          rw (toZ-ofZ w64 (s .args .z) (s .fits .z)) at (c .before .before .before .unsigned .ensures) in
+    rw (toZ-ofZ w64 (s .args .z) (s .fits .z)) at (c .before .before .before .unsigned .ensures) in
     c .before .before .put-number .ensures ∙ ap (λ (n : ℕ). stored (s .args .at) (spell 8 n) (now (s .args .out))) bits
 
 pub put-s64-spec : {M : Type 1} → statement M
