@@ -2,8 +2,10 @@
 use Prim.Native.Nat.{ℕ, _+_, _≤_}
 use mathlib.Core.Path.{_≡_, refl, _∙_}
 use mathlib.Core.List.{List, _++_}
+use mathlib.Core.Bool.{Bool, true, false}
 use native.Mathlib.Omega.{arith}
 use lib.ListN.{length, drop, length-append, length-drop}
+use Rattle.wire.specs.Choice.{pick}
 
 -- Done, with what the call gives; or refused, with the number, the record and the offset. The record is 0 but for sheets, and the offset
 -- is 0 but for 1 to 8.
@@ -74,6 +76,14 @@ abbrev pub noSuch : ℕ  -- no such row or node
 noSuch = 16
 
 -- ---- laws
+pub no-good : {A C : Type 0} {n r o : ℕ} {a : A} → refusal n r o ≡ good a → C
+no-good h = let z : _≡_ {A = ℕ} 0 1 = cc in absurd (omega arith)
+
+-- where an answer by a test is good, the test held
+pub answered : {A : Type 0} (t : Bool) (n : ℕ) (a d : A) → pick t (good a) (plain n) ≡ good d → (t ≡ true) × (a ≡ d)
+answered true n a d e = (refl, cc)
+answered false n a d e = no-good e
+
 -- a buffer keeps its length
 pub lent-length : {A : Type 0} (r before : List A) → length r ≤ length before → length (lent (good r) before) ≡ length before
 lent-length r before h = rw (length-append, length-drop) (omega arith)

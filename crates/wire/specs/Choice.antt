@@ -1,6 +1,6 @@
 -- Choosing by a test, and the laws of tests that proofs cite.
 use Prim.Native.Nat.{ℕ}
-use mathlib.Core.Path.{_≡_, refl}
+use mathlib.Core.Path.{_≡_, refl, sym}
 use mathlib.Core.Bool.{Bool, true, false, _&&_}
 use mathlib.Core.Logic.{_⊎_, inl, inr}
 use native.Mathlib.Omega.{arith}
@@ -27,6 +27,20 @@ pub and-no : (a b : Bool) → (a ≡ false) ⊎ (b ≡ false) → (a && b) ≡ f
 and-no a b (inl e) = rw e
 and-no true b (inr e) = e
 and-no false b (inr e) = refl
+
+pub three-yes : (a b c : Bool) → (a && (b && c)) ≡ true → (a ≡ true) × (b ≡ true) × (c ≡ true)
+three-yes a b c e =
+    let h = and-yes a (b && c) e in
+    let k = and-yes b c (h .1) in
+    (h .0, k .0, k .1)
+
+pub yes-three : {a b c : Bool} → a ≡ true → b ≡ true → c ≡ true → (a && (b && c)) ≡ true
+yes-three p q r = rw (p, q, r)
+
+-- two tests that hold together and fail together
+pub same-test : (t : Bool) {u : Bool} → (t ≡ true → u ≡ true) → (t ≡ false → u ≡ false) → t ≡ u
+same-test true f g = sym (f refl)
+same-test false f g = sym (g refl)
 
 -- a choice between a value and false
 pub pick-yes : (a b : Bool) → pick a b false ≡ true → (a ≡ true) × (b ≡ true)

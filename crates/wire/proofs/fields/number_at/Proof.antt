@@ -1,4 +1,4 @@
--- `wire::fields::number_at` meets its contract. The loop's invariant: the digits so far and the bytes that are left spell the number asked.
+-- The invariant: the digits so far and the bytes that are left spell the number asked.
 use borrow.Author.Needs.{needs}
 use Prim.Native.Nat.{ℕ, suc, _+_, _-_, _^_, _<_, _≤_}
 use mathlib.Core.Path.{_≡_, refl, ap, sym, _∙_}

@@ -1,4 +1,3 @@
--- `wire::fields::s32_at` meets its contract.
 use borrow.Author.Needs.{needs}
 use Prim.Native.Nat.{_<_}
 use mathlib.Core.Path.{refl, sym}

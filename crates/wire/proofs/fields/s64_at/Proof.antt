@@ -1,4 +1,3 @@
--- `wire::fields::s64_at` meets its contract.
 use borrow.Author.Needs.{needs}
 use mathlib.Core.Path.{refl, sym}
 use lib.Dec.{lit≤}

@@ -1,4 +1,3 @@
--- `wire::fields::u8_at` meets its contract.
 use borrow.Author.Needs.{needs}
 use mathlib.Core.Path.{sym}
 use Rattle.wire.proofs.Numbers.{value-read, value-below, ends-read}

@@ -1,4 +1,4 @@
--- `wire::marks::mark_at` meets its contract. The invariant: what is left of the mark and of the bytes gives the answer asked.
+-- The invariant: what is left of the mark and of the bytes gives the answer asked.
 use Prim.Native.Nat.{_-_}
 use mathlib.Core.Path.{_≡_, refl, sym, _∙_}
 use native.Mathlib.Omega.{arith}

@@ -1,4 +1,4 @@
--- `wire::order::compare` meets its contract. The invariant: what is left of the two gives the answer asked.
+-- The invariant: what is left of the two gives the answer asked.
 use Prim.Native.Nat.{_-_, _≤_}
 use mathlib.Core.Path.{_≡_, refl, sym, _∙_}
 use native.Mathlib.Omega.{arith}

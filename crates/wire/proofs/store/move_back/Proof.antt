@@ -1,4 +1,4 @@
--- `wire::store::move_back` meets its contract. The invariant: the bytes from place i on are laid further back.
+-- The invariant: the bytes from place i on are laid further back.
 use Prim.Native.Nat.{_+_, _≤_}
 use mathlib.Core.Path.{sym}
 use native.Mathlib.Omega.{arith}

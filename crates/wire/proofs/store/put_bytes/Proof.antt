@@ -1,4 +1,4 @@
--- `wire::store::put_bytes` meets its contract. The invariant: the first i bytes are laid.
+-- The invariant: the first i bytes are laid.
 use Prim.Native.Nat.{_+_, _-_, _≤_}
 use mathlib.Core.Path.{_≡_, sym}
 use native.Mathlib.Omega.{arith}

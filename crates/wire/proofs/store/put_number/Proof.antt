@@ -1,4 +1,4 @@
--- `wire::store::put_number` meets its contract. The invariant: the bytes from place i on are laid, and x is left to be spelt in i bytes.
+-- The invariant: the bytes from place i on are laid, and x is left to be spelt in i bytes.
 use borrow.Author.Needs.{needs}
 use Prim.Native.Nat.{_+_, _≤_}
 use mathlib.Core.Path.{sym}

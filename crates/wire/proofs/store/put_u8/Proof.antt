@@ -1,4 +1,3 @@
--- `wire::store::put_u8` meets its contract.
 use borrow.Author.Needs.{needs}
 use Rattle.wire.specs.Format.{along, run}
 use Rattle.wire.specs.Formats.{number}

@@ -1,4 +1,3 @@
--- `wire::store::unsigned` meets its contract.
 use borrow.Author.Needs.{needs}
 use native.Mathlib.Omega.{arith}
 use lib.Dec.{T}

@@ -1,0 +1,5 @@
+pub mod Ranges
+pub mod Keys
+pub mod Nodes
+pub mod Lots
+pub mod Theorems

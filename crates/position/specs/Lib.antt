@@ -1,0 +1,5 @@
+pub mod Keys
+pub mod Nodes
+pub mod Lots
+pub mod Spans
+pub mod Theorems

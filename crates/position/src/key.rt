@@ -1,0 +1,95 @@
+// Position keys: three block coordinates in one signed number, and back.
+ghost use Prim.Native.Nat.{_<_};
+ghost use mathlib.Core.Path.{_≡_};
+ghost use mathlib.Core.Bool.{true};
+ghost use lib.IntN.{natAbs};
+ghost use Rattle.position.specs.Keys.{between, inside, allInside, keyOf, moved, isKey, lowered, joinOf, splitOf, toldJoin, toldSplit};
+
+pub struct Coordinates {
+    pub x: i32,
+    pub y: i32,
+    pub z: i32,
+}
+
+pub enum JoinAnswer {
+    Key(i64),
+    OutOfRange,
+}
+
+pub enum SplitAnswer {
+    At(Coordinates),
+    OutOfRange,
+}
+
+// `&` and not `&&`, here and below: a test costs less than a branch.
+pub fn is_between(a: i32, c: i32, b: i32) -> bool
+    ensures { λ r. ⌜ r ≡ between a c b ⌝ }
+{
+    (a <= c) & (c <= b)
+}
+
+pub fn is_inside(c: i32) -> bool
+    ensures { λ r. ⌜ r ≡ inside c ⌝ }
+{
+    is_between(-2048, c, 2047)
+}
+
+pub fn are_inside(x: i32, y: i32, z: i32) -> bool
+    ensures { λ r. ⌜ r ≡ allInside x y z ⌝ }
+{
+    is_inside(x) & (is_inside(y) & is_inside(z))
+}
+
+fn key_of(x: i64, y: i64, z: i64) -> i64
+    requires { ⌜ allInside x y z ≡ true ⌝ }
+    ensures { λ r. ⌜ r ≡ keyOf x y z ⌝ }
+{
+    z * 16_777_216 + y * 4_096 + x
+}
+
+pub fn join(x: i32, y: i32, z: i32) -> JoinAnswer
+    ensures { λ r. ⌜ toldJoin r ≡ joinOf x y z ⌝ }
+{
+    if are_inside(x, y, z) {
+        JoinAnswer::Key(key_of(x as i64, y as i64, z as i64))
+    } else {
+        JoinAnswer::OutOfRange
+    }
+}
+
+// The range is tested on the key itself: the shifted number of a key near 2^63 would not fit.
+pub fn is_key(key: i64) -> bool
+    ensures { λ r. ⌜ r ≡ isKey key ⌝ }
+{
+    (-34_368_129_024 <= key) & (key <= 34_351_347_711)
+}
+
+// The whole shift comes before any remainder, so that none is taken of a negative number and rounds toward zero.
+fn shifted(key: i64) -> u64
+    requires { ⌜ isKey key ≡ true ⌝ }
+    ensures { λ r. ⌜ r ≡ natAbs (moved key) ⌝ }
+{
+    (key + 34_368_129_024) as u64
+}
+
+fn low(field: u64) -> i32
+    requires { ⌜ field < 4096 ⌝ }
+    ensures { λ r. ⌜ r ≡ lowered field ⌝ }
+{
+    field as i32 - 2048
+}
+
+pub fn split(key: i64) -> SplitAnswer
+    ensures { λ r. ⌜ toldSplit r ≡ splitOf key ⌝ }
+{
+    if is_key(key) {
+        let s = shifted(key);
+        SplitAnswer::At(Coordinates {
+            x: low(s % 4_096),
+            y: low(s / 4_096 % 4_096),
+            z: low(s / 16_777_216),
+        })
+    } else {
+        SplitAnswer::OutOfRange
+    }
+}

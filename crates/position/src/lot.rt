@@ -1,0 +1,74 @@
+// Lots: boxes of nodes, both ends inside.
+use crate::key::is_between;
+ghost use mathlib.Core.Path.{_≡_};
+ghost use Rattle.position.specs.Lots.{axis, goodLot, inLot, world, lotOf, toldLot};
+
+// The least coordinate on each axis, then the greatest. It crosses to a host as it is.
+#[repr(C)]
+pub struct Lot {
+    pub x0: i32,
+    pub y0: i32,
+    pub z0: i32,
+    pub x1: i32,
+    pub y1: i32,
+    pub z1: i32,
+}
+
+pub enum LotAnswer {
+    Good(Lot),
+    Bad,
+}
+
+fn is_axis(a: i32, b: i32) -> bool
+    ensures { λ r. ⌜ r ≡ axis a b ⌝ }
+{
+    (-32768 <= a) & is_between(a, b, 32767)
+}
+
+impl Lot {
+    pub const WORLD: Lot = Lot {
+        x0: -32768,
+        y0: -32768,
+        z0: -32768,
+        x1: 32767,
+        y1: 32767,
+        z1: 32767,
+    };
+
+    pub fn whole_world() -> Lot
+        ensures { λ r. ⌜ r ≡ world ⌝ }
+    {
+        Lot::WORLD
+    }
+
+    pub fn is_good(self) -> bool
+        ensures { λ r. ⌜ r ≡ goodLot self ⌝ }
+    {
+        is_axis(self.x0, self.x1) & (is_axis(self.y0, self.y1) & is_axis(self.z0, self.z1))
+    }
+
+    pub fn new(x0: i32, y0: i32, z0: i32, x1: i32, y1: i32, z1: i32) -> LotAnswer
+        ensures { λ r. ⌜ toldLot r ≡ lotOf x0 y0 z0 x1 y1 z1 ⌝ }
+    {
+        let l = Lot {
+            x0,
+            y0,
+            z0,
+            x1,
+            y1,
+            z1,
+        };
+        if l.is_good() {
+            LotAnswer::Good(l)
+        } else {
+            LotAnswer::Bad
+        }
+    }
+
+    pub fn has(self, x: i32, y: i32, z: i32) -> bool
+        ensures { λ r. ⌜ r ≡ inLot self x y z ⌝ }
+    {
+        is_between(self.x0, x, self.x1)
+            & (is_between(self.y0, y, self.y1) & is_between(self.z0, z, self.z1))
+    }
+}

@@ -1,0 +1,58 @@
+/* Anowhetele: the nodes standing on a lot of a Luanti world, counted name by name.
+ * Made from anowhetele.h.in and numbers.txt by include/make; edit those. */
+#ifndef ANOWHETELE_H
+#define ANOWHETELE_H
+
+#include <stdint.h>
+
+#ifdef __cplusplus
+extern "C" {
+#endif
+
+/* The numbers that a call comes back with. Every function refuses bad input with one of them; on a refusal all other values are 0. */
+enum {
+    ANOW_DONE = 0 /* done */,
+    ANOW_ENDS_INSIDE = 1 /* bytes end inside a field, or an inventory has no end line */,
+    ANOW_VERSION_OUTSIDE = 2 /* version outside 22..29 */,
+    ANOW_FIXED_DIFFERS = 3 /* a byte, width or list version that is fixed has another value */,
+    ANOW_POSITION_ABOVE = 4 /* position above 4095 */,
+    ANOW_POSITION_TWICE = 5 /* position already in its list */,
+    ANOW_ID_TWICE = 6 /* id already mapped */,
+    ANOW_BYTES_AFTER = 7 /* bytes after the end */,
+    ANOW_ID_UNMAPPED = 8 /* used id unmapped */,
+    ANOW_OUT_OF_RANGE = 9 /* key or coordinate out of range */,
+    ANOW_BAD_PART = 10 /* lot out of the world or turned round; span turned round */,
+    ANOW_NO_ROOM = 11 /* result longer than the output lent */,
+    ANOW_PARTS_MISFIT = 12 /* parts do not fit */,
+    ANOW_TALLY_MALFORMED = 13 /* tally malformed */,
+    ANOW_TOO_MANY = 14 /* a count above 2^64-1, or more than 2^32-1 rows */,
+    ANOW_SHEET_MALFORMED = 15 /* sheet mark, version, framing, or keys not rising */,
+    ANOW_NO_SUCH = 16 /* no such row or node */
+};
+
+typedef struct { uint32_t number; int64_t key; } anow_key;
+typedef struct { uint32_t number; int32_t x, y, z; } anow_coordinates;
+typedef struct { uint32_t number; uint32_t inside; } anow_inside; /* inside: 0 or 1 */
+
+/* Node coordinates, both ends inside: the least on each axis, then the greatest. A good lot lies in -32768..32767, least not above greatest. */
+typedef struct { int32_t x0, y0, z0, x1, y1, z1; } anow_lot;
+/* Seconds: from is inside, until is not. In a good span from is not above until. */
+typedef struct { uint32_t from, until; } anow_span;
+
+#define ANOW_WHOLE_WORLD ((anow_lot){ -32768, -32768, -32768, 32767, 32767, 32767 })
+#define ANOW_ALL_TIME ((anow_span){ 0, 0xffffffffu })
+
+/* The key of a block's coordinates, each -2048..2047. Refused: 9. */
+anow_key anow_key_join(int32_t x, int32_t y, int32_t z);
+/* The coordinates of a key. Refused: 9. */
+anow_coordinates anow_key_split(int64_t key);
+/* Whether a lot has a node. Refused: 10. */
+anow_inside anow_lot_has(anow_lot lot, int32_t x, int32_t y, int32_t z);
+/* Whether a span has a second; 0xffffffff lies in none. Refused: 10. */
+anow_inside anow_span_has(anow_span span, uint32_t second);
+
+#ifdef __cplusplus
+}
+#endif
+
+#endif
