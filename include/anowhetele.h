@@ -39,8 +39,13 @@ typedef struct { int32_t x0, y0, z0, x1, y1, z1; } anow_lot;
 /* Seconds: from is inside, until is not. In a good span from is not above until. */
 typedef struct { uint32_t from, until; } anow_span;
 
-#define ANOW_WHOLE_WORLD ((anow_lot){ -32768, -32768, -32768, 32767, 32767, 32767 })
-#define ANOW_ALL_TIME ((anow_span){ 0, 0xffffffffu })
+#ifdef __cplusplus
+#define ANOW_VALUE(type) type
+#else
+#define ANOW_VALUE(type) (type)
+#endif
+#define ANOW_WHOLE_WORLD (ANOW_VALUE(anow_lot){ -32768, -32768, -32768, 32767, 32767, 32767 })
+#define ANOW_ALL_TIME (ANOW_VALUE(anow_span){ 0, 0xffffffffu })
 
 /* The key of a block's coordinates, each -2048..2047. Refused: 9. */
 anow_key anow_key_join(int32_t x, int32_t y, int32_t z);

@@ -5,7 +5,7 @@ use mathlib.Core.List.{List, [], _++_, append-nil}
 use lib.ListN.{length, take, drop}
 use lib.Seq.{drop-length, take-append-seam}
 use Rattle.wire.specs.Bytes.{Bytes}
-use Rattle.wire.specs.Read.{Read, done}
+use Rattle.wire.specs.Read.{done}
 use Rattle.wire.specs.Format.{Format, local}
 use Rattle.wire.specs.EveryFormat.{EveryFormat}
 

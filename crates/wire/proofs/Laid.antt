@@ -1,14 +1,12 @@
 -- Bytes laid into a buffer: what a store of one byte does at either end of them, and what callers of the stores cite.
-use Prim.Native.Nat.{ℕ, zero, suc, _+_, _-_, _/_, _%_, _<_, _≤_}
-use mathlib.Core.Path.{_≡_, refl, ap, ap₂, sym, _∙_}
-use mathlib.Core.List.{List, [], _∷_, _++_, append-assoc, append-nil}
+use Prim.Native.Nat.{ℕ, suc, _+_, _-_, _<_, _≤_}
+use mathlib.Core.Path.{_≡_, ap, ap₂, sym, _∙_}
+use mathlib.Core.List.{List, [], _∷_, _++_, append-assoc}
 use native.Mathlib.Nat.{add-zero, add-assoc}
-use native.Mathlib.Numerals.{add-one}
 use native.Mathlib.Omega.{arith}
-use lib.ListN.{length, getD, take, drop, set, length-append, length-drop, take-append-drop, List·getD-append, drop-of-length-le}
-use lib.Seq.{drop-cons, drop-drop, drop-at, take-at, take-suc, take-all, getD-take, length-take-le, set-at}
+use lib.ListN.{length, getD, take, drop, set, length-append, length-drop, take-append-drop, List·getD-append}
+use lib.Seq.{drop-cons, drop-drop, drop-at, take-at, take-suc, getD-take, length-take-le, set-at}
 use borrow.Author.Tests.{le-leb, lt-leb}
-use Rattle.wire.specs.Bytes.{spell, spell-length}
 use Rattle.wire.specs.Store.{laid, stored, movedBack}
 
 -- ---- what is laid

@@ -1,18 +1,18 @@
 -- One law for each way on, of each way to make a format: what a proof about code cites.
 use Prim.Native.Nat.{ℕ, zero, suc, _+_, _-_, _*_, _^_, _<_, _≤_}
-use mathlib.Core.Path.{_≡_, refl, ap, sym, _∙_}
-use mathlib.Core.List.{List, [], _∷_, _++_}
+use mathlib.Core.Path.{_≡_, refl}
+use mathlib.Core.List.{List}
 use mathlib.Core.Bool.{Bool, true, false}
 use native.Mathlib.Nat.{pow-suc, pow-le-pow-right, lt-of-lt-of-le}
 use native.Mathlib.Numerals.{add-one, sub-one}
 use native.Mathlib.Omega.{arith}
 use lib.Dec.{leb, lit<}
 use lib.IntN.{ℤ}
-use lib.ListN.{length, getD, take, drop, length-drop}
+use lib.ListN.{length, getD, take, drop}
 use lib.Seq.{drop-cons}
 use borrow.Author.Tests.{le-leb, lt-leb}
 use Rattle.wire.specs.Choice.{pick}
-use Rattle.wire.specs.Bytes.{Bytes, spelt}
+use Rattle.wire.specs.Bytes.{spelt}
 use Rattle.wire.specs.Read.{Read, done, refused, bind, mapRead, onward, blaming}
 use Rattle.wire.specs.Format.{Format, run, such, _⨾_, next, along, pair}
 use Rattle.wire.specs.Formats.{number, signed, signedOf, counted, behind, mark}

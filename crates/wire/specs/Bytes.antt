@@ -1,12 +1,12 @@
 -- Bytes, and numbers of k bytes, most significant first (document 01, 'The pieces': all numbers are MSB first).
-use Prim.Native.Nat.{ℕ, zero, suc, zero-le, _+_, _-_, _*_, _/_, _%_, _^_, _<_, _≤_}
-use mathlib.Core.Path.{_≡_, refl, ap, ap₂, sym, _∙_}
+use Prim.Native.Nat.{ℕ, zero, suc, _+_, _-_, _*_, _/_, _%_, _^_, _<_}
+use mathlib.Core.Path.{_≡_, refl, ap, sym, _∙_}
 use mathlib.Core.List.{List, [], _∷_, _++_}
 use native.Mathlib.Nat.{pow-suc, mod-lt}
 use native.Mathlib.Omega.{arith}
 use lib.Dec.{lit<}
 use lib.ListN.{length, getD, take, drop, length-append}
-use lib.Seq.{getD-drop, getD-take, take-suc, take-all, length-take-le}
+use lib.Seq.{getD-drop, take-suc, take-all, length-take-le}
 
 -- the elements of a list are bytes
 abbrev pub Bytes : List ℕ → Type 0

@@ -5,7 +5,7 @@ use mathlib.Core.Logic.{_↔_, _⊎_}
 use mathlib.Core.List.{List, _++_}
 use lib.ListN.{length, take}
 use Rattle.wire.specs.Bytes.{Bytes}
-use Rattle.wire.specs.Read.{Read, done, refused}
+use Rattle.wire.specs.Read.{done, refused}
 use Rattle.wire.specs.Format.{Format}
 
 pub record EveryFormat {E : Type 0} {ends : E} {A : Type 0} (f : Format E ends A) : Type 0 where

@@ -1,7 +1,15 @@
 -- Formats made of the language's own: what the pages of the other crates are written in.
+--     number k, u8 .. u64, s32, s64     a number of k bytes; the usual widths
+--     f ▹ g, f ⨾ λ a. g                 f, then g; then g, which may look at what f read
+--     such test e f                     f, refused with e where the test fails
+--     fixed k v e f, mark m e f         the number v in k bytes, or the bytes m, refused with e where another stands there; then f
+--     counted k                         a length of k bytes, and so many bytes
+--     listed k item, times n f          a count of k bytes, and so many items, each told those before it; n of the same
+--     only b a f                        f where b holds; else nothing, read as a
+--     into shape f                      f, as a record
 use Prim.Native.Nat.{ℕ, suc, _+_, _-_, _^_, _<_, _≤_}
-use mathlib.Core.Path.{_≡_, refl, ap, sym, subst, subst⁻¹, _∙_}
-use mathlib.Core.List.{List, [], _∷_}
+use mathlib.Core.Path.{_≡_, refl, ap, sym, subst⁻¹}
+use mathlib.Core.List.{List, []}
 use mathlib.Core.Bool.{Bool, true, false}
 use native.Mathlib.Omega.{arith}
 use lib.Dec.{ltb, eqb}

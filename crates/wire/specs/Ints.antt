@@ -1,13 +1,13 @@
 -- ℤ for `omega`, which reads naturals alone: an integer z is `up z` less `down z`. Each operation of ℤ has a linear law over the two, so
 -- that `omega (arith, plus-is a b, ..)` proves equations and orders of integers.
-use mathlib.Core.Path.{_≡_, refl, sym, ap, _∙_, subst}
+use mathlib.Core.Path.{_≡_, refl, ap}
 use mathlib.Core.Bool.{Bool, true, false, cond}
 use Prim.Native.Nat.{ℕ, zero, suc, _+_, _*_, _-_, _^_, _≤_, _<_}
 use native.Mathlib.Nat.{mul-comm}
 use native.Mathlib.Omega.{arith}
 use lib.IntN.{ℤ, pos, negsuc, negℤ, natAbs, subℕ, _+ℤ_, _-ℤ_, _*ℤ_}
-use lib.Signed.{leZ, ltZ, mag, nonNeg}
-use lib.Dec.{T, ltb, leb}
+use lib.Signed.{leZ, ltZ, nonNeg}
+use lib.Dec.{T, ltb}
 use mir.Syntax.{Width}
 use mir.Val.{SFits, hbits}
 use Rattle.wire.specs.Choice.{no-true, no-false}

@@ -1,6 +1,6 @@
 -- Fixed marks at the front of a list: document 01's `EndInventory` line, `TLY` and `WSH`.
-use Prim.Native.Nat.{ℕ, suc, zero-le, suc-le-suc, _≤_}
-use mathlib.Core.Path.{_≡_, refl, ap, ap₂, sym, _∙_}
+use Prim.Native.Nat.{ℕ, zero-le, suc-le-suc, _≤_}
+use mathlib.Core.Path.{_≡_, refl, ap, ap₂}
 use mathlib.Core.List.{List, [], _∷_, _++_}
 use mathlib.Core.Bool.{Bool, true, false}
 use native.Mathlib.Omega.{arith}

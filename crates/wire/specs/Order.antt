@@ -1,5 +1,5 @@
 -- Bytes in order: byte by byte, a prefix first (document 01, 'Tallies, lots, spans, sheets': names strictly rising).
-use Prim.Native.Nat.{ℕ, _≤_, _<_}
+use Prim.Native.Nat.{ℕ, _<_}
 use mathlib.Core.Path.{_≡_, refl}
 use mathlib.Core.Bool.{Bool, true, false}
 use mathlib.Core.List.{List, [], _∷_}

@@ -1,5 +1,5 @@
 use borrow.Author.Needs.{needs}
-use mathlib.Core.Path.{sym, ap, _∙_}
+use mathlib.Core.Path.{sym, _∙_}
 use Rattle.anowhetele.specs.Places.{spanHas}
 use Rattle.anowhetele.proofs.places.anow_span_has.Statement.{statement}
 use Rattle.anowhetele.proofs.places.anow_span_has.Tie as tie

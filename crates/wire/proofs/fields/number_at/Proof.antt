@@ -6,7 +6,7 @@ use native.Mathlib.Nat.{one-le-pow}
 use native.Mathlib.Omega.{arith}
 use denote.Ref.{now}
 use lib.Dec.{lit<}
-use lib.ListN.{length, take, drop, length-drop}
+use lib.ListN.{take, drop, length-drop}
 use Rattle.wire.specs.Bytes.{spelt}
 use Rattle.wire.specs.Read.{done}
 use Rattle.wire.specs.Told.{short}

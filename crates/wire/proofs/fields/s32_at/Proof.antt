@@ -1,7 +1,6 @@
 use borrow.Author.Needs.{needs}
 use Prim.Native.Nat.{_<_}
 use mathlib.Core.Path.{refl, sym}
-use native.Mathlib.Omega.{arith}
 use lib.Dec.{lit<, lit≤}
 use mir.Syntax.{w32, w64}
 use Rattle.wire.specs.Told.{short}

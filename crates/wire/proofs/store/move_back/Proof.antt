@@ -1,9 +1,7 @@
 -- The invariant: the bytes from place i on are laid further back.
-use Prim.Native.Nat.{_+_, _≤_}
 use mathlib.Core.Path.{sym}
 use native.Mathlib.Omega.{arith}
 use denote.Ref.{now}
-use lib.ListN.{length}
 use Rattle.wire.proofs.Laid.{moved-not}
 use Rattle.wire.proofs.Stores.{Moving, moving-start, moving-length, moving-on, moving-end}
 use Rattle.wire.proofs.store.move_back.Statement.{statement}

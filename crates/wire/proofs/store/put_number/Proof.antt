@@ -1,10 +1,8 @@
 -- The invariant: the bytes from place i on are laid, and x is left to be spelt in i bytes.
 use borrow.Author.Needs.{needs}
-use Prim.Native.Nat.{_+_, _≤_}
 use mathlib.Core.Path.{sym}
 use native.Mathlib.Omega.{arith}
 use denote.Ref.{now}
-use lib.ListN.{length}
 use Rattle.wire.specs.Bytes.{spell, spell-length}
 use Rattle.wire.proofs.Laid.{stored-not}
 use Rattle.wire.proofs.Stores.{Spelling, spelling-start, spelling-length, spelling-on, spelling-end}

@@ -1,6 +1,5 @@
 use borrow.Author.Needs.{needs}
 use native.Mathlib.Omega.{arith}
-use lib.Dec.{T}
 use Rattle.wire.proofs.Signs.{natural-told, above-fits, above-is, bits-are}
 use Rattle.wire.proofs.store.unsigned.Statement.{statement}
 use Rattle.wire.proofs.store.unsigned.Tie as tie
