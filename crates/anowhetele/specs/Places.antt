@@ -13,12 +13,15 @@ use Rattle.anowhetele.specs.declared.places.AnowKey.{AnowKey}
 use Rattle.anowhetele.specs.declared.places.AnowCoordinates.{AnowCoordinates}
 use Rattle.anowhetele.specs.declared.places.AnowInside.{AnowInside}
 
--- whether a good lot has a node, and a good span a second
-unfoldable pub lotHas : Lot → ℤ → ℤ → ℤ → Answer Bool
-lotHas l x y z = pick (goodLot l) (good (inLot l x y z)) (plain badPart)
+-- membership, asked of a good lot or span alone
+abbrev pub asked : Bool → Bool → Answer Bool
+asked fit has = pick fit (good has) (plain badPart)
 
-unfoldable pub spanHas : Span → ℕ → Answer Bool
-spanHas s t = pick (goodSpan s) (good (inSpan s t)) (plain badPart)
+abbrev pub lotHas : Lot → ℤ → ℤ → ℤ → Answer Bool
+lotHas l x y z = asked (goodLot l) (inLot l x y z)
+
+abbrev pub spanHas : Span → ℕ → Answer Bool
+spanHas s t = asked (goodSpan s) (inSpan s t)
 
 abbrev pub handedKey : Answer ℤ → AnowKey
 handedKey (good k) = record { number = 0; key = k }

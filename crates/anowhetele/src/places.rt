@@ -7,9 +7,8 @@ use position::key::SplitAnswer;
 use position::lot::Lot;
 use position::span::Span;
 ghost use mathlib.Core.Path.{_≡_};
-ghost use Rattle.wire.specs.Answer.{good};
 ghost use Rattle.position.specs.Keys.{joinOf, splitOf};
-ghost use Rattle.anowhetele.specs.Places.{lotHas, spanHas, handedKey, handedCoordinates, handedInside};
+ghost use Rattle.anowhetele.specs.Places.{asked, lotHas, spanHas, handedKey, handedCoordinates, handedInside};
 
 #[repr(C)]
 pub struct AnowKey {
@@ -64,10 +63,17 @@ pub extern "C" fn anow_key_split(key: i64) -> AnowCoordinates
     }
 }
 
-fn inside(yes: bool) -> AnowInside
-    ensures { λ r. ⌜ r ≡ handedInside (good yes) ⌝ }
+// The answer for a lot or a span: whether it is good, and whether it has what was asked for.
+fn inside(fit: bool, has: bool) -> AnowInside
+    ensures { λ r. ⌜ r ≡ handedInside (asked fit has) ⌝ }
 {
-    if yes {
+    if !fit {
+        return AnowInside {
+            number: BAD_PART,
+            inside: 0,
+        };
+    }
+    if has {
         AnowInside {
             number: DONE,
             inside: 1,
@@ -84,26 +90,12 @@ fn inside(yes: bool) -> AnowInside
 pub extern "C" fn anow_lot_has(lot: Lot, x: i32, y: i32, z: i32) -> AnowInside
     ensures { λ r. ⌜ r ≡ handedInside (lotHas lot x y z) ⌝ }
 {
-    if lot.is_good() {
-        inside(lot.has(x, y, z))
-    } else {
-        AnowInside {
-            number: BAD_PART,
-            inside: 0,
-        }
-    }
+    inside(lot.is_good(), lot.has(x, y, z))
 }
 
 #[no_mangle]
 pub extern "C" fn anow_span_has(span: Span, second: u32) -> AnowInside
     ensures { λ r. ⌜ r ≡ handedInside (spanHas span second) ⌝ }
 {
-    if span.is_good() {
-        inside(span.has(second))
-    } else {
-        AnowInside {
-            number: BAD_PART,
-            inside: 0,
-        }
-    }
+    inside(span.is_good(), span.has(second))
 }

@@ -21,7 +21,7 @@ pub enum SplitAnswer {
     OutOfRange,
 }
 
-// `&` and not `&&`, here and below: a test costs less than a branch.
+// `&` and not `&&`, here and below: no test can trap, and without a branch there is one return to prove.
 pub fn is_between(a: i32, c: i32, b: i32) -> bool
     ensures { λ r. ⌜ r ≡ between a c b ⌝ }
 {

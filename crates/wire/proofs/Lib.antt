@@ -1,9 +1,11 @@
+-- What holds of every format, and one law for each way on: what proofs about code cite.
 pub mod EveryFormat
 pub mod Steps
+pub mod Items
+pub mod Laid
+-- The leaves' own loops and numbers.
 pub mod Numbers
 pub mod Signs
 pub mod Starts
 pub mod Orders
-pub mod Laid
 pub mod Stores
-pub mod Items

@@ -86,11 +86,17 @@ module _ {E : Type 0} (ends : E) (k half : ℕ) (e : 256 ^ k ≡ half + half) wh
 unfoldable pub signed : {E : Type 0} {ends : E} (k half : ℕ) → 256 ^ k ≡ half + half → Format E ends ℤ
 signed {ends = ends} k half e = along (λ z. mag z < half) (signedOf half) (unsignedOf half) (number k) (signed-there ends k half e) (signed-back ends k half e)
 
+abbrev pub half32 : ℕ
+half32 = 2147483648
+
+abbrev pub half64 : ℕ
+half64 = 9223372036854775808
+
 abbrev pub s32 : {E : Type 0} {ends : E} → Format E ends ℤ
-s32 = signed 4 2147483648 refl
+s32 = signed 4 half32 refl
 
 abbrev pub s64 : {E : Type 0} {ends : E} → Format E ends ℤ
-s64 = signed 8 9223372036854775808 refl
+s64 = signed 8 half64 refl
 
 -- ---- one after the other
 infixr 20 _▹_

@@ -5,6 +5,11 @@ ghost use lib.ListN.{drop};
 ghost use Rattle.wire.specs.Formats.{u8, u16, u32, u64, s32, s64, counted, signedOf};
 ghost use Rattle.wire.specs.Told.{short, toldU8, toldU16, toldU32, toldU64, toldS32, toldS64, toldCounted, NumberAt};
 
+// Half of what 32 and 64 bits hold: from here on a number stands for a negative one.
+pub const HALF_32: u64 = 2147483648;
+
+pub const HALF_64: u64 = 9223372036854775808;
+
 // A field's value, or that the bytes end inside it.
 pub enum U8 {
     Value(u8),
@@ -111,6 +116,7 @@ fn signed(v: u64, half: u64) -> i64
     if v < half {
         return v as i64;
     }
+    // From -1 down, since 2^63 itself is no i64.
     let m = half - 1 - (v - half);
     -1 - (m as i64)
 }
@@ -119,7 +125,7 @@ pub fn s32_at(s: &[u8], at: usize) -> S32
     ensures { λ r. ⌜ toldS32 r ≡ s32 {ends = short} .read (drop at (now (s .entry))) ⌝ }
 {
     match number_at(s, at, 4) {
-        U64::Value(v) => S32::Value(signed(v, 2147483648) as i32),
+        U64::Value(v) => S32::Value(signed(v, HALF_32) as i32),
         U64::Ends => S32::Ends,
     }
 }
@@ -128,7 +134,7 @@ pub fn s64_at(s: &[u8], at: usize) -> S64
     ensures { λ r. ⌜ toldS64 r ≡ s64 {ends = short} .read (drop at (now (s .entry))) ⌝ }
 {
     match number_at(s, at, 8) {
-        U64::Value(v) => S64::Value(signed(v, 9223372036854775808)),
+        U64::Value(v) => S64::Value(signed(v, HALF_64)),
         U64::Ends => S64::Ends,
     }
 }

@@ -1,4 +1,6 @@
 // Bytes and numbers stored at a place of a lent buffer, where they fit; where they do not, nothing changes.
+use crate::fields::HALF_32;
+use crate::fields::HALF_64;
 ghost use mathlib.Core.Path.{_≡_};
 ghost use Prim.Native.Nat.{_≤_, _<_, _^_};
 ghost use lib.Signed.{mag};
@@ -65,13 +67,13 @@ fn unsigned(z: i64, half: u64) -> u64
 pub fn put_s32(out: &mut [u8], at: usize, z: i32)
     ensures { λ _. ⌜ now (out .exit) ≡ stored at (s32 {ends = short} .encode z) (now (out .entry)) ⌝ }
 {
-    put_number(out, at, 4, unsigned(z as i64, 2147483648));
+    put_number(out, at, 4, unsigned(z as i64, HALF_32));
 }
 
 pub fn put_s64(out: &mut [u8], at: usize, z: i64)
     ensures { λ _. ⌜ now (out .exit) ≡ stored at (s64 {ends = short} .encode z) (now (out .entry)) ⌝ }
 {
-    put_number(out, at, 8, unsigned(z, 9223372036854775808));
+    put_number(out, at, 8, unsigned(z, HALF_64));
 }
 
 // Bytes copied from another slice.

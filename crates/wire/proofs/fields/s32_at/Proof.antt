@@ -3,6 +3,7 @@ use Prim.Native.Nat.{_<_}
 use mathlib.Core.Path.{refl, sym}
 use lib.Dec.{lit<, lit≤}
 use mir.Syntax.{w32, w64}
+use Rattle.wire.specs.Formats.{half32}
 use Rattle.wire.specs.Told.{short}
 use Rattle.wire.proofs.Numbers.{value-read, value-below, ends-read}
 use Rattle.wire.proofs.Signs.{signed-fits, signed-kept}
@@ -25,7 +26,7 @@ signed-requires c κs = (lit< tt, lit≤ tt, below c)
 cast-t7 : tie.Need-cast-t7
 cast-t7 c =
     let v = c .before .before .v .given .0 .0 in
-    rw (c .signed .ensures, signed-kept w64 2147483648 v (below (c .before)) (lit≤ tt)) (signed-fits w32 2147483648 v (below (c .before)) (lit≤ tt))
+    rw (c .signed .ensures, signed-kept w64 half32 v (below (c .before)) (lit≤ tt)) (signed-fits w32 half32 v (below (c .before)) (lit≤ tt))
 
 enum-told : tie.Need-enum-told
 enum-told c = search needs
@@ -33,11 +34,11 @@ enum-told c = search needs
 returns : tie.Need-returns
 returns c =
     let v = c .before .before .v .given .0 .0 in
-    rw (c .signed .ensures, signed-kept w64 2147483648 v (below (c .before)) (lit≤ tt), signed-kept w32 2147483648 v (below (c .before)) (lit≤ tt))
-    (sym (signed-done short 4 2147483648 refl _ (value-read (c .before .before .before .before .number-at .ensures) (c .before .before .v .given .1))))
+    rw (c .signed .ensures, signed-kept w64 half32 v (below (c .before)) (lit≤ tt), signed-kept w32 half32 v (below (c .before)) (lit≤ tt))
+    (sym (signed-done short 4 half32 refl _ (value-read (c .before .before .before .before .number-at .ensures) (c .before .before .v .given .1))))
 
 returns-2 : tie.Need-returns-2
-returns-2 c = sym (signed-refused short 4 2147483648 refl _ (ends-read (c .before .before .number-at .ensures) (c .enum-told .given .1)))
+returns-2 c = sym (signed-refused short 4 half32 refl _ (ends-read (c .before .before .number-at .ensures) (c .enum-told .given .1)))
 
 pub s32-at-spec : {M : Type 1} → statement M
 s32-at-spec =

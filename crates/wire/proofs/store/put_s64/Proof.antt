@@ -7,7 +7,7 @@ use mir.ValLaws.{toZ-ofZ}
 use Rattle.wire.specs.Bytes.{spell}
 use Rattle.wire.specs.Store.{stored}
 use Rattle.wire.specs.Format.{along, run}
-use Rattle.wire.specs.Formats.{number, signed, unsignedOf}
+use Rattle.wire.specs.Formats.{number, signed, unsignedOf, half64}
 use Rattle.wire.proofs.store.put_s64.Statement.{statement}
 use Rattle.wire.proofs.store.put_s64.Tie as tie
 
@@ -24,7 +24,7 @@ returns : tie.Need-returns
 unfolding signed number along run
 returns c =
     let s = c .before .before .before .before .before .before in
-    let bits : c .before .before .before .unsigned .result ≡ unsignedOf 9223372036854775808 (s .args .z) =
+    let bits : c .before .before .before .unsigned .result ≡ unsignedOf half64 (s .args .z) =
     rw (toZ-ofZ w64 (s .args .z) (s .fits .z)) at (c .before .before .before .unsigned .ensures) in
     c .before .before .put-number .ensures ∙ ap (λ (n : ℕ). stored (s .args .at) (spell 8 n) (now (s .args .out))) bits
 
