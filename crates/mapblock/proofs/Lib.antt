@@ -1,0 +1,14 @@
+pub mod Leaves
+pub mod Readings
+pub mod Fixed
+pub mod Lines
+pub mod Entries
+pub mod Zeros
+pub mod Positioned
+pub mod NameRows
+pub mod NameLoop
+pub mod SavedLists
+pub mod MetadataRows
+pub mod OtherRows
+pub mod RowLists
+pub mod Verdicts

@@ -1,0 +1,139 @@
+use borrow.Author.Needs.{needs}
+use Rattle.mapblock.proofs.Leaves.{by-number, by-signed, by-counted, told-behind, read-behind}
+use lib.Dec.{lit<}
+use Rattle.mapblock.proofs.OtherRows.{object-no-kind, object-no-x, object-no-y, object-no-z, object-no-content, object-done}
+use Rattle.mapblock.proofs.Leaves.{by-number, by-signed, by-counted, told-behind}
+use Rattle.mapblock.specs.declared.fault.Fault.the-variants as fault
+use Rattle.wire.specs.Formats.{u8, s32, half32, counted}
+use Rattle.wire.specs.Format.{ends-in}
+use Rattle.wire.specs.Read.{done}
+use Rattle.wire.specs.Told.{toldU8, toldS32, toldCounted}
+use mir.ValLaws.{toZ-ofZ}
+use mir.Syntax.{w32}
+use lib.ListN.{drop, length}
+use denote.Ref.{now}
+use native.Mathlib.Omega.{arith}
+use mathlib.Core.Path.{_≡_, refl}
+use Rattle.mapblock.proofs.objects.object_row.Statement.{statement}
+use Rattle.mapblock.proofs.objects.object_row.Tie as tie
+use Rattle.mapblock.proofs.objects.object_row.Reads as reads
+use Rattle.mapblock.proofs.objects.object_row.Lts as lts
+use Rattle.wire.proofs.fields.counted16_at.Reads as counted16-at-reads
+use Rattle.wire.proofs.fields.s32_at.Reads as s32-at-reads
+use Rattle.wire.proofs.fields.u8_at.Reads as u8-at-reads
+
+-- the four numbers in front
+kind-is : (c : tie.After-kind) → u8 {ends = fault.Ends} .read (now (c .before .before .before .before .args .s)) ≡ done (c .kind .given .0 .0) 1
+kind-is c = by-number 1 _ toldU8 (c .before .before .u8-at .ensures) (c .kind .given .1)
+
+x-is : (c : tie.After-x) → s32 {ends = fault.Ends} .read (drop 1 (now (c .before .before .before .before .before .before .before .before .args .s))) ≡ done (c .x .given .0 .0) 4
+x-is c = by-signed 4 half32 refl _ toldS32 (c .before .before .s32-at .ensures) (c .x .given .1)
+
+y-is : (c : tie.After-y) → s32 {ends = fault.Ends} .read (drop 5 (now (c .before .before .before .before .before .before .before .before .before .before .before .before .args .s))) ≡ done (c .y .given .0 .0) 4
+y-is c = by-signed 4 half32 refl _ toldS32 (c .before .before .s32-at2 .ensures) (c .y .given .1)
+
+z-is : (c : tie.After-z) → s32 {ends = fault.Ends} .read (drop 9 (now (c .before .before .before .before .before .before .before .before .before .before .before .before .before .before .before .before .args .s))) ≡ done (c .z .given .0 .0) 4
+z-is c = by-signed 4 half32 refl _ toldS32 (c .before .before .s32-at3 .ensures) (c .z .given .1)
+
+u8-at-requires : tie.Need-u8-at-requires
+u8-at-requires c κs = search needs
+
+enum-known-kind : tie.Need-enum-known-kind
+enum-known-kind c = search needs
+
+enum-told : tie.Need-enum-told
+enum-told c = search needs
+
+returns : tie.Need-returns
+returns c = object-no-kind _ (by-number 1 _ toldU8 (c .before .before .u8-at .ensures) (c .enum-told .given .1))
+
+s32-at-requires : tie.Need-s32-at-requires
+s32-at-requires c κs = search needs
+
+enum-known-x : tie.Need-enum-known-x
+enum-known-x c = search needs
+
+enum-told-2 : tie.Need-enum-told-2
+enum-told-2 c = search needs
+
+returns-2 : tie.Need-returns-2
+returns-2 c = object-no-x _ (kind-is (c .before .before .before .before)) (by-signed 4 half32 refl _ toldS32 (c .before .before .s32-at .ensures) (c .enum-told2 .given .1))
+
+s32-at-requires-2 : tie.Need-s32-at-requires-2
+s32-at-requires-2 c κs = search needs
+
+enum-known-y : tie.Need-enum-known-y
+enum-known-y c = search needs
+
+enum-told-3 : tie.Need-enum-told-3
+enum-told-3 c = search needs
+
+returns-3 : tie.Need-returns-3
+returns-3 c = object-no-y _ (kind-is (c .before .before .before .before .before .before .before .before)) (x-is (c .before .before .before .before)) (by-signed 4 half32 refl _ toldS32 (c .before .before .s32-at2 .ensures) (c .enum-told3 .given .1))
+
+s32-at-requires-3 : tie.Need-s32-at-requires-3
+s32-at-requires-3 c κs = search needs
+
+enum-known-z : tie.Need-enum-known-z
+enum-known-z c = search needs
+
+enum-told-4 : tie.Need-enum-told-4
+enum-told-4 c = search needs
+
+returns-4 : tie.Need-returns-4
+returns-4 c = object-no-z _ (kind-is (c .before .before .before .before .before .before .before .before .before .before .before .before)) (x-is (c .before .before .before .before .before .before .before .before)) (y-is (c .before .before .before .before)) (by-signed 4 half32 refl _ toldS32 (c .before .before .s32-at3 .ensures) (c .enum-told4 .given .1))
+
+counted16-at-requires : tie.Need-counted16-at-requires
+counted16-at-requires c κs = search needs
+
+enum-known-p : tie.Need-enum-known-p
+enum-known-p c = search needs
+
+add-t20 : tie.Need-add-t20
+add-t20 c =
+    let s = now (c .before .before .before .before .before .before .before .before .before .before .before .before .before .before .before .before .before .before .before .before .before .args .s) in
+    omega (arith, told-behind (counted 2) 13 s (by-counted 2 (drop 13 s) (toldCounted 2 (drop 13 s)) (c .before .before .before .counted16-at .ensures) (c .before .p .given .1)) (read-behind s32 9 s (z-is (c .before .before .before .before .before)) (lit< tt)))
+
+enum-known-n : tie.Need-enum-known-n
+enum-known-n c = search needs
+
+add-t22 : tie.Need-add-t22
+add-t22 c =
+    let s = now (c .before .before .before .before .before .before .before .before .before .before .before .before .before .before .before .before .before .before .before .before .before .args .s) in
+    omega (arith, told-behind (counted 2) 13 s (by-counted 2 (drop 13 s) (toldCounted 2 (drop 13 s)) (c .before .before .before .counted16-at .ensures) (c .before .n .given .1)) (read-behind s32 9 s (z-is (c .before .before .before .before .before)) (lit< tt)))
+
+returns-5 : tie.Need-returns-5
+returns-5 c = object-no-content _ (kind-is (c .before .before .before .before .before .before .before .before .before .before .before .before .before .before .before .before .before)) (x-is (c .before .before .before .before .before .before .before .before .before .before .before .before .before)) (y-is (c .before .before .before .before .before .before .before .before .before)) (z-is (c .before .before .before .before .before)) (by-counted 2 _ (toldCounted 2 _) (c .before .before .before .counted16-at .ensures) (c .before .p .given .1))
+
+returns-6 : tie.Need-returns-6
+returns-6 c =
+    rw (toZ-ofZ w32 _ (record { sfits = c .before .before .before .before .before .before .before .before .before .before .before .before .known-told2 .given .0 .1 }), toZ-ofZ w32 _ (record { sfits = c .before .before .before .before .before .before .before .before .known-told3 .given .0 .1 }), toZ-ofZ w32 _ (record { sfits = c .before .before .before .before .known-told4 .given .0 .1 }))
+    (object-done _ (kind-is (c .before .before .before .before .before .before .before .before .before .before .before .before .before .before .before .before .before)) (x-is (c .before .before .before .before .before .before .before .before .before .before .before .before .before)) (y-is (c .before .before .before .before .before .before .before .before .before)) (z-is (c .before .before .before .before .before)) (by-counted 2 _ (toldCounted 2 _) (c .before .before .before .counted16-at .ensures) (c .before .n .given .1)))
+
+pub object-row-spec : {M : Type 1} → statement M
+object-row-spec =
+    tie.close
+    (tie.spec
+    u8-at-requires
+    enum-known-kind
+    enum-told
+    returns
+    s32-at-requires
+    enum-known-x
+    enum-told-2
+    returns-2
+    s32-at-requires-2
+    enum-known-y
+    enum-told-3
+    returns-3
+    s32-at-requires-3
+    enum-known-z
+    enum-told-4
+    returns-4
+    counted16-at-requires
+    enum-known-p
+    add-t20
+    enum-known-n
+    add-t22
+    returns-5
+    returns-6)

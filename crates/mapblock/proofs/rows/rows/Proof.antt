@@ -1,0 +1,92 @@
+-- The invariant: what is left to read, after the rows read so far, is the answer asked, and the table marks their positions.
+use borrow.Author.Needs.{needs}
+use mathlib.Core.Path.{_≡_}
+use native.Mathlib.Omega.{arith}
+use denote.Ref.{now}
+use Rattle.wire.specs.Read.{done, refused}
+use Rattle.mapblock.specs.Kinds.{rowAfter}
+use Rattle.mapblock.specs.Told.{ended}
+use Rattle.mapblock.proofs.Readings.{reading-inside, reading-place, reading-end, reading-refused}
+use Rattle.mapblock.proofs.RowLists.{Walk, walk-start, walk-told, walk-on}
+use Rattle.mapblock.proofs.rows.rows.Statement.{statement}
+use Rattle.mapblock.proofs.rows.rows.Tie as tie
+
+abbrev Inv-loop : tie.InvT-loop
+Inv-loop kind version s count marks₀ rest₀ at₀ left₀ marks rest at left = Walk kind version count s rest marks at left
+
+abbrev μ-loop : tie.MeasureT-loop
+μ-loop kind version s count marks₀ rest₀ at₀ left₀ marks rest at left = left
+
+-- the front row: refused, or read
+no-row : (c : tie.After-known-told Inv-loop μ-loop) → let l = c .before .before .before .before .before .before in
+    refused (c .before .f .given .0 .0) (c .before .f .given .0 .1 .0)
+    ≡ ended (rowAfter (l .before .before .args .kind) (l .before .before .args .version) (l .loop .inv .reading .seen) .read (now (l .loop .rest)))
+no-row c = walk-told (c .before .before .before .before .before .before .loop .inv) (c .before .before .before .row-after .ensures) (c .before .f .given .1)
+
+one-row : (c : tie.After-known-told2 Inv-loop μ-loop) → let l = c .before .before .before .before .before .before in
+    done tt (c .before .n .given .0 .0)
+    ≡ ended (rowAfter (l .before .before .args .kind) (l .before .before .args .version) (l .loop .inv .reading .seen) .read (now (l .loop .rest)))
+one-row c = walk-told (c .before .before .before .before .before .before .loop .inv) (c .before .before .before .row-after .ensures) (c .before .n .given .1)
+
+loop-holds : tie.Need-loop-holds Inv-loop μ-loop
+loop-holds c = walk-start _ _ _ _
+
+row-after-requires : tie.Need-row-after-requires Inv-loop μ-loop
+row-after-requires c κs = search needs
+
+enum-known-f : tie.Need-enum-known-f Inv-loop μ-loop
+enum-known-f c = search needs
+
+add-t15 : tie.Need-add-t15 Inv-loop μ-loop
+add-t15 c = omega (arith, reading-place (c .before .before .before .before .before .before .loop .inv .reading) (no-row c))
+
+returns : tie.Need-returns Inv-loop μ-loop
+returns c = reading-refused (c .before .before .before .before .before .before .loop .inv .reading) (omega arith) (no-row c)
+
+enum-known-n : tie.Need-enum-known-n Inv-loop μ-loop
+enum-known-n c = search needs
+
+sub-rest : tie.Need-sub-rest Inv-loop μ-loop
+sub-rest c = reading-inside (c .before .before .before .before .before .before .loop .inv .reading) (one-row c)
+
+part-rest-start : tie.Need-part-rest-start Inv-loop μ-loop
+part-rest-start c = reading-inside (c .before .before .before .before .before .before .loop .inv .reading) (one-row c)
+
+part-rest-end : tie.Need-part-rest-end Inv-loop μ-loop
+part-rest-end c = search needs
+
+add-at : tie.Need-add-at Inv-loop μ-loop
+add-at c = omega (arith, reading-place (c .before .before .before .before .before .before .before .loop .inv .reading) (one-row (c .before)))
+
+sub-left : tie.Need-sub-left Inv-loop μ-loop
+sub-left c = search needs
+
+loop-less : tie.Need-loop-less Inv-loop μ-loop
+loop-less c = search needs
+
+loop-again : tie.Need-loop-again Inv-loop μ-loop
+loop-again c = walk-on (c .before .before .before .before .before .before .before .loop .inv) (c .before .before .before .before .row-after .ensures) (c .before .before .n .given .1) (omega arith)
+
+returns-2 : tie.Need-returns-2 Inv-loop μ-loop
+returns-2 c = reading-end (c .before .loop .inv .reading) (omega arith)
+
+pub rows-spec : {M : Type 1} → statement M
+rows-spec =
+    tie.close
+    (tie.spec
+    Inv-loop
+    μ-loop
+    loop-holds
+    row-after-requires
+    enum-known-f
+    add-t15
+    returns
+    enum-known-n
+    sub-rest
+    part-rest-start
+    part-rest-end
+    add-at
+    sub-left
+    loop-less
+    loop-again
+    returns-2)

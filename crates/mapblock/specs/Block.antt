@@ -1,0 +1,125 @@
+-- A block: one record for all versions, its bytes, and the reader's verdict. Document 01, 'Block layout' and 'The numbers a call comes back with'.
+use Prim.Native.Nat.{ℕ, zero, suc, _+_, _*_, _/_}
+use mathlib.Core.Path.{_≡_, refl, ap₂, sym, subst⁻¹}
+use mathlib.Core.Option.{Option, some, none}
+use mathlib.Core.List.{List}
+use mathlib.Core.Bool.{Bool, true, false, not}
+use lib.Dec.{ltb, eqb}
+use lib.ListN.{length, getD}
+use Rattle.wire.specs.Choice.{pick}
+use Rattle.wire.specs.Read.{Read, done, refused, bind}
+use Rattle.wire.specs.Format.{nothing, along, _⨾_}
+use Rattle.wire.specs.Formats.{only}
+use Rattle.mapblock.specs.Inventory.{Form}
+use Rattle.mapblock.specs.Data.{Block, Opening, Saved, Timers, unsaved, untimed}
+use Rattle.mapblock.specs.Layout.{since, all, unmapped, saved, opening, front, rest, earlyTimers, lateTimers, Front, Rest, steps, width}
+use Rattle.mapblock.specs.declared.fault.Fault.{Fault}
+use Rattle.mapblock.specs.declared.fault.Fault.the-variants as fault
+
+-- ---- a block from what stands in its bytes, and back; n: the names stand in front, t: the timers stand at the end
+abbrev pub built : Bool → Bool → Front × Rest → Block
+built n t x =
+    let o = x .0 .0 in
+    let s = pick n (x .0 .1 .0) (x .1 .1 .1 .1 .0) in
+    let k = pick t (x .1 .1 .1 .1 .1) (x .1 .1 .0) in
+    record {
+      head = record { version = o .version; flags = o .flags; lighting = o .lighting; timestamp = s .timestamp; timer = k .byte };
+      names = s .names;
+      nodes = x .0 .1 .1;
+      metadata = x .1 .0;
+      objects = x .1 .1 .1 .0;
+      timers = k .rows;
+    }
+
+abbrev pub openingOf : Block → Opening
+openingOf b = record { version = b .head .version; flags = b .head .flags; lighting = b .head .lighting }
+
+abbrev pub savedOf : Block → Saved
+savedOf b = record { timestamp = b .head .timestamp; names = b .names }
+
+abbrev pub timersOf : Block → Timers
+timersOf b = record { byte = b .head .timer; rows = b .timers }
+
+abbrev pub pieces : Bool → Bool → Block → Front × Rest
+pieces n t b = (
+  (openingOf b, (pick n (savedOf b) unsaved, b .nodes)),
+  (b .metadata, (pick t untimed (timersOf b), (b .objects, (pick n unsaved (savedOf b), pick t (timersOf b) untimed)))),
+)
+
+pub built-pieces : (n t : Bool) (b : Block) → built n t (pieces n t b) ≡ b
+built-pieces true true b = refl
+built-pieces true false b = refl
+built-pieces false true b = refl
+built-pieces false false b = refl
+
+-- with other names and timers
+abbrev with4 : Front × Rest → Saved → Timers → Saved → Timers → Front × Rest
+with4 x a e s l = ((x .0 .0, (a, x .0 .1 .1)), (x .1 .0, (e, (x .1 .1 .1 .0, (s, l)))))
+
+slots : (n t : Bool) (x : Front × Rest) (f g : Form Saved) (e l : Form Timers)
+    → only n unsaved f .Ok (x .0 .1 .0) → only (not n) unsaved g .Ok (x .1 .1 .1 .1 .0)
+    → only (not t) untimed e .Ok (x .1 .1 .0) → only t untimed l .Ok (x .1 .1 .1 .1 .1) → pieces n t (built n t x) ≡ x
+unfolding nothing
+slots true true x f g e l h i j k = ap₂ (λ (e : Timers) (s : Saved). with4 x (x .0 .1 .0) e s (x .1 .1 .1 .1 .1)) (sym j) (sym i)
+slots true false x f g e l h i j k = ap₂ (λ (l : Timers) (s : Saved). with4 x (x .0 .1 .0) (x .1 .1 .0) s l) (sym k) (sym i)
+slots false true x f g e l h i j k = ap₂ (λ (e : Timers) (s : Saved). with4 x s e (x .1 .1 .1 .1 .0) (x .1 .1 .1 .1 .1)) (sym j) (sym h)
+slots false false x f g e l h i j k = ap₂ (λ (l : Timers) (s : Saved). with4 x s (x .1 .1 .0) (x .1 .1 .1 .1 .0) l) (sym k) (sym h)
+
+-- the names and the timers stand where the version has them
+abbrev pub blockFrom : Front × Rest → Block
+blockFrom x = built (since 29 (x .0 .0 .version)) (since 25 (x .0 .0 .version)) x
+
+abbrev pub piecesOf : Block → Front × Rest
+piecesOf b = pieces (since 29 (b .head .version)) (since 25 (b .head .version)) b
+
+module _ (free : ℕ → Bool) where
+  pub pieces-built : (x : Front × Rest) → steps free .Ok x → piecesOf (blockFrom x) ≡ x
+  unfolding steps front rest earlyTimers lateTimers _⨾_
+  pieces-built x h =
+      slots (since 29 (x .0 .0 .version)) (since 25 (x .0 .0 .version)) x (saved free) (saved free) _ _
+      (h .0 .1 .0) (h .1 .1 .1 .1 .0) (h .1 .1 .0) (h .1 .1 .1 .1 .1)
+
+  unfoldable pub block : Form Block
+  block =
+      along (λ b. steps free .Ok (piecesOf b)) blockFrom piecesOf (steps free)
+      (λ b h. (h, built-pieces (since 29 (b .head .version)) (since 25 (b .head .version)) b))
+      (λ x h. (subst⁻¹ (steps free .Ok) (pieces-built x h) h, pieces-built x h))
+
+-- ---- content ids
+abbrev pub contentId : ℕ → ℕ → ℕ → ℕ
+contentId v param0 param2 = pick (since 24 v) param0 (pick (ltb param0 128) param0 (16 * param0 + param2 / 16))
+
+-- of the node at an index
+abbrev pub idAt : Block → ℕ → ℕ
+idAt b i = contentId (b .head .version) (getD (b .nodes .param0) i 0) (getD (b .nodes .param2) i 0)
+
+-- where step 2 ends
+abbrev pub frontNamesEnd : Block → ℕ
+frontNamesEnd b = length (opening .encode (openingOf b)) + pick (since 29 (b .head .version)) (length (saved all .encode (savedOf b))) 0
+
+-- where the param lists stand, behind their two widths, and the param0 of a node
+abbrev pub listsAt : Block → ℕ
+listsAt b = frontNamesEnd b + 2
+
+abbrev pub param0At : Block → ℕ → ℕ
+param0At b i = listsAt b + width (b .head .version) * i
+
+-- ---- the last two rules
+module _ (free : ℕ → Bool) where
+  -- of so many nodes from an index on, the first whose id is not mapped
+  unfoldable pub strayFrom : Block → ℕ → ℕ → Option ℕ
+  strayFrom b zero i = none
+  strayFrom b (suc n) i = pick (unmapped free (b .names) (idAt b i)) (some i) (strayFrom b n (suc i))
+
+  abbrev pub stray : Block → Option ℕ
+  stray b = strayFrom b 4096 0
+
+  abbrev pub judged : Block → ℕ → Option ℕ → Read Fault Block
+  judged b n none = done b n
+  judged b n (some i) = refused fault.IdUnmapped (param0At b i)
+
+  -- fields in byte order, each judged when read; then 7; then 8
+  unfoldable pub verdict : List ℕ → Read Fault Block
+  verdict s =
+      bind (block free .read s) λ b n.
+      pick (eqb n (length s)) (judged b n (stray b)) (refused fault.BytesAfter n)

@@ -1,0 +1,134 @@
+-- A MapBlock as data: document 01, 'Block layout'. Each record holds its fields in the order in which they are written.
+use Prim.Native.Nat.{ℕ}
+use mathlib.Core.Path.{refl}
+use mathlib.Core.List.{List, []}
+use lib.IntN.{ℤ}
+use Rattle.wire.specs.Formats.{Shape}
+use Rattle.mapblock.specs.declared.head.Head.{Head}
+
+pub record NameRow : Type 0 where
+  pub id : ℕ
+  pub name : List ℕ
+
+-- a variable of a node's metadata; `hidden` is the private byte, 0 before version 28
+pub record Variable : Type 0 where
+  pub key : List ℕ
+  pub value : List ℕ
+  pub hidden : ℕ
+
+-- in version 22 type and content, from 23 on variables and inventory; the others are 0 and empty
+pub record MetadataRow : Type 0 where
+  pub position : ℕ
+  pub kind : ℕ
+  pub content : List ℕ
+  pub variables : List Variable
+  pub inventory : List ℕ
+
+-- a static object
+pub record ObjectRow : Type 0 where
+  pub kind : ℕ
+  pub x : ℤ
+  pub y : ℤ
+  pub z : ℤ
+  pub content : List ℕ
+
+pub record TimerRow : Type 0 where
+  pub position : ℕ
+  pub timeout : ℤ
+  pub elapsed : ℤ
+
+-- what a node has beside its name
+pub record Nodes : Type 0 where
+  pub param0 : List ℕ
+  pub param1 : List ℕ
+  pub param2 : List ℕ
+
+pub record Block : Type 0 where
+  pub head : Head
+  pub names : List NameRow
+  pub nodes : Nodes
+  pub metadata : List MetadataRow
+  pub objects : List ObjectRow
+  pub timers : List TimerRow
+
+-- ---- what stands together in the bytes
+-- step 1
+pub record Opening : Type 0 where
+  pub version : ℕ
+  pub flags : ℕ
+  pub lighting : ℕ
+
+-- step 7, and in version 29 step 2
+pub record Saved : Type 0 where
+  pub timestamp : ℕ
+  pub names : List NameRow
+
+-- the end of step 5, and step 8
+pub record Timers : Type 0 where
+  pub byte : ℕ
+  pub rows : List TimerRow
+
+-- where a version has none
+abbrev pub unsaved : Saved
+unsaved = record { timestamp = 0; names = [] }
+
+abbrev pub untimed : Timers
+untimed = record { byte = 0; rows = [] }
+
+-- ---- the records, from and to nested pairs
+abbrev pub nameParts : Shape (ℕ × List ℕ) NameRow
+nameParts = record { make = λ x. record { id = x .0; name = x .1 }; parts = λ r. (r .id, r .name); there = λ r. refl; back = λ x. refl }
+
+abbrev pub variableParts : Shape (List ℕ × (List ℕ × ℕ)) Variable
+variableParts = record {
+  make = λ x. record { key = x .0; value = x .1 .0; hidden = x .1 .1 };
+  parts = λ r. (r .key, (r .value, r .hidden));
+  there = λ r. refl;
+  back = λ x. refl;
+}
+
+abbrev pub metadataParts : Shape (ℕ × (ℕ × (List ℕ × (List Variable × List ℕ)))) MetadataRow
+metadataParts = record {
+  make = λ x. record { position = x .0; kind = x .1 .0; content = x .1 .1 .0; variables = x .1 .1 .1 .0; inventory = x .1 .1 .1 .1 };
+  parts = λ r. (r .position, (r .kind, (r .content, (r .variables, r .inventory))));
+  there = λ r. refl;
+  back = λ x. refl;
+}
+
+abbrev pub objectParts : Shape (ℕ × (ℤ × (ℤ × (ℤ × List ℕ)))) ObjectRow
+objectParts = record {
+  make = λ x. record { kind = x .0; x = x .1 .0; y = x .1 .1 .0; z = x .1 .1 .1 .0; content = x .1 .1 .1 .1 };
+  parts = λ r. (r .kind, (r .x, (r .y, (r .z, r .content))));
+  there = λ r. refl;
+  back = λ x. refl;
+}
+
+abbrev pub timerParts : Shape (ℕ × (ℤ × ℤ)) TimerRow
+timerParts = record {
+  make = λ x. record { position = x .0; timeout = x .1 .0; elapsed = x .1 .1 };
+  parts = λ r. (r .position, (r .timeout, r .elapsed));
+  there = λ r. refl;
+  back = λ x. refl;
+}
+
+abbrev pub nodeParts : Shape (List ℕ × (List ℕ × List ℕ)) Nodes
+nodeParts = record {
+  make = λ x. record { param0 = x .0; param1 = x .1 .0; param2 = x .1 .1 };
+  parts = λ r. (r .param0, (r .param1, r .param2));
+  there = λ r. refl;
+  back = λ x. refl;
+}
+
+abbrev pub openingParts : Shape (ℕ × (ℕ × ℕ)) Opening
+openingParts = record {
+  make = λ x. record { version = x .0; flags = x .1 .0; lighting = x .1 .1 };
+  parts = λ r. (r .version, (r .flags, r .lighting));
+  there = λ r. refl;
+  back = λ x. refl;
+}
+
+abbrev pub savedParts : Shape (ℕ × List NameRow) Saved
+savedParts = record { make = λ x. record { timestamp = x .0; names = x .1 }; parts = λ r. (r .timestamp, r .names); there = λ r. refl; back = λ x. refl }
+
+abbrev pub timersParts : Shape (ℕ × List TimerRow) Timers
+timersParts = record { make = λ x. record { byte = x .0; rows = x .1 }; parts = λ r. (r .byte, r .rows); there = λ r. refl; back = λ x. refl }

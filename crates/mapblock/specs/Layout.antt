@@ -1,0 +1,137 @@
+-- The block layout of document 01, straight down its eight steps, in the language of wire's Formats.
+use Prim.Native.Nat.{ℕ}
+use mathlib.Core.List.{List, [], _∷_}
+use mathlib.Core.Bool.{Bool, true, false, not, _&&_}
+use lib.Dec.{leb, eqb}
+use Rattle.wire.specs.Choice.{pick}
+use Rattle.wire.specs.Format.{Format, nothing, such, _⨾_}
+use Rattle.wire.specs.Formats.{_▹_, u8, u16, u32, s32, number, counted, listed, fixed, times, only, into}
+use Rattle.mapblock.specs.Inventory.{Form, inventory}
+use Rattle.mapblock.specs.Data.{NameRow, Variable, MetadataRow, ObjectRow, TimerRow, Nodes, Opening, Saved, Timers, unsaved, untimed, nameParts, variableParts, metadataParts, objectParts, timerParts, nodeParts, openingParts, savedParts, timersParts}
+use Rattle.mapblock.specs.declared.fault.Fault.the-variants as fault
+
+abbrev pub since : ℕ → ℕ → Bool
+since n v = leb n v
+
+abbrev pub before : ℕ → ℕ → Bool
+before n v = not (leb n v)
+
+-- ---- rows
+-- all but one
+abbrev pub without : ℕ → (ℕ → Bool) → ℕ → Bool
+without m free n = pick (eqb n m) false (free n)
+
+-- A number is unused where it was free before the list and no row of the list has it.
+unfoldable pub unused : {A : Type 0} → (A → ℕ) → (ℕ → Bool) → List A → ℕ → Bool
+unused key free [] = free
+unused key free (a ∷ l) = without (key a) (unused key free l)
+
+-- all numbers are free in a list of its own
+abbrev pub all : ℕ → Bool
+all n = true
+
+abbrev pub position : Form ℕ
+position = such (λ p. leb p 4095) fault.PositionAbove u16
+
+abbrev pub newPosition : {A : Type 0} → (A → ℕ) → List A → Form ℕ
+newPosition key seen = such (unused key all seen) fault.PositionTwice position
+
+abbrev pub unmapped : (ℕ → Bool) → List NameRow → ℕ → Bool
+unmapped = unused (λ (r : NameRow). r .id)
+
+unfoldable pub nameRow : (ℕ → Bool) → List NameRow → Form NameRow
+nameRow free seen = into nameParts
+    (such (unmapped free seen) fault.IdTwice u16  -- id
+    ▹ counted 2)  -- name
+
+unfoldable pub variable : ℕ → Form Variable
+variable v = into variableParts
+    (counted 2  -- key
+    ▹ counted 4  -- value
+    ▹ only (since 28 v) 0 (such (λ b. leb b 1) fault.PrivateByte u8))  -- private
+
+unfoldable pub metadataRow : ℕ → List MetadataRow → Form MetadataRow
+metadataRow v seen = into metadataParts
+    (newPosition (λ (r : MetadataRow). r .position) seen
+    ▹ only (before 23 v) 0 u16  -- type
+    ▹ only (before 23 v) [] (counted 2)  -- content
+    ▹ only (since 23 v) [] (listed 4 λ _. variable v)
+    ▹ only (since 23 v) [] inventory)
+
+unfoldable pub objectRow : Form ObjectRow
+objectRow = into objectParts
+    (u8  -- type
+    ▹ s32 ▹ s32 ▹ s32  -- x, y, z
+    ▹ counted 2)  -- content
+
+unfoldable pub timerRow : List TimerRow → Form TimerRow
+timerRow seen = into timerParts
+    (newPosition (λ (r : TimerRow). r .position) seen
+    ▹ s32 ▹ s32)  -- timeout, elapsed
+
+-- ---- lists
+-- timestamp and names; `free` are the ids that may be mapped, which are all in a block of its own
+unfoldable pub saved : (ℕ → Bool) → Form Saved
+saved free = into savedParts
+    (u32  -- timestamp
+    ▹ fixed 1 0 fault.MappingVersion (listed 2 (nameRow free)))
+
+abbrev pub width : ℕ → ℕ
+width v = pick (since 24 v) 2 1
+
+unfoldable pub params : ℕ → Form Nodes
+params v = into nodeParts
+    (times 4096 (number (width v))  -- param0
+    ▹ times 4096 u8  -- param1
+    ▹ times 4096 u8)  -- param2
+
+unfoldable pub nodes : ℕ → Form Nodes
+nodes v = fixed 1 (width v) fault.ContentWidth (fixed 1 2 fault.ParamsWidth (params v))
+
+unfoldable pub metadata : ℕ → Form (List MetadataRow)
+metadata v = fixed (pick (since 23 v) 1 2) (pick (since 28 v) 2 1) fault.MetadataVersion (listed 2 (metadataRow v))
+
+unfoldable pub objects : Form (List ObjectRow)
+objects = fixed 1 0 fault.ObjectVersion (listed 2 λ _. objectRow)
+
+-- behind the metadata: version 24's timer byte and rows, version 23's 0, else nothing
+unfoldable pub earlyTimers : ℕ → Form Timers
+earlyTimers v = only (before 25 v) untimed
+    (pick (since 24 v) (into timersParts (such (λ t. leb t 1) fault.TimerByte u8 ⨾ λ t. only (eqb t 1) [] (listed 2 timerRow)))
+    (pick (since 23 v) (fixed 1 0 fault.ByteOf23 (nothing untimed))
+    (nothing untimed)))
+
+-- at the end, from version 25
+unfoldable pub lateTimers : ℕ → Form Timers
+lateTimers v = only (since 25 v) untimed (into timersParts (nothing 0 ▹ fixed 1 10 fault.TimerRowLength (listed 2 timerRow)))
+
+-- ---- the eight steps
+unfoldable pub opening : Form Opening
+opening = into openingParts
+    (such (λ v. leb 22 v && leb v 29) fault.Version u8 ⨾ λ v.  -- 1. version
+    u8  --    flags
+    ▹ only (since 27 v) 65535 u16)  --    lighting
+
+-- up to the end of the node data
+abbrev pub Front : Type 0
+Front = Opening × (Saved × Nodes)
+
+unfoldable pub front : (ℕ → Bool) → Form Front
+front free = opening ⨾ λ o.
+    let v = o .version in
+    only (since 29 v) unsaved (saved free)  -- 2. timestamp and names
+    ▹ nodes v  -- 3. 4. widths, params
+
+abbrev pub Rest : Type 0
+Rest = List MetadataRow × (Timers × (List ObjectRow × (Saved × Timers)))
+
+unfoldable pub rest : (ℕ → Bool) → ℕ → Form Rest
+rest free v =
+    metadata v  -- 5. metadata
+    ▹ earlyTimers v  --    and what follows it
+    ▹ objects  -- 6. static objects
+    ▹ only (before 29 v) unsaved (saved free)  -- 7. timestamp and names
+    ▹ lateTimers v  -- 8. timers
+
+unfoldable pub steps : (ℕ → Bool) → Form (Front × Rest)
+steps free = front free ⨾ λ f. rest free (f .0 .version)

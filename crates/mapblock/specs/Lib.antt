@@ -1,0 +1,14 @@
+pub mod Data
+pub mod Inventory
+pub mod Layout
+pub mod Block
+pub mod Rows
+pub mod Sections
+pub mod Table
+pub mod Told
+pub mod Kinds
+pub mod Params
+pub mod Light
+pub mod Scan
+pub mod Numbers
+pub mod RowQuestions

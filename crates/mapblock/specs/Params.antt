@@ -1,0 +1,29 @@
+-- The param lists as bytes: what code that tests the bounds of a run once reads in them.
+use Prim.Native.Nat.{ℕ, zero, suc, _+_, _*_}
+use mathlib.Core.Option.{Option, some, none}
+use mathlib.Core.List.{List, [], _∷_}
+use lib.Dec.{eqb}
+use lib.ListN.{getD, take, drop}
+use Rattle.wire.specs.Choice.{pick}
+use Rattle.wire.specs.Bytes.{spelt}
+use Rattle.mapblock.specs.Data.{Nodes}
+use Rattle.mapblock.specs.Layout.{width}
+use Rattle.mapblock.specs.Block.{contentId}
+
+-- n entries of w bytes
+unfoldable pub entries : ℕ → ℕ → List ℕ → List ℕ
+entries w zero s = []
+entries w (suc n) s = spelt 0 (take w s) ∷ entries w n (drop w s)
+
+-- the three lists, param0 of w bytes each
+abbrev pub listsOf : ℕ → List ℕ → Nodes
+listsOf w s = record { param0 = entries w 4096 s; param1 = entries 1 4096 (drop (4096 * w) s); param2 = entries 1 4096 (drop (4096 * w + 4096) s) }
+
+-- the content id of the node at an index
+abbrev pub idIn : ℕ → List ℕ → ℕ → ℕ
+idIn v s i = contentId v (spelt 0 (take (width v) (drop (width v * i) s))) (getD s (4096 * width v + 4096 + i) 0)
+
+-- of so many nodes from an index on, the first whose id has no mark in the table
+unfoldable pub strayIn : ℕ → List ℕ → List ℕ → ℕ → ℕ → Option ℕ
+strayIn v s t zero i = none
+strayIn v s t (suc n) i = pick (eqb (getD t (idIn v s i) 0) 0) (some i) (strayIn v s t n (suc i))

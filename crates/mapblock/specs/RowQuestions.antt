@@ -1,0 +1,45 @@
+-- Rows from the front of a part: document 01, 'Reading, looking, writing' and 'Order'. The front row is judged alone, so never 5, 6 or 8.
+use Prim.Native.Nat.{ℕ}
+use mathlib.Core.List.{List, []}
+use mathlib.Core.Bool.{_&&_}
+use lib.Dec.{leb, eqb}
+use lib.ListN.{length, drop}
+use Rattle.wire.specs.Choice.{pick}
+use Rattle.wire.specs.Read.{Read, mapRead}
+use Rattle.wire.specs.Answer.{Answer, good, refusal, plain, versionOutside, noSuch}
+use Rattle.mapblock.specs.Layout.{all, nameRow, metadataRow, objectRow, timerRow}
+use Rattle.mapblock.specs.Numbers.{answerOf}
+use Rattle.mapblock.specs.Rows.{nameFields, metadataFields, objectFields, timerFields}
+use Rattle.mapblock.specs.Sections.{within}
+use Rattle.mapblock.specs.declared.fault.Fault.{Fault}
+use Rattle.mapblock.specs.declared.head.Part.{Part}
+use Rattle.mapblock.specs.declared.names.NameFields.{NameFields}
+use Rattle.mapblock.specs.declared.metadata.MetadataFields.{MetadataFields}
+use Rattle.mapblock.specs.declared.objects.ObjectFields.{ObjectFields}
+use Rattle.mapblock.specs.declared.timers.TimerFields.{TimerFields}
+
+-- 16 for an empty part, then what the reader says of the row
+abbrev pub frontRow : {A : Type 0} → List ℕ → Read Fault A → Answer (A × ℕ)
+frontRow s r = pick (eqb (length s) 0) (plain noSuch) (answerOf r)
+
+abbrev pub nameRowOf : List ℕ → Answer (NameFields × ℕ)
+nameRowOf s = frontRow s (mapRead nameFields (nameRow all [] .read s))
+
+-- 2 comes first
+abbrev pub metadataRowOf : ℕ → List ℕ → Answer (MetadataFields × ℕ)
+metadataRowOf v s = pick (leb 22 v && leb v 29) (frontRow s (mapRead (metadataFields v) (metadataRow v [] .read s))) (plain versionOutside)
+
+abbrev pub objectRowOf : List ℕ → Answer (ObjectFields × ℕ)
+objectRowOf s = frontRow s (mapRead objectFields (objectRow .read s))
+
+abbrev pub timerRowOf : List ℕ → Answer (TimerFields × ℕ)
+timerRowOf s = frontRow s (mapRead timerFields (timerRow [] .read s))
+
+-- A run of the row, and the rows behind it, as parts of what was given; empty when refused.
+abbrev pub runOf : {A : Type 0} → (A → Part) → List ℕ → Answer (A × ℕ) → List ℕ
+runOf run s (good x) = within s (run (x .0))
+runOf run s (refusal n r o) = []
+
+abbrev pub rowsBehind : {A : Type 0} → List ℕ → Answer (A × ℕ) → List ℕ
+rowsBehind s (good x) = drop (x .1) s
+rowsBehind s (refusal n r o) = []

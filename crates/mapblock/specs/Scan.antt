@@ -1,0 +1,137 @@
+-- What the scan knows on its way: its own promises, between its functions.
+use Prim.Native.Nat.{ℕ, _+_, _-_, _*_, _<_, _≤_}
+use mathlib.Core.Path.{_≡_}
+use mathlib.Core.List.{List}
+use mathlib.Core.Bool.{Bool}
+use lib.Dec.{eqb}
+use lib.ListN.{length, drop}
+use Rattle.wire.specs.Choice.{pick}
+use Rattle.wire.specs.Read.{Read, done, refused, onward}
+use Rattle.wire.specs.Formats.{_▹_}
+use Rattle.mapblock.specs.Inventory.{Form}
+use Rattle.mapblock.specs.Data.{MetadataRow, ObjectRow, Opening, Timers, Block}
+use Rattle.mapblock.specs.Layout.{since, all, width, unmapped, opening, saved, metadata, earlyTimers, objects, lateTimers, Front, front}
+use Rattle.mapblock.specs.Block.{block}
+use Rattle.mapblock.specs.Params.{listsOf}
+use Rattle.mapblock.specs.Rows.{part}
+use Rattle.mapblock.specs.Sections.{found}
+use Rattle.mapblock.specs.Table.{freeIn, Tabled, frontRows, NamesMarked}
+use Rattle.mapblock.specs.declared.fault.Fault.{Fault}
+use Rattle.mapblock.specs.declared.head.Part.{Part}
+use Rattle.mapblock.specs.declared.scan.OpeningFields.{OpeningFields}
+use Rattle.mapblock.specs.declared.scan.OpeningRead.{OpeningRead}
+use Rattle.mapblock.specs.declared.scan.OpeningRead.the-variants as openings
+use Rattle.mapblock.specs.declared.scan.FrontFields.{FrontFields}
+use Rattle.mapblock.specs.declared.scan.FrontRead.{FrontRead}
+use Rattle.mapblock.specs.declared.scan.FrontRead.the-variants as fronts
+use Rattle.mapblock.specs.declared.scan.MiddleFields.{MiddleFields}
+use Rattle.mapblock.specs.declared.scan.MiddleRead.{MiddleRead}
+use Rattle.mapblock.specs.declared.scan.MiddleRead.the-variants as middles
+use Rattle.mapblock.specs.declared.scan.Found.{Found}
+use Rattle.mapblock.specs.declared.scan.Judged.{Judged}
+use Rattle.mapblock.specs.declared.scan.Judged.the-variants as judgeds
+
+-- ---- step 1
+abbrev pub openingIs : OpeningFields → Opening
+openingIs o = record { version = o .version; flags = o .flags; lighting = o .lighting }
+
+abbrev pub toldOpening : OpeningRead → Read Fault Opening
+toldOpening (openings.Fields o n) = done (openingIs o) n
+toldOpening (openings.Refused f p) = refused f p
+
+-- ---- up to the node data
+-- the bytes of a timestamp with its names, in front or not
+abbrev pub savedLength : Bool → Front → ℕ
+savedLength b x = pick b (length (saved all .encode (x .1 .0))) 0
+
+-- the front was read; t is the table before, and u after
+pub record FrontIs (t u s : List ℕ) (w : FrontFields) : Type 0 where
+  pub x : Front
+  pub reads : front (freeIn t) .read s ≡ done x (w .end)
+  pub opened : x .0 ≡ record { version = w .version; flags = w .flags; lighting = w .lighting }
+  pub time : x .1 .0 .timestamp ≡ w .timestamp
+  pub count : length (x .1 .0 .names) ≡ w .count
+  pub at : w .lists ≡ length (opening .encode (x .0)) + savedLength (since 29 (w .version)) x + 2
+  pub nodes : x .1 .1 ≡ listsOf (width (w .version)) (drop (w .lists) s)
+  pub ends : w .end ≡ w .lists + (4096 * width (w .version) + 8192)
+  pub marked : NamesMarked t u (x .1 .0 .names)
+  pub rows : frontRows (w .count) (drop 11 s) ≡ x .1 .0 .names
+
+abbrev pub FrontTold : List ℕ → List ℕ → List ℕ → FrontRead → Type 0
+FrontTold t u s (fronts.Fields w) = FrontIs t u s w
+FrontTold t u s (fronts.Refused f p) = (front (freeIn t) .read s ≡ refused f p) × (u ≡ t)
+
+-- ---- metadata, what follows it, static objects
+abbrev pub MiddleRows : Type 0
+MiddleRows = List MetadataRow × (Timers × List ObjectRow)
+
+abbrev pub middle : ℕ → Form MiddleRows
+middle v = metadata v ▹ earlyTimers v ▹ objects
+
+pub record MiddleIs (v : ℕ) (s : List ℕ) (w : MiddleFields) : Type 0 where
+  pub x : MiddleRows
+  pub reads : middle v .read s ≡ done x (w .metadata + (w .early + w .objects))
+  pub first : w .metadata ≡ length (metadata v .encode (x .0))
+  pub second : w .early ≡ length (earlyTimers v .encode (x .1 .0))
+  pub third : w .objects ≡ length (objects .encode (x .1 .1))
+  pub timer : x .1 .0 .byte ≡ w .timer
+
+abbrev pub MiddleTold : ℕ → List ℕ → MiddleRead → Type 0
+MiddleTold v s (middles.Lists w) = MiddleIs v s w
+MiddleTold v s (middles.Refused f p) = middle v .read s ≡ refused f p
+
+-- ---- all but the late timers
+-- what stands in a list before its rows
+abbrev pub metadataHead : ℕ → ℕ
+metadataHead v = pick (since 23 v) 3 4
+
+abbrev pub earlyHead : MiddleFields → ℕ
+earlyHead m = pick (eqb (m .timer) 1) 3 (m .early)
+
+abbrev pub soFar : FrontFields → MiddleFields → ℕ → Part → Found
+soFar w m time names = record {
+  head = record { version = w .version; flags = w .flags; lighting = w .lighting; timestamp = time; timer = m .timer };
+  lists = w .lists;
+  sections = record {
+    names = names;
+    metadata = part (w .end + metadataHead (w .version)) (m .metadata - metadataHead (w .version));
+    objects = part (w .end + m .metadata + m .early + 3) (m .objects - 3);
+    timers = part (w .end + m .metadata + earlyHead m) (m .early - earlyHead m);
+  };
+}
+
+-- the lists hold their heads, and all is in reach
+pub record Sized (w : FrontFields) (m : MiddleFields) : Type 0 where
+  pub metadata : metadataHead (w .version) ≤ m .metadata
+  pub early : earlyHead m ≤ m .early
+  pub objects : 3 ≤ m .objects
+  pub fits : w .end + m .metadata + m .early + m .objects < 18446744073709551616
+
+-- with the late timers, which are the n bytes from a place on
+abbrev pub withLate : Found → ℕ → ℕ → Found
+withLate w at n = record {
+  head = w .head;
+  lists = w .lists;
+  sections = record {
+    names = w .sections .names;
+    metadata = w .sections .metadata;
+    objects = w .sections .objects;
+    timers = pick (since 25 (w .head .version)) (part (at + 3) (n - 3)) (w .sections .timers);
+  };
+}
+
+-- the block was read up to a place, where late timers may stand; t marks its names
+pub record Upto (free : ℕ → Bool) (s : List ℕ) (w : Found) (at : ℕ) (t : List ℕ) : Type 0 where
+  pub with : Timers → Block
+  pub reads : block free .read s ≡ onward at with (lateTimers (w .head .version) .read (drop at s))
+  pub shows : (k : Timers) (n : ℕ) → lateTimers (w .head .version) .read (drop at s) ≡ done k n → found (with k) ≡ withLate w at n
+  pub version : (k : Timers) → with k .head .version ≡ w .head .version
+  pub nodes : (k : Timers) → with k .nodes ≡ listsOf (width (w .head .version)) (drop (w .lists) s)
+  pub marked : (k : Timers) → Tabled 65536 (unmapped free (with k .names)) t
+  pub long : w .lists + (4096 * width (w .head .version) + 8192) ≤ at
+  pub inside : at ≤ length s
+
+-- ---- the whole
+abbrev pub toldScan : Judged → Read Fault Found
+toldScan (judgeds.Taken w n) = done w n
+toldScan (judgeds.Refused f p) = refused f p

@@ -1,0 +1,46 @@
+-- Tables of marks: a byte for each number, 0 where it is free.
+use Prim.Native.Nat.{ℕ, zero, suc, _<_}
+use mathlib.Core.Path.{_≡_}
+use mathlib.Core.List.{List, [], _∷_}
+use mathlib.Core.Bool.{Bool}
+use lib.Dec.{eqb}
+use lib.ListN.{length, getD, drop, set}
+use Rattle.wire.specs.Read.{Read, done, refused}
+use Rattle.mapblock.specs.Data.{NameRow, Saved}
+use Rattle.mapblock.specs.Layout.{all, unmapped, nameRow}
+use Rattle.mapblock.specs.declared.fault.Fault.{Fault}
+
+abbrev pub freeIn : List ℕ → ℕ → Bool
+freeIn t i = eqb (getD t i 0) 0
+
+-- the table of n numbers tells which are free
+pub record Tabled (n : ℕ) (free : ℕ → Bool) (t : List ℕ) : Type 0 where
+  pub size : length t ≡ n
+  pub tells : (i : ℕ) → i < n → free i ≡ freeIn t i
+
+-- the marks of the rows' ids taken off
+abbrev pub unmarked : List ℕ → List NameRow → List ℕ
+unmarked t [] = t
+unmarked t (r ∷ l) = unmarked (set t (r .id) 0) l
+
+abbrev pub rowThen : Read Fault NameRow → (ℕ → List NameRow) → List NameRow
+rowThen (done r n) next = r ∷ next n
+rowThen (refused e p) next = []
+
+-- the rows that can be read from the front, at most k
+unfoldable pub frontRows : ℕ → List ℕ → List NameRow
+frontRows zero s = []
+frontRows (suc k) s = rowThen (nameRow all [] .read s) (λ n. frontRows k (drop n s))
+
+-- The table u after names were read from the table t: it marks their ids beside those that t marks, and can be put back.
+pub record NamesMarked (t u : List ℕ) (names : List NameRow) : Type 0 where
+  pub tabled : Tabled 65536 (unmapped (freeIn t) names) u
+  pub undone : unmarked u names ≡ t
+
+abbrev pub RowsMarked : List ℕ → List ℕ → Read Fault (List NameRow) → Type 0
+RowsMarked t u (done l n) = NamesMarked t u l
+RowsMarked t u (refused e p) = u ≡ t
+
+abbrev pub SavedMarked : List ℕ → List ℕ → Read Fault Saved → Type 0
+SavedMarked t u (done x n) = NamesMarked t u (x .names)
+SavedMarked t u (refused e p) = u ≡ t

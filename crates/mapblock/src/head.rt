@@ -1,0 +1,27 @@
+// What a block's reader tells beside the lists: the head, and where things stand in the block. They cross to a host as they are.
+#[repr(C)]
+pub struct Head {
+    pub version: u8,
+    pub flags: u8,
+    // 65,535 under version 27.
+    pub lighting: u16,
+    pub timestamp: u32,
+    // The timer byte: 0 except in version 24.
+    pub timer: u8,
+}
+
+// A run of bytes in the caller's block.
+#[repr(C)]
+pub struct Part {
+    pub start: usize,
+    pub length: usize,
+}
+
+// The rows of each list, without its count.
+#[repr(C)]
+pub struct Sections {
+    pub names: Part,
+    pub metadata: Part,
+    pub objects: Part,
+    pub timers: Part,
+}

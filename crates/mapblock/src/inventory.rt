@@ -1,0 +1,25 @@
+// Inventories of metadata rows.
+use crate::fault::Fault;
+use crate::fault::Reach;
+use wire::marks::mark_at;
+ghost use mathlib.Core.Path.{_≡_};
+ghost use Rattle.mapblock.specs.Inventory.{inventory};
+ghost use Rattle.mapblock.specs.Told.{toldReach, ended};
+
+// An inventory at the front of a part: through the first line that is exactly the end line.
+pub(crate) fn inventory(s: &[u8]) -> Reach
+    ensures { λ r. ⌜ toldReach r ≡ ended (inventory .read (now (s .entry))) ⌝ }
+{
+    let mut p: usize = 0;
+    let mut fresh = true;
+    while p < s.len() {
+        if fresh {
+            if mark_at(s, p, b"EndInventory\n") {
+                return Reach::End(p + 13);
+            }
+        }
+        fresh = s[p] == 10;
+        p += 1;
+    }
+    Reach::Refused(Fault::Ends, 0)
+}

@@ -1,0 +1,10 @@
+// Lighting.
+ghost use mathlib.Core.Path.{_≡_};
+ghost use Rattle.mapblock.specs.Light.{lightCount};
+
+// How many of the low twelve bits are zero: the ones among them, taken from twelve.
+pub fn light_count(lighting: u16) -> u32
+    ensures { λ r. ⌜ r ≡ lightCount lighting ⌝ }
+{
+    12 - u16::count_ones(lighting & 4095)
+}

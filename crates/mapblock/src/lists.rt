@@ -1,0 +1,135 @@
+// The lists of a block that are neither names nor nodes: metadata, static objects, timers.
+use crate::fault::Fault;
+use crate::fault::Reach;
+use crate::rows::Kind;
+use crate::rows::listed;
+use wire::fields::U8;
+use wire::fields::U16;
+use wire::fields::u8_at;
+use wire::fields::u16_at;
+ghost use mathlib.Core.Path.{_≡_};
+ghost use Prim.Native.Nat.{_<_, _≤_};
+ghost use Rattle.wire.specs.Read.{mapRead};
+ghost use Rattle.wire.specs.Formats.{fixed, listed};
+ghost use Rattle.mapblock.specs.Kinds.{rowAfter};
+ghost use Rattle.mapblock.specs.Layout.{metadata, objects, earlyTimers, lateTimers};
+ghost use Rattle.mapblock.specs.Told.{toldReach, ended, toldEarly, timerByte};
+
+// Behind a byte that is fixed, a count and so many rows.
+fn fixed_list(kind: Kind, version: u8, s: &[u8], value: u8, fault: Fault) -> Reach
+    ensures { λ r. ⌜ toldReach r ≡ ended (fixed 1 value fault (listed 2 (rowAfter kind version)) .read (now (s .entry))) ⌝ }
+{
+    let U8::Value(v) = u8_at(s, 0) else {
+        return Reach::Refused(Fault::Ends, 0);
+    };
+    if v != value {
+        return Reach::Refused(fault, 0);
+    }
+    match listed(kind, version, &s[1..]) {
+        Reach::Refused(f, p) => Reach::Refused(f, 1 + p),
+        Reach::End(n) => Reach::End(1 + n),
+    }
+}
+
+// Version 22's list version is a u16.
+fn old_metadata(version: u8, s: &[u8]) -> Reach
+    requires { ⌜ version < 23 ⌝ }
+    ensures { λ r. ⌜ toldReach r ≡ ended (metadata version .read (now (s .entry))) ⌝ }
+{
+    let U16::Value(v) = u16_at(s, 0) else {
+        return Reach::Refused(Fault::Ends, 0);
+    };
+    if v != 1 {
+        return Reach::Refused(Fault::MetadataVersion, 0);
+    }
+    match listed(Kind::Metadata, version, &s[2..]) {
+        Reach::Refused(f, p) => Reach::Refused(f, 2 + p),
+        Reach::End(n) => Reach::End(2 + n),
+    }
+}
+
+pub(crate) fn metadata_list(version: u8, s: &[u8]) -> Reach
+    ensures { λ r. ⌜ toldReach r ≡ ended (metadata version .read (now (s .entry))) ⌝ }
+{
+    if version < 23 {
+        return old_metadata(version, s);
+    }
+    let list_version = if version < 28 { 1 } else { 2 };
+    fixed_list(
+        Kind::Metadata,
+        version,
+        s,
+        list_version,
+        Fault::MetadataVersion,
+    )
+}
+
+pub(crate) fn object_list(version: u8, s: &[u8]) -> Reach
+    ensures { λ r. ⌜ toldReach r ≡ ended (objects .read (now (s .entry))) ⌝ }
+{
+    fixed_list(Kind::Objects, version, s, 0, Fault::ObjectVersion)
+}
+
+// The timer byte and where what follows the metadata ends, or the fault and its place.
+pub enum EarlyRead {
+    Timers(u8, usize),
+    Refused(Fault, usize),
+}
+
+// Version 24's timer byte, 0 or 1, and with 1 a list of timers.
+fn timers_of_24(s: &[u8]) -> EarlyRead
+    ensures { λ r. ⌜ toldEarly r ≡ mapRead timerByte (earlyTimers 24 .read (now (s .entry))) ⌝ }
+{
+    let U8::Value(byte) = u8_at(s, 0) else {
+        return EarlyRead::Refused(Fault::Ends, 0);
+    };
+    if 1 < byte {
+        return EarlyRead::Refused(Fault::TimerByte, 0);
+    }
+    if byte == 0 {
+        return EarlyRead::Timers(0, 1);
+    }
+    match listed(Kind::Timers, 24, &s[1..]) {
+        Reach::Refused(f, p) => EarlyRead::Refused(f, 1 + p),
+        Reach::End(n) => EarlyRead::Timers(1, 1 + n),
+    }
+}
+
+// Version 23's byte.
+fn byte_of_23(s: &[u8]) -> EarlyRead
+    ensures { λ r. ⌜ toldEarly r ≡ mapRead timerByte (earlyTimers 23 .read (now (s .entry))) ⌝ }
+{
+    match u8_at(s, 0) {
+        U8::Ends => EarlyRead::Refused(Fault::Ends, 0),
+        U8::Value(byte) => {
+            if byte != 0 {
+                EarlyRead::Refused(Fault::ByteOf23, 0)
+            } else {
+                EarlyRead::Timers(0, 1)
+            }
+        }
+    }
+}
+
+// What follows the metadata.
+pub(crate) fn early_timers(version: u8, s: &[u8]) -> EarlyRead
+    ensures { λ r. ⌜ toldEarly r ≡ mapRead timerByte (earlyTimers version .read (now (s .entry))) ⌝ }
+{
+    if version == 24 {
+        return timers_of_24(s);
+    }
+    if version == 23 {
+        return byte_of_23(s);
+    }
+    EarlyRead::Timers(0, 0)
+}
+
+// The timers at the end, from version 25.
+pub(crate) fn late_timers(version: u8, s: &[u8]) -> Reach
+    ensures { λ r. ⌜ toldReach r ≡ ended (lateTimers version .read (now (s .entry))) ⌝ }
+{
+    if version < 25 {
+        return Reach::End(0);
+    }
+    fixed_list(Kind::Timers, version, s, 10, Fault::TimerRowLength)
+}

@@ -1,0 +1,180 @@
+// Rows of metadata.
+use crate::fault::Fault;
+use crate::fault::Reach;
+use crate::head::Part;
+use crate::inventory::inventory;
+use crate::positions::PositionRead;
+use crate::positions::position;
+use wire::fields::Counted;
+use wire::fields::U8;
+use wire::fields::U16;
+use wire::fields::U32;
+use wire::fields::counted16_at;
+use wire::fields::counted32_at;
+use wire::fields::u8_at;
+use wire::fields::u16_at;
+use wire::fields::u32_at;
+ghost use mathlib.Core.Path.{_≡_};
+ghost use mathlib.Core.List.{[]};
+ghost use Prim.Native.Nat.{_<_, _≤_};
+ghost use Rattle.wire.specs.Read.{done, mapRead};
+ghost use Rattle.wire.specs.Format.{items};
+ghost use Rattle.wire.specs.Formats.{_▹_, counted};
+ghost use Rattle.mapblock.specs.Layout.{variable, metadataRow, position};
+ghost use Rattle.mapblock.specs.Rows.{metadataFields};
+ghost use Rattle.mapblock.specs.Told.{toldReach, ended, toldMetadata};
+
+// A row's numbers, and where its runs stand in the part it was read from. Type and content are version 22's, the others stand from 23 on.
+pub struct MetadataFields {
+    pub position: u16,
+    pub kind: u16,
+    pub content: Part,
+    pub variables: u32,
+    pub rows: Part,
+    pub inventory: Part,
+}
+
+// The front row with its length, or the fault and its place.
+pub enum MetadataRead {
+    Row(MetadataFields, usize),
+    Refused(Fault, usize),
+}
+
+const NOWHERE: Part = Part {
+    start: 0,
+    length: 0,
+};
+
+// A variable's key and value at the front of a part.
+fn key_and_value(s: &[u8]) -> Reach
+    ensures { λ r. ⌜ toldReach r ≡ ended ((counted {ends = Fault.Ends} 2 ▹ counted 4) .read (now (s .entry))) ⌝ }
+{
+    match counted16_at(s, 0) {
+        Counted::Ends(p) => Reach::Refused(Fault::Ends, p),
+        Counted::Bytes(k) => match counted32_at(s, 2 + k) {
+            Counted::Ends(p) => Reach::Refused(Fault::Ends, 2 + k + p),
+            Counted::Bytes(n) => Reach::End(6 + k + n),
+        },
+    }
+}
+
+// One variable at the front of a part; from version 28 on the private byte follows its value.
+fn variable(version: u8, s: &[u8]) -> Reach
+    ensures { λ r. ⌜ toldReach r ≡ ended (variable version .read (now (s .entry))) ⌝ }
+{
+    let r = key_and_value(s);
+    let Reach::End(at) = r else {
+        return r;
+    };
+    if version < 28 {
+        return r;
+    }
+    match u8_at(s, at) {
+        U8::Ends => Reach::Refused(Fault::Ends, at),
+        U8::Value(private) => {
+            if 1 < private {
+                Reach::Refused(Fault::PrivateByte, at)
+            } else {
+                Reach::End(at + 1)
+            }
+        }
+    }
+}
+
+// So many variables. A count that the bytes cannot hold costs no more than the bytes that are there.
+fn variables(version: u8, s: &[u8], count: u32) -> Reach
+    ensures { λ r. ⌜ toldReach r ≡ ended (items (λ _. variable version) count .read (now (s .entry))) ⌝ }
+{
+    let mut rest = s;
+    let mut at: usize = 0;
+    let mut left = count;
+    while 0 < left {
+        match variable(version, rest) {
+            Reach::Refused(f, p) => {
+                return Reach::Refused(f, at + p);
+            }
+            Reach::End(n) => {
+                rest = &rest[n..];
+                at += n;
+                left -= 1;
+            }
+        }
+    }
+    Reach::End(at)
+}
+
+// Version 22's row behind its position: type and content.
+fn old_row(version: u8, at: u16, s: &[u8]) -> MetadataRead
+    requires { ⌜ (version < 23) × (position .read (now s) ≡ done at 2) ⌝ }
+    ensures { λ r. ⌜ toldMetadata r ≡ mapRead (metadataFields version) (metadataRow version [] .read (now (s .entry))) ⌝ }
+{
+    let U16::Value(kind) = u16_at(s, 2) else {
+        return MetadataRead::Refused(Fault::Ends, 2);
+    };
+    match counted16_at(s, 4) {
+        Counted::Ends(p) => MetadataRead::Refused(Fault::Ends, 4 + p),
+        Counted::Bytes(n) => {
+            let fields = MetadataFields {
+                position: at,
+                kind,
+                content: Part {
+                    start: 6,
+                    length: n,
+                },
+                variables: 0,
+                rows: NOWHERE,
+                inventory: NOWHERE,
+            };
+            MetadataRead::Row(fields, 6 + n)
+        }
+    }
+}
+
+// The row from version 23 on, behind its position: variables and an inventory.
+fn new_row(version: u8, at: u16, s: &[u8]) -> MetadataRead
+    requires { ⌜ (23 ≤ version) × (position .read (now s) ≡ done at 2) ⌝ }
+    ensures { λ r. ⌜ toldMetadata r ≡ mapRead (metadataFields version) (metadataRow version [] .read (now (s .entry))) ⌝ }
+{
+    let U32::Value(count) = u32_at(s, 2) else {
+        return MetadataRead::Refused(Fault::Ends, 2);
+    };
+    match variables(version, &s[6..], count) {
+        Reach::Refused(f, p) => MetadataRead::Refused(f, 6 + p),
+        Reach::End(n) => match inventory(&s[6 + n..]) {
+            Reach::Refused(f, p) => MetadataRead::Refused(f, 6 + n + p),
+            Reach::End(m) => {
+                let fields = MetadataFields {
+                    position: at,
+                    kind: 0,
+                    content: NOWHERE,
+                    variables: count,
+                    rows: Part {
+                        start: 6,
+                        length: n,
+                    },
+                    inventory: Part {
+                        start: 6 + n,
+                        length: m,
+                    },
+                };
+                MetadataRead::Row(fields, 6 + n + m)
+            }
+        },
+    }
+}
+
+// The row at the front of a part, judged alone.
+pub(crate) fn metadata_row(version: u8, s: &[u8]) -> MetadataRead
+    ensures { λ r. ⌜ toldMetadata r ≡ mapRead (metadataFields version) (metadataRow version [] .read (now (s .entry))) ⌝ }
+{
+    match position(s) {
+        PositionRead::Refused(f) => MetadataRead::Refused(f, 0),
+        PositionRead::At(p) => {
+            if version < 23 {
+                old_row(version, p, s)
+            } else {
+                new_row(version, p, s)
+            }
+        }
+    }
+}

@@ -1,0 +1,153 @@
+// Rows of names, and the timestamp that stands before them.
+use crate::fault::Fault;
+use crate::fault::Reach;
+use crate::head::Part;
+use wire::fields::Counted;
+use wire::fields::U8;
+use wire::fields::U16;
+use wire::fields::U32;
+use wire::fields::counted16_at;
+use wire::fields::u8_at;
+use wire::fields::u16_at;
+use wire::fields::u32_at;
+ghost use mathlib.Core.Path.{_≡_};
+ghost use mathlib.Core.List.{List, []};
+ghost use mathlib.Core.Bool.{Bool};
+ghost use Prim.Native.Nat.{ℕ};
+ghost use lib.ListN.{length};
+ghost use Rattle.wire.specs.Read.{mapRead};
+ghost use Rattle.wire.specs.Format.{items};
+ghost use Rattle.mapblock.specs.Data.{NameRow};
+ghost use Rattle.mapblock.specs.Layout.{all, nameRow, unmapped, saved};
+ghost use Rattle.mapblock.specs.Table.{freeIn, Tabled, unmarked, frontRows, RowsMarked, SavedMarked};
+ghost use Rattle.mapblock.specs.Rows.{nameFields};
+ghost use Rattle.mapblock.specs.Told.{toldReach, ended, toldName, toldSaved, shownSaved};
+
+// A row's numbers, and where its runs stand in the part it was read from.
+pub struct NameFields {
+    pub id: u16,
+    pub name: Part,
+}
+
+// The front row with its length, or the fault and its place.
+pub enum NameRead {
+    Row(NameFields, usize),
+    Refused(Fault, usize),
+}
+
+// The row at the front of a part, judged alone.
+pub(crate) fn name_row(s: &[u8]) -> NameRead
+    ensures { λ r. ⌜ toldName r ≡ mapRead nameFields (nameRow all [] .read (now (s .entry))) ⌝ }
+{
+    let U16::Value(id) = u16_at(s, 0) else {
+        return NameRead::Refused(Fault::Ends, 0);
+    };
+    match counted16_at(s, 2) {
+        Counted::Ends(p) => NameRead::Refused(Fault::Ends, 2 + p),
+        Counted::Bytes(n) => {
+            let name = Part {
+                start: 4,
+                length: n,
+            };
+            NameRead::Row(NameFields { id, name }, 4 + n)
+        }
+    }
+}
+
+// The row at the front of a part, after rows whose ids are marked.
+fn new_name_row(s: &[u8], ids: &[u8; 65536]) -> NameRead
+    ensures { λ r. ⌜ ((free : ℕ → Bool) (seen : List NameRow) → Tabled 65536 (unmapped free seen) (now (ids .entry)) → toldName r ≡ mapRead nameFields (nameRow free seen .read (now (s .entry)))) ⌝ }
+{
+    match u16_at(s, 0) {
+        U16::Ends => NameRead::Refused(Fault::Ends, 0),
+        U16::Value(id) => {
+            if ids[id as usize] != 0 {
+                NameRead::Refused(Fault::IdTwice, 0)
+            } else {
+                name_row(s)
+            }
+        }
+    }
+}
+
+// Takes the marks of so many rows off the table.
+pub(crate) fn unmark(s: &[u8], count: u16, ids: &mut [u8; 65536])
+    ensures { λ _. ⌜ now (ids .exit) ≡ unmarked (now (ids .entry)) (frontRows count (now (s .entry))) ⌝ }
+{
+    let mut rest = s;
+    let mut left = count;
+    while 0 < left {
+        match name_row(rest) {
+            NameRead::Refused(_, _) => {
+                return;
+            }
+            NameRead::Row(row, n) => {
+                ids[row.id as usize] = 0;
+                rest = &rest[n..];
+                left -= 1;
+            }
+        }
+    }
+}
+
+// A table has the length that its type says; this says so to proofs, and does nothing.
+pub(crate) fn sized(ids: &[u8; 65536])
+    ensures { λ _. ⌜ length (now (ids .entry)) ≡ 65536 ⌝ }
+{
+    let _whole: &[u8] = ids;
+}
+
+// So many rows, whose ids are marked; on a refusal the table is as it was.
+fn name_rows(s: &[u8], count: u16, ids: &mut [u8; 65536]) -> Reach
+    ensures { λ r. ⌜ toldReach r ≡ ended (items (nameRow (freeIn (now (ids .entry)))) count .read (now (s .entry))) ⌝ }
+    ensures { λ r. ⌜ RowsMarked (now (ids .entry)) (now (ids .exit)) (items (nameRow (freeIn (now (ids .entry)))) count .read (now (s .entry))) ⌝ }
+{
+    sized(ids);
+    let mut rest = s;
+    let mut at: usize = 0;
+    let mut left = count;
+    while 0 < left {
+        match new_name_row(rest, ids) {
+            NameRead::Refused(f, p) => {
+                unmark(s, count - left, ids);
+                return Reach::Refused(f, at + p);
+            }
+            NameRead::Row(row, n) => {
+                ids[row.id as usize] = 1;
+                rest = &rest[n..];
+                at += n;
+                left -= 1;
+            }
+        }
+    }
+    Reach::End(at)
+}
+
+// Timestamp, number of rows, which start at 7, and where they end; or the fault and its place.
+pub enum SavedRead {
+    Rows(u32, u16, usize),
+    Refused(Fault, usize),
+}
+
+// Timestamp and names; the ids are marked, and on a refusal the table is as it was.
+pub(crate) fn saved(s: &[u8], ids: &mut [u8; 65536]) -> SavedRead
+    ensures { λ r. ⌜ toldSaved r ≡ mapRead shownSaved (saved (freeIn (now (ids .entry))) .read (now (s .entry))) ⌝ }
+    ensures { λ r. ⌜ SavedMarked (now (ids .entry)) (now (ids .exit)) (saved (freeIn (now (ids .entry))) .read (now (s .entry))) ⌝ }
+{
+    let U32::Value(timestamp) = u32_at(s, 0) else {
+        return SavedRead::Refused(Fault::Ends, 0);
+    };
+    let U8::Value(zero) = u8_at(s, 4) else {
+        return SavedRead::Refused(Fault::Ends, 4);
+    };
+    if zero != 0 {
+        return SavedRead::Refused(Fault::MappingVersion, 4);
+    }
+    let U16::Value(count) = u16_at(s, 5) else {
+        return SavedRead::Refused(Fault::Ends, 5);
+    };
+    match name_rows(&s[7..], count, ids) {
+        Reach::Refused(f, p) => SavedRead::Refused(f, 7 + p),
+        Reach::End(n) => SavedRead::Rows(timestamp, count, 7 + n),
+    }
+}

@@ -1,0 +1,137 @@
+// Node data: the widths, the three param lists, and content ids.
+use crate::fault::Fault;
+use crate::fault::Reach;
+use wire::fields::U8;
+use wire::fields::u8_at;
+use wire::store::put_bytes;
+ghost use mathlib.Core.Path.{_≡_};
+ghost use Prim.Native.Nat.{_+_, _*_, _<_, _≤_};
+ghost use lib.ListN.{length, drop};
+ghost use Rattle.mapblock.specs.Layout.{nodes, params, width};
+ghost use Rattle.mapblock.specs.Params.{entries, idIn, strayIn};
+ghost use Rattle.mapblock.specs.Told.{toldReach, ended, toldStray};
+
+// How many nodes a block has.
+pub const NODES: usize = 4096;
+
+// The bytes of a param0.
+pub(crate) fn width(version: u8) -> usize
+    ensures { λ r. ⌜ r ≡ width version ⌝ }
+{
+    if version < 24 { 1 } else { 2 }
+}
+
+// The three lists: their bounds are tested once. In a list that is cut short the place is the first entry that is not whole.
+fn params(version: u8, s: &[u8]) -> Reach
+    ensures { λ r. ⌜ toldReach r ≡ ended (params version .read (now (s .entry))) ⌝ }
+{
+    let w = width(version);
+    if s.len() < NODES * w {
+        return Reach::Refused(Fault::Ends, s.len() / w * w);
+    }
+    if s.len() < NODES * w + 2 * NODES {
+        return Reach::Refused(Fault::Ends, s.len());
+    }
+    Reach::End(NODES * w + 2 * NODES)
+}
+
+// The two widths, and the lists behind them.
+pub(crate) fn node_data(version: u8, s: &[u8]) -> Reach
+    ensures { λ r. ⌜ toldReach r ≡ ended (nodes version .read (now (s .entry))) ⌝ }
+{
+    let U8::Value(content) = u8_at(s, 0) else {
+        return Reach::Refused(Fault::Ends, 0);
+    };
+    if content as usize != width(version) {
+        return Reach::Refused(Fault::ContentWidth, 0);
+    }
+    let U8::Value(two) = u8_at(s, 1) else {
+        return Reach::Refused(Fault::Ends, 1);
+    };
+    if two != 2 {
+        return Reach::Refused(Fault::ParamsWidth, 1);
+    }
+    match params(version, &s[2..]) {
+        Reach::Refused(f, p) => Reach::Refused(f, 2 + p),
+        Reach::End(n) => Reach::End(2 + n),
+    }
+}
+
+// The content id of the node at an index, from the lists' bytes.
+pub(crate) fn id_in(version: u8, s: &[u8], i: usize) -> usize
+    requires { ⌜ (i < 4096) × (4096 * width version + 8192 ≤ length (now s)) ⌝ }
+    ensures { λ r. ⌜ r ≡ idIn version (now (s .entry)) i ⌝ }
+    ensures { λ r. ⌜ r < 65536 ⌝ }
+{
+    if 24 <= version {
+        return s[2 * i] as usize * 256 + s[2 * i + 1] as usize;
+    }
+    let param0 = s[i] as usize;
+    if param0 < 128 {
+        param0
+    } else {
+        16 * param0 + s[2 * NODES + i] as usize / 16
+    }
+}
+
+pub enum Stray {
+    None,
+    At(usize),
+}
+
+// The first node whose content id is not marked as mapped.
+pub(crate) fn first_stray(version: u8, s: &[u8], ids: &[u8; 65536]) -> Stray
+    requires { ⌜ 4096 * width version + 8192 ≤ length (now s) ⌝ }
+    ensures { λ r. ⌜ toldStray r ≡ strayIn version (now (s .entry)) (now (ids .entry)) 4096 0 ⌝ }
+{
+    let mut i: usize = 0;
+    while i < NODES {
+        if ids[id_in(version, s, i)] == 0 {
+            return Stray::At(i);
+        }
+        i += 1;
+    }
+    Stray::None
+}
+
+// The entries of two bytes at the front, into a lent list.
+fn fill16(s: &[u8], out: &mut [u16])
+    requires { ⌜ 2 * length (now out) ≤ length (now s) ⌝ }
+    ensures { λ _. ⌜ now (out .exit) ≡ entries 2 (length (now (out .entry))) (now (s .entry)) ⌝ }
+{
+    let mut i: usize = 0;
+    while i < out.len() {
+        out[i] = s[2 * i] as u16 * 256 + s[2 * i + 1] as u16;
+        i += 1;
+    }
+}
+
+// The same of one byte.
+fn fill8(s: &[u8], out: &mut [u16])
+    requires { ⌜ length (now out) ≤ length (now s) ⌝ }
+    ensures { λ _. ⌜ now (out .exit) ≡ entries 1 (length (now (out .entry))) (now (s .entry)) ⌝ }
+{
+    let mut i: usize = 0;
+    while i < out.len() {
+        out[i] = s[i] as u16;
+        i += 1;
+    }
+}
+
+// The lists' bytes into three lent lists.
+pub(crate) fn fill(version: u8, s: &[u8], param0: &mut [u16], param1: &mut [u8], param2: &mut [u8])
+    requires { ⌜ 4096 * width version + 8192 ≤ length (now s) ⌝ }
+    requires { ⌜ (length (now param0) ≡ 4096) × (length (now param1) ≡ 4096) × (length (now param2) ≡ 4096) ⌝ }
+    ensures { λ _. ⌜ now (param0 .exit) ≡ entries (width version) 4096 (now (s .entry)) ⌝ }
+    ensures { λ _. ⌜ now (param1 .exit) ≡ entries 1 4096 (drop (4096 * width version) (now (s .entry))) ⌝ }
+    ensures { λ _. ⌜ now (param2 .exit) ≡ entries 1 4096 (drop (4096 * width version + 4096) (now (s .entry))) ⌝ }
+{
+    let w = width(version);
+    if version < 24 {
+        fill8(s, param0);
+    } else {
+        fill16(s, param0);
+    }
+    put_bytes(param1, 0, &s[NODES * w..NODES * w + NODES]);
+    put_bytes(param2, 0, &s[NODES * w + NODES..NODES * w + 2 * NODES]);
+}

@@ -1,0 +1,66 @@
+// Rows of static objects.
+use crate::fault::Fault;
+use crate::head::Part;
+use wire::fields::Counted;
+use wire::fields::S32;
+use wire::fields::U8;
+use wire::fields::counted16_at;
+use wire::fields::s32_at;
+use wire::fields::u8_at;
+ghost use mathlib.Core.Path.{_≡_};
+ghost use Rattle.wire.specs.Read.{mapRead};
+ghost use Rattle.mapblock.specs.Layout.{objectRow};
+ghost use Rattle.mapblock.specs.Rows.{objectFields};
+ghost use Rattle.mapblock.specs.Told.{toldObject};
+
+// A row's numbers, and where its content stands in the part it was read from.
+pub struct ObjectFields {
+    pub kind: u8,
+    pub x: i32,
+    pub y: i32,
+    pub z: i32,
+    pub content: Part,
+}
+
+// The front row with its length, or the fault and its place.
+pub enum ObjectRead {
+    Row(ObjectFields, usize),
+    Refused(Fault, usize),
+}
+
+// The row at the front of a part.
+pub(crate) fn object_row(s: &[u8]) -> ObjectRead
+    ensures { λ r. ⌜ toldObject r ≡ mapRead objectFields (objectRow .read (now (s .entry))) ⌝ }
+{
+    let U8::Value(kind) = u8_at(s, 0) else {
+        return ObjectRead::Refused(Fault::Ends, 0);
+    };
+    let S32::Value(x) = s32_at(s, 1) else {
+        return ObjectRead::Refused(Fault::Ends, 1);
+    };
+    let S32::Value(y) = s32_at(s, 5) else {
+        return ObjectRead::Refused(Fault::Ends, 5);
+    };
+    let S32::Value(z) = s32_at(s, 9) else {
+        return ObjectRead::Refused(Fault::Ends, 9);
+    };
+    match counted16_at(s, 13) {
+        Counted::Ends(p) => ObjectRead::Refused(Fault::Ends, 13 + p),
+        Counted::Bytes(n) => {
+            let content = Part {
+                start: 15,
+                length: n,
+            };
+            ObjectRead::Row(
+                ObjectFields {
+                    kind,
+                    x,
+                    y,
+                    z,
+                    content,
+                },
+                15 + n,
+            )
+        }
+    }
+}

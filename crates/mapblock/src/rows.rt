@@ -1,0 +1,94 @@
+// Counted lists of rows: one loop for metadata, static objects and timers. Names have a table of their own.
+use crate::fault::Fault;
+use crate::fault::Reach;
+use crate::metadata::MetadataRead;
+use crate::metadata::metadata_row;
+use crate::objects::ObjectRead;
+use crate::objects::object_row;
+use crate::positions::PositionRead;
+use crate::positions::new_position;
+use crate::timers::TimerRead;
+use crate::timers::timer_row;
+use wire::fields::U16;
+use wire::fields::u16_at;
+ghost use mathlib.Core.Path.{_≡_};
+ghost use mathlib.Core.List.{[]};
+ghost use Rattle.wire.specs.Format.{items};
+ghost use Rattle.wire.specs.Formats.{listed};
+ghost use Rattle.mapblock.specs.Kinds.{rowAfter, RowMarked};
+ghost use Rattle.mapblock.specs.Told.{toldReach, ended};
+
+pub enum Kind {
+    Metadata,
+    Objects,
+    Timers,
+}
+
+// The length of the front row, judged alone.
+fn row_alone(kind: Kind, version: u8, s: &[u8]) -> Reach
+    ensures { λ r. ⌜ toldReach r ≡ ended (rowAfter kind version [] .read (now (s .entry))) ⌝ }
+{
+    match kind {
+        Kind::Metadata => match metadata_row(version, s) {
+            MetadataRead::Row(_, n) => Reach::End(n),
+            MetadataRead::Refused(f, p) => Reach::Refused(f, p),
+        },
+        Kind::Objects => match object_row(s) {
+            ObjectRead::Row(_, n) => Reach::End(n),
+            ObjectRead::Refused(f, p) => Reach::Refused(f, p),
+        },
+        Kind::Timers => match timer_row(s) {
+            TimerRead::Row(_) => Reach::End(10),
+            TimerRead::Refused(f, p) => Reach::Refused(f, p),
+        },
+    }
+}
+
+// The same after rows whose positions are marked; its own position is marked too.
+fn row_after(kind: Kind, version: u8, s: &[u8], marks: &mut [u8; 4096]) -> Reach
+    ensures { λ r. ⌜ RowMarked kind version (now (s .entry)) (now (marks .entry)) (now (marks .exit)) r ⌝ }
+{
+    match kind {
+        Kind::Objects => row_alone(Kind::Objects, version, s),
+        _ => match new_position(s, marks) {
+            PositionRead::Refused(f) => Reach::Refused(f, 0),
+            PositionRead::At(_) => row_alone(kind, version, s),
+        },
+    }
+}
+
+// So many rows.
+fn rows(kind: Kind, version: u8, s: &[u8], count: u16) -> Reach
+    ensures { λ r. ⌜ toldReach r ≡ ended (items (rowAfter kind version) count .read (now (s .entry))) ⌝ }
+{
+    let mut marks = [0u8; 4096];
+    let mut rest = s;
+    let mut at: usize = 0;
+    let mut left = count;
+    while 0 < left {
+        match row_after(kind, version, rest, &mut marks) {
+            Reach::Refused(f, p) => {
+                return Reach::Refused(f, at + p);
+            }
+            Reach::End(n) => {
+                rest = &rest[n..];
+                at += n;
+                left -= 1;
+            }
+        }
+    }
+    Reach::End(at)
+}
+
+// A count and so many rows.
+pub(crate) fn listed(kind: Kind, version: u8, s: &[u8]) -> Reach
+    ensures { λ r. ⌜ toldReach r ≡ ended (listed 2 (rowAfter kind version) .read (now (s .entry))) ⌝ }
+{
+    let U16::Value(count) = u16_at(s, 0) else {
+        return Reach::Refused(Fault::Ends, 0);
+    };
+    match rows(kind, version, &s[2..], count) {
+        Reach::Refused(f, p) => Reach::Refused(f, 2 + p),
+        Reach::End(n) => Reach::End(2 + n),
+    }
+}

@@ -1,0 +1,46 @@
+// Rows of node timers.
+use crate::fault::Fault;
+use crate::positions::PositionRead;
+use crate::positions::position;
+use wire::fields::S32;
+use wire::fields::s32_at;
+ghost use mathlib.Core.Path.{_≡_};
+ghost use mathlib.Core.List.{[]};
+ghost use Rattle.wire.specs.Read.{mapRead};
+ghost use Rattle.mapblock.specs.Layout.{timerRow};
+ghost use Rattle.mapblock.specs.Rows.{timerFields};
+ghost use Rattle.mapblock.specs.Told.{toldTimer};
+
+pub struct TimerFields {
+    pub position: u16,
+    pub timeout: i32,
+    pub elapsed: i32,
+}
+
+// The front row, ten bytes long, or the fault and its place.
+pub enum TimerRead {
+    Row(TimerFields),
+    Refused(Fault, usize),
+}
+
+// The row at the front of a part, judged alone.
+pub(crate) fn timer_row(s: &[u8]) -> TimerRead
+    ensures { λ r. ⌜ toldTimer r ≡ mapRead timerFields (timerRow [] .read (now (s .entry))) ⌝ }
+{
+    match position(s) {
+        PositionRead::Refused(f) => TimerRead::Refused(f, 0),
+        PositionRead::At(position) => {
+            let S32::Value(timeout) = s32_at(s, 2) else {
+                return TimerRead::Refused(Fault::Ends, 2);
+            };
+            let S32::Value(elapsed) = s32_at(s, 6) else {
+                return TimerRead::Refused(Fault::Ends, 6);
+            };
+            TimerRead::Row(TimerFields {
+                position,
+                timeout,
+                elapsed,
+            })
+        }
+    }
+}
