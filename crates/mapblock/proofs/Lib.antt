@@ -7,8 +7,14 @@ pub mod Zeros
 pub mod Positioned
 pub mod NameRows
 pub mod NameLoop
+pub mod ListLengths
 pub mod SavedLists
 pub mod MetadataRows
 pub mod OtherRows
 pub mod RowLists
 pub mod Verdicts
+pub mod Uptos
+pub mod Keyed
+pub mod GoodRows
+pub mod ValidOk
+pub mod Taken

@@ -12,3 +12,5 @@ pub mod Light
 pub mod Scan
 pub mod Numbers
 pub mod RowQuestions
+pub mod Valid
+pub mod Theorems
