@@ -18,3 +18,4 @@ pub mod Keyed
 pub mod GoodRows
 pub mod ValidOk
 pub mod Taken
+pub mod SoFar
