@@ -12,6 +12,7 @@ pub mod SavedLists
 pub mod MetadataRows
 pub mod OtherRows
 pub mod RowLists
+pub mod Fronts
 pub mod Verdicts
 pub mod Uptos
 pub mod Keyed
@@ -19,3 +20,5 @@ pub mod GoodRows
 pub mod ValidOk
 pub mod Taken
 pub mod SoFar
+pub mod Endings
+pub mod Rests

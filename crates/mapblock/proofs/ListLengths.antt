@@ -26,7 +26,7 @@ use Rattle.mapblock.proofs.SavedLists.{read-length}
 use Rattle.mapblock.proofs.NameRows.{row-alone}
 
 -- ---- numbers, and lists behind a number that is fixed
-num-length : (k v : ℕ) → length (num k .encode v) ≡ k
+pub num-length : (k v : ℕ) → length (num k .encode v) ≡ k
 unfolding number along run
 num-length k v = spell-length k v
 

@@ -24,6 +24,7 @@ use Rattle.mapblock.specs.declared.scan.FrontFields.{FrontFields}
 use Rattle.mapblock.specs.declared.scan.MiddleFields.{MiddleFields}
 use Rattle.mapblock.specs.declared.scan.Found.{Found}
 use Rattle.mapblock.proofs.ListLengths.{then-parts, saved-same, saved-length, saved-rows-length, metadata-rows-length, objects-rows-length, AtEnd, early-none, early-length, early-rows, late-rows-length, late-none, late-byte}
+use Rattle.mapblock.proofs.Fronts.{opening-length}
 use Rattle.mapblock.proofs.Uptos.{withLateTimers, reads-new, reads-old}
 
 -- ---- equal field by field
@@ -43,15 +44,11 @@ head-is : (w : FrontFields) (a b c d : ℕ) → a ≡ b → c ≡ d → headOf w
 head-is w a b c d p q = rw (p, q)
 
 -- ---- short lists
-opening-new : (o : Opening) → 27 ≤ o .version → length (opening .encode o) ≡ 4
-unfolding opening along _⨾_ such number run
-opening-new o h = rw (le-leb 27 (o .version) h)
-
 early-empty : (v : ℕ) (k : Timers) → 25 ≤ v → length (earlyTimers v .encode k) ≡ 0
 unfolding earlyTimers nothing
 early-empty v k h = rw (le-leb 25 v h)
 
-module _ (t u s : List ℕ) (w : FrontFields) (m : MiddleFields) (F : FrontIs t u s w) (M : MiddleIs (w .version) (drop (w .end) s) m) (b : Bytes s) where
+module _ (t u s : List ℕ) (w : FrontFields) (F : FrontIs t u s w) where
   abbrev v : ℕ
   v = w .version
 
@@ -62,206 +59,219 @@ module _ (t u s : List ℕ) (w : FrontFields) (m : MiddleFields) (F : FrontIs t 
   abbrev x : Front
   x = pair o (F .x .1)
 
-  abbrev y : MiddleRows
-  y = M .x
-
-  abbrev middleEnd : ℕ
-  middleEnd = w .end + m .metadata + m .early + m .objects
-
   pub front-read : front (freeIn t) .read s ≡ done x (w .end)
   front-read = F .reads ∙ ap (λ (q : Opening). done (pair q (F .x .1)) (w .end)) (F .opened)
 
-  pub middle-inside : middleEnd ≤ length s
-  middle-inside = omega (arith, ends-in (middle v) (M .reads), length-drop (w .end) s, ends-in (front (freeIn t)) (F .reads))
+  module _ (m : MiddleFields) (M : MiddleIs (w .version) (drop (w .end) s) m) (b : Bytes s) where
+    abbrev y : MiddleRows
+    y = M .x
 
-  -- ---- lengths
-  abbrev A : ℕ
-  A = length (opening .encode o)
+    abbrev middleEnd : ℕ
+    middleEnd = w .end + m .metadata + m .early + m .objects
 
-  abbrev S : ℕ
-  S = length (saved all .encode (x .1 .0))
+    pub middle-inside : middleEnd ≤ length s
+    middle-inside = omega (arith, ends-in (middle v) (M .reads), length-drop (w .end) s, ends-in (front (freeIn t)) (F .reads))
 
-  abbrev N : ℕ
-  N = length (nodes v .encode (x .1 .1))
+    -- ---- lengths
+    abbrev A : ℕ
+    A = length (opening .encode o)
 
-  lists-at : w .lists ≡ A + pick (since 29 v) S 0 + 2
-  lists-at = rw (F .opened) at (F .at)
+    abbrev S : ℕ
+    S = length (saved all .encode (x .1 .0))
 
-  only-same : (c : Bool) → length (only c unsaved (saved (freeIn t)) .encode (x .1 .0)) ≡ pick c S 0
-  unfolding nothing
-  only-same true = ap (length {A = ℕ}) (saved-same (freeIn t) (x .1 .0))
-  only-same false = refl
+    abbrev N : ℕ
+    N = length (nodes v .encode (x .1 .1))
 
-  front-takes : w .end ≡ A + (pick (since 29 v) S 0 + N)
-  unfolding front _⨾_
-  front-takes = front (freeIn t) .backward s x (w .end) b front-read .ends ∙ rw (length-append, length-append, only-same (since 29 v))
+    lists-at : w .lists ≡ A + pick (since 29 v) S 0 + 2
+    lists-at = rw (F .opened) at (F .at)
 
-  -- the early timers that were read
-  early-parts : (i : ℕ) × (j : ℕ) × (earlyTimers v .read (drop i (drop (w .end) s)) ≡ done (y .1 .0) j)
-  early-parts =
-      let p = then-parts (metadata v) (λ _. earlyTimers v ▹ objects) (drop (w .end) s) (M .reads) in
-      let q = then-parts (earlyTimers v) (λ _. objects) (drop (p .0) (drop (w .end) s)) (p .3) in
-      (p .0, q .0, q .2)
+    only-same : (c : Bool) → length (only c unsaved (saved (freeIn t)) .encode (x .1 .0)) ≡ pick c S 0
+    unfolding nothing
+    only-same true = ap (length {A = ℕ}) (saved-same (freeIn t) (x .1 .0))
+    only-same false = refl
 
-  timer-none : 25 ≤ v → m .timer ≡ 0
-  timer-none h =
-      let p = early-parts in
-      let z : done untimed 0 ≡ done (y .1 .0) (p .1) = sym (early-none v _ h) ∙ p .2 in
-      let e : untimed ≡ y .1 .0 = cc in
-      sym (M .timer) ∙ ap (λ (k : Timers). k .byte) (sym e)
+    front-takes : w .end ≡ A + (pick (since 29 v) S 0 + N)
+    unfolding front _⨾_
+    front-takes = front (freeIn t) .backward s x (w .end) b front-read .ends ∙ rw (length-append, length-append, only-same (since 29 v))
 
-  metadata-part : (at n : ℕ) → at ≡ w .end → n ≡ length (encodeItems (metadataRow v) [] (y .0))
-      → part (at + length (metadata v .encode (y .0)) - n) n ≡ part (w .end + metadataHead v) (m .metadata - metadataHead v)
-  metadata-part at n p q =
-      let l = metadata-rows-length v (y .0) in
-      part-is _ _ _ _ (omega (arith, M .first)) (omega (arith, M .first))
+    -- the early timers that were read
+    early-parts : (i : ℕ) × (j : ℕ) × (earlyTimers v .read (drop i (drop (w .end) s)) ≡ done (y .1 .0) j)
+    early-parts =
+        let p = then-parts (metadata v) (λ _. earlyTimers v ▹ objects) (drop (w .end) s) (M .reads) in
+        let q = then-parts (earlyTimers v) (λ _. objects) (drop (p .0) (drop (w .end) s)) (p .3) in
+        (p .0, q .0, q .2)
 
-  objects-part : (at n : ℕ) → at ≡ w .end + m .metadata + m .early → n ≡ length (encodeItems (λ _. objectRow) [] (y .1 .1))
-      → part (at + length (objects .encode (y .1 .1)) - n) n ≡ part (w .end + m .metadata + m .early + 3) (m .objects - 3)
-  objects-part at n p q =
-      let l = objects-rows-length (y .1 .1) in
-      part-is _ _ _ _ (omega (arith, M .third)) (omega (arith, M .third))
+    timer-none : 25 ≤ v → m .timer ≡ 0
+    timer-none h =
+        let p = early-parts in
+        let z : done untimed 0 ≡ done (y .1 .0) (p .1) = sym (early-none v _ h) ∙ p .2 in
+        let e : untimed ≡ y .1 .0 = cc in
+        sym (M .timer) ∙ ap (λ (k : Timers). k .byte) (sym e)
 
-  late-part : (at end n : ℕ) (k : Timers) → 25 ≤ v → lateTimers v .read (drop at s) ≡ done k n → end ≡ at
-      → part (end + length (lateTimers v .encode k) - length (encodeItems timerRow [] (k .rows))) (length (encodeItems timerRow [] (k .rows))) ≡ part (at + 3) (n - 3)
-  late-part at end n k h r e =
-      let l = late-rows-length v k h in
-      let z = lateTimers v .backward (drop at s) k n (bytes-drop at s b) r .ends in
-      part-is _ _ _ _ (omega arith) (omega arith)
+    -- version 24's rows stand at the end of what follows the metadata
+    early-at-end : (length (encodeItems timerRow [] (y .1 .0 .rows)) ≡ m .early - earlyHead m) × (earlyHead m ≤ m .early)
+    early-at-end =
+        let p = early-parts in
+        let l = drop (p .0) (drop (w .end) s) in
+        let c : Bytes l = bytes-drop (p .0) (drop (w .end) s) (bytes-drop (w .end) s b) in
+        let j : p .1 ≡ m .early = early-length v l (p .2) c ∙ sym (M .second) in
+        let a : AtEnd (y .1 .0) (m .early) = rw j at (early-rows v l (p .2) c) in
+        subst (λ (q : ℕ). (length (encodeItems timerRow [] (y .1 .0 .rows)) ≡ m .early - pick (eqb q 1) 3 (m .early)) × (pick (eqb q 1) 3 (m .early) ≤ m .early)) (M .timer) a
 
-  -- ---- version 29
-  module _ (h : 29 ≤ v) where
-    abbrev foundNew : Found
-    foundNew = soFar w m (w .timestamp) (part (4 + 7) (w .lists - 6 - 7))
+    pub early-fits : earlyHead m ≤ m .early
+    early-fits = early-at-end .1
 
-    opens-four : A ≡ 4
-    opens-four = opening-new o (omega arith)
+    metadata-part : (at n : ℕ) → at ≡ w .end → n ≡ length (encodeItems (metadataRow v) [] (y .0))
+        → part (at + length (metadata v .encode (y .0)) - n) n ≡ part (w .end + metadataHead v) (m .metadata - metadataHead v)
+    metadata-part at n p q =
+        let l = metadata-rows-length v (y .0) in
+        part-is _ _ _ _ (omega (arith, M .first)) (omega (arith, M .first))
 
-    lists-new : w .lists ≡ A + S + 2
-    lists-new = rw (le-leb 29 v h) at lists-at
+    objects-part : (at n : ℕ) → at ≡ w .end + m .metadata + m .early → n ≡ length (encodeItems (λ _. objectRow) [] (y .1 .1))
+        → part (at + length (objects .encode (y .1 .1)) - n) n ≡ part (w .end + m .metadata + m .early + 3) (m .objects - 3)
+    objects-part at n p q =
+        let l = objects-rows-length (y .1 .1) in
+        part-is _ _ _ _ (omega (arith, M .third)) (omega (arith, M .third))
 
-    end-new : w .end ≡ A + (S + N)
-    end-new = rw (le-leb 29 v h) at front-takes
+    late-part : (at end n : ℕ) (k : Timers) → 25 ≤ v → lateTimers v .read (drop at s) ≡ done k n → end ≡ at
+        → part (end + length (lateTimers v .encode k) - length (encodeItems timerRow [] (k .rows))) (length (encodeItems timerRow [] (k .rows))) ≡ part (at + 3) (n - 3)
+    late-part at end n k h r e =
+        let l = late-rows-length v k h in
+        let z = lateTimers v .backward (drop at s) k n (bytes-drop at s b) r .ends in
+        part-is _ _ _ _ (omega arith) (omega arith)
 
-    shows-new : (k : Timers) (n : ℕ) → lateTimers v .read (drop middleEnd s) ≡ done k n
-        → found (withLateTimers (freeIn t) s front-read (M .reads) unsaved k) ≡ withLate foundNew middleEnd n
-    unfolding sections
-    shows-new k n r =
-        let h25 : 25 ≤ v = omega arith in
-        let rows = saved-rows-length (x .1 .0) in
-        let none = early-empty v (y .1 .0) h25 in
-        rw (le-leb 29 v h, le-leb 25 v h25)
-        (made-is _ _ _ _ _ _ _ _ _ _ _ _
-        (head-is w _ _ _ _ (F .time) (late-byte v (drop middleEnd s) h25 r ∙ sym (timer-none h25)))
-        (sym lists-new)
-        (part-is _ _ _ _ (omega (arith, lists-new, opens-four)) (omega (arith, lists-new, opens-four)))
-        (metadata-part _ _ (omega (arith, end-new)) refl)
-        (objects-part _ _ (omega (arith, end-new, M .first, M .second)) refl)
-        (late-part middleEnd _ n k h25 r (omega (arith, end-new, M .first, M .second, M .third))))
+    -- ---- version 29
+    module _ (h : 29 ≤ v) where
+      abbrev foundNew : Found
+      foundNew = soFar w m (w .timestamp) (part (4 + 7) (w .lists - 6 - 7))
 
-    marked-new : (k : Timers) → Tabled 65536 (unmapped (freeIn t) (withLateTimers (freeIn t) s front-read (M .reads) unsaved k .names)) u
-    marked-new k = rw (le-leb 29 v h) (F .marked .tabled)
+      opens-four : A ≡ 4
+      opens-four = opening-length o (omega arith)
 
-    pub upto-new : Upto (freeIn t) s foundNew middleEnd u
-    upto-new = record {
-      with = withLateTimers (freeIn t) s front-read (M .reads) unsaved;
-      reads = reads-new (freeIn t) s front-read (M .reads) middleEnd h (omega arith);
-      shows = shows-new;
-      version = λ k. refl;
-      nodes = λ k. F .nodes;
-      marked = marked-new;
-      long = omega (arith, F .ends);
-      inside = middle-inside;
-    }
+      lists-new : w .lists ≡ A + S + 2
+      lists-new = rw (le-leb 29 v h) at lists-at
 
-  -- ---- before version 29
-  module _ (h : v < 29) where
-    -- no names in front, so the table is as it was
-    no-front-names : F .x .1 .0 ≡ unsaved
-    unfolding front _⨾_ nothing
-    no-front-names = rw (lt-leb 29 v h) at (front (freeIn t) .backward s x (w .end) b front-read .ok .1 .0)
+      end-new : w .end ≡ A + (S + N)
+      end-new = rw (le-leb 29 v h) at front-takes
 
-    pub same-table : u ≡ t
-    same-table = rw no-front-names at (F .marked .undone)
+      pub names-room : 13 ≤ w .lists
+      names-room = omega (arith, lists-new, opens-four, saved-rows-length (x .1 .0))
 
-    lists-old : w .lists ≡ A + 0 + 2
-    lists-old = rw (lt-leb 29 v h) at lists-at
-
-    end-old : w .end ≡ A + (0 + N)
-    end-old = rw (lt-leb 29 v h) at front-takes
-
-    module _ (sv : Saved) (n : ℕ) (r : saved (freeIn t) .read (drop middleEnd s) ≡ done sv n) where
-      abbrev foundOld : Found
-      foundOld = soFar w m (sv .timestamp) (part (middleEnd + 7) (n - 7))
-
-      abbrev oldEnd : ℕ
-      oldEnd = middleEnd + n
-
-      saved-there : saved (freeIn t) .read (drop (w .end + (m .metadata + (m .early + m .objects))) s) ≡ done sv n
-      saved-there = let z : w .end + (m .metadata + (m .early + m .objects)) ≡ middleEnd = omega arith in rw z r
-
-      takes : n ≡ 7 + length (encodeItems (nameRow all) [] (sv .names))
-      takes = saved-length (freeIn t) (drop middleEnd s) r (bytes-drop middleEnd s b) ∙ saved-rows-length sv
-
-      saved-takes : n ≡ length (saved all .encode sv)
-      saved-takes = saved-length (freeIn t) (drop middleEnd s) r (bytes-drop middleEnd s b)
-
-      -- the timers of version 24
-      early-part : (at : ℕ) → v < 25 → at ≡ w .end + m .metadata
-          → part (at + length (earlyTimers v .encode (y .1 .0)) - length (encodeItems timerRow [] (y .1 .0 .rows))) (length (encodeItems timerRow [] (y .1 .0 .rows)))
-          ≡ part (w .end + m .metadata + earlyHead m) (m .early - earlyHead m)
-      early-part at l e =
-          let p = early-parts in
-          let z = early-rows v (drop (p .0) (drop (w .end) s)) (p .2) (bytes-drop (p .0) (drop (w .end) s) (bytes-drop (w .end) s b)) in
-          let j : p .1 ≡ m .early = early-length v (drop (p .0) (drop (w .end) s)) (p .2) (bytes-drop (p .0) (drop (w .end) s) (bytes-drop (w .end) s b)) ∙ sym (M .second) in
-          let a : AtEnd (y .1 .0) (m .early) = rw j at z in
-          let c = subst (λ (q : ℕ). (length (encodeItems timerRow [] (y .1 .0 .rows)) ≡ m .early - pick (eqb q 1) 3 (m .early)) × (pick (eqb q 1) 3 (m .early) ≤ m .early)) (M .timer) a in
-          part-is _ _ _ _ (omega (arith, M .second, c .0, c .1)) (c .0)
-
-      shows-late : 25 ≤ v → (k : Timers) (i : ℕ) → lateTimers v .read (drop oldEnd s) ≡ done k i
-          → found (withLateTimers (freeIn t) s front-read (M .reads) sv k) ≡ withLate foundOld oldEnd i
+      shows-new : (k : Timers) (n : ℕ) → lateTimers v .read (drop middleEnd s) ≡ done k n
+          → found (withLateTimers (freeIn t) s front-read (M .reads) unsaved k) ≡ withLate foundNew middleEnd n
       unfolding sections
-      shows-late h25 k i q =
+      shows-new k n r =
+          let h25 : 25 ≤ v = omega arith in
+          let rows = saved-rows-length (x .1 .0) in
           let none = early-empty v (y .1 .0) h25 in
-          rw (lt-leb 29 v h, le-leb 25 v h25)
+          rw (le-leb 29 v h, le-leb 25 v h25)
           (made-is _ _ _ _ _ _ _ _ _ _ _ _
-          (head-is w _ _ _ _ refl (late-byte v (drop oldEnd s) h25 q ∙ sym (timer-none h25)))
-          (sym lists-old)
-          (part-is _ _ _ _ (omega (arith, end-old, M .first, M .second, M .third, takes, saved-takes)) (omega (arith, takes)))
-          (metadata-part _ _ (omega (arith, end-old)) refl)
-          (objects-part _ _ (omega (arith, end-old, M .first, M .second)) refl)
-          (late-part oldEnd _ i k h25 q (omega (arith, end-old, M .first, M .second, M .third, saved-takes))))
+          (head-is w _ _ _ _ (F .time) (late-byte v (drop middleEnd s) h25 r ∙ sym (timer-none h25)))
+          (sym lists-new)
+          (part-is _ _ _ _ (omega (arith, lists-new, opens-four)) (omega (arith, lists-new, opens-four)))
+          (metadata-part _ _ (omega (arith, end-new)) refl)
+          (objects-part _ _ (omega (arith, end-new, M .first, M .second)) refl)
+          (late-part middleEnd _ n k h25 r (omega (arith, end-new, M .first, M .second, M .third))))
 
-      shows-early : v < 25 → (k : Timers) (i : ℕ) → lateTimers v .read (drop oldEnd s) ≡ done k i
-          → found (withLateTimers (freeIn t) s front-read (M .reads) sv k) ≡ withLate foundOld oldEnd i
-      unfolding sections
-      shows-early l k i q =
-          rw (lt-leb 29 v h, lt-leb 25 v l)
-          (made-is _ _ _ _ _ _ _ _ _ _ _ _
-          (head-is w _ _ _ _ refl (M .timer))
-          (sym lists-old)
-          (part-is _ _ _ _ (omega (arith, end-old, M .first, M .second, M .third, takes, saved-takes)) (omega (arith, takes)))
-          (metadata-part _ _ (omega (arith, end-old)) refl)
-          (objects-part _ _ (omega (arith, end-old, M .first, M .second)) refl)
-          (early-part _ l (omega (arith, end-old, M .first))))
+      marked-new : (k : Timers) → Tabled 65536 (unmapped (freeIn t) (withLateTimers (freeIn t) s front-read (M .reads) unsaved k .names)) u
+      marked-new k = rw (le-leb 29 v h) (F .marked .tabled)
 
-      shows-old : (c : Bool) → leb 25 v ≡ c → (k : Timers) (i : ℕ) → lateTimers v .read (drop oldEnd s) ≡ done k i
-          → found (withLateTimers (freeIn t) s front-read (M .reads) sv k) ≡ withLate foundOld oldEnd i
-      shows-old true e = shows-late (leb-true 25 v e)
-      shows-old false e = shows-early (leb-false 25 v e)
-
-      marked-old : (z : List ℕ) → NamesMarked t z (sv .names) → (k : Timers)
-          → Tabled 65536 (unmapped (freeIn t) (withLateTimers (freeIn t) s front-read (M .reads) sv k .names)) z
-      marked-old z g k = rw (lt-leb 29 v h) (g .tabled)
-
-      pub upto-old : (z : List ℕ) → NamesMarked t z (sv .names) → Upto (freeIn t) s foundOld oldEnd z
-      upto-old z g = record {
-        with = withLateTimers (freeIn t) s front-read (M .reads) sv;
-        reads = reads-old (freeIn t) s front-read (M .reads) oldEnd h saved-there (omega arith);
-        shows = shows-old (leb 25 v) refl;
+      pub upto-new : Upto (freeIn t) s foundNew middleEnd u
+      upto-new = record {
+        with = withLateTimers (freeIn t) s front-read (M .reads) unsaved;
+        reads = reads-new (freeIn t) s front-read (M .reads) middleEnd h (omega arith);
+        shows = shows-new;
         version = λ k. refl;
         nodes = λ k. F .nodes;
-        marked = marked-old z g;
+        marked = marked-new;
         long = omega (arith, F .ends);
-        inside = omega (arith, middle-inside, ends-in (saved (freeIn t)) r, length-drop middleEnd s);
+        inside = middle-inside;
       }
+
+    -- ---- before version 29
+    module _ (h : v < 29) where
+      -- no names in front, so the table is as it was
+      no-front-names : F .x .1 .0 ≡ unsaved
+      unfolding front _⨾_ nothing
+      no-front-names = rw (lt-leb 29 v h) at (front (freeIn t) .backward s x (w .end) b front-read .ok .1 .0)
+
+      pub same-table : u ≡ t
+      same-table = rw no-front-names at (F .marked .undone)
+
+      lists-old : w .lists ≡ A + 0 + 2
+      lists-old = rw (lt-leb 29 v h) at lists-at
+
+      end-old : w .end ≡ A + (0 + N)
+      end-old = rw (lt-leb 29 v h) at front-takes
+
+      module _ (sv : Saved) (n : ℕ) (r : saved (freeIn t) .read (drop middleEnd s) ≡ done sv n) where
+        abbrev foundOld : Found
+        foundOld = soFar w m (sv .timestamp) (part (middleEnd + 7) (n - 7))
+
+        abbrev oldEnd : ℕ
+        oldEnd = middleEnd + n
+
+        saved-there : saved (freeIn t) .read (drop (w .end + (m .metadata + (m .early + m .objects))) s) ≡ done sv n
+        saved-there = let z : w .end + (m .metadata + (m .early + m .objects)) ≡ middleEnd = omega arith in rw z r
+
+        takes : n ≡ 7 + length (encodeItems (nameRow all) [] (sv .names))
+        takes = saved-length (freeIn t) (drop middleEnd s) r (bytes-drop middleEnd s b) ∙ saved-rows-length sv
+
+        saved-takes : n ≡ length (saved all .encode sv)
+        saved-takes = saved-length (freeIn t) (drop middleEnd s) r (bytes-drop middleEnd s b)
+
+        -- the timers of version 24
+        early-part : (at : ℕ) → v < 25 → at ≡ w .end + m .metadata
+            → part (at + length (earlyTimers v .encode (y .1 .0)) - length (encodeItems timerRow [] (y .1 .0 .rows))) (length (encodeItems timerRow [] (y .1 .0 .rows)))
+            ≡ part (w .end + m .metadata + earlyHead m) (m .early - earlyHead m)
+        early-part at l e =
+            let c = early-at-end in
+            part-is _ _ _ _ (omega (arith, M .second, c .0, c .1)) (c .0)
+
+        shows-late : 25 ≤ v → (k : Timers) (i : ℕ) → lateTimers v .read (drop oldEnd s) ≡ done k i
+            → found (withLateTimers (freeIn t) s front-read (M .reads) sv k) ≡ withLate foundOld oldEnd i
+        unfolding sections
+        shows-late h25 k i q =
+            let none = early-empty v (y .1 .0) h25 in
+            rw (lt-leb 29 v h, le-leb 25 v h25)
+            (made-is _ _ _ _ _ _ _ _ _ _ _ _
+            (head-is w _ _ _ _ refl (late-byte v (drop oldEnd s) h25 q ∙ sym (timer-none h25)))
+            (sym lists-old)
+            (part-is _ _ _ _ (omega (arith, end-old, M .first, M .second, M .third, takes, saved-takes)) (omega (arith, takes)))
+            (metadata-part _ _ (omega (arith, end-old)) refl)
+            (objects-part _ _ (omega (arith, end-old, M .first, M .second)) refl)
+            (late-part oldEnd _ i k h25 q (omega (arith, end-old, M .first, M .second, M .third, saved-takes))))
+
+        shows-early : v < 25 → (k : Timers) (i : ℕ) → lateTimers v .read (drop oldEnd s) ≡ done k i
+            → found (withLateTimers (freeIn t) s front-read (M .reads) sv k) ≡ withLate foundOld oldEnd i
+        unfolding sections
+        shows-early l k i q =
+            rw (lt-leb 29 v h, lt-leb 25 v l)
+            (made-is _ _ _ _ _ _ _ _ _ _ _ _
+            (head-is w _ _ _ _ refl (M .timer))
+            (sym lists-old)
+            (part-is _ _ _ _ (omega (arith, end-old, M .first, M .second, M .third, takes, saved-takes)) (omega (arith, takes)))
+            (metadata-part _ _ (omega (arith, end-old)) refl)
+            (objects-part _ _ (omega (arith, end-old, M .first, M .second)) refl)
+            (early-part _ l (omega (arith, end-old, M .first))))
+
+        shows-old : (c : Bool) → leb 25 v ≡ c → (k : Timers) (i : ℕ) → lateTimers v .read (drop oldEnd s) ≡ done k i
+            → found (withLateTimers (freeIn t) s front-read (M .reads) sv k) ≡ withLate foundOld oldEnd i
+        shows-old true e = shows-late (leb-true 25 v e)
+        shows-old false e = shows-early (leb-false 25 v e)
+
+        marked-old : (z : List ℕ) → NamesMarked t z (sv .names) → (k : Timers)
+            → Tabled 65536 (unmapped (freeIn t) (withLateTimers (freeIn t) s front-read (M .reads) sv k .names)) z
+        marked-old z g k = rw (lt-leb 29 v h) (g .tabled)
+
+        pub upto-old : (z : List ℕ) → NamesMarked t z (sv .names) → Upto (freeIn t) s foundOld oldEnd z
+        upto-old z g = record {
+          with = withLateTimers (freeIn t) s front-read (M .reads) sv;
+          reads = reads-old (freeIn t) s front-read (M .reads) oldEnd h saved-there (omega arith);
+          shows = shows-old (leb 25 v) refl;
+          version = λ k. refl;
+          nodes = λ k. F .nodes;
+          marked = marked-old z g;
+          long = omega (arith, F .ends);
+          inside = omega (arith, middle-inside, ends-in (saved (freeIn t)) r, length-drop middleEnd s);
+        }

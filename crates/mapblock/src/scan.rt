@@ -1,8 +1,38 @@
 // One walk over a block judges it and tells where things are; reader, sections and node questions stand on it.
 use crate::fault::Fault;
+use crate::fault::Reach;
 use crate::head::Head;
 use crate::head::Part;
 use crate::head::Sections;
+use crate::lists::EarlyRead;
+use crate::lists::early_timers;
+use crate::lists::late_timers;
+use crate::lists::metadata_list;
+use crate::lists::object_list;
+use crate::names::SavedRead;
+use crate::names::saved;
+use crate::names::sized;
+use crate::names::unmark;
+use crate::nodes::Stray;
+use crate::nodes::first_stray;
+use crate::nodes::node_data;
+use crate::nodes::width;
+use wire::fields::U8;
+use wire::fields::U16;
+use wire::fields::u8_at;
+use wire::fields::u16_at;
+ghost use mathlib.Core.Path.{_≡_};
+ghost use mathlib.Core.List.{List};
+ghost use mathlib.Core.Bool.{Bool};
+ghost use Prim.Native.Nat.{ℕ, _+_, _-_, _<_, _≤_};
+ghost use lib.ListN.{length, drop};
+ghost use Rattle.wire.specs.Read.{done, mapRead};
+ghost use Rattle.mapblock.specs.Layout.{opening};
+ghost use Rattle.mapblock.specs.Block.{verdict};
+ghost use Rattle.mapblock.specs.Rows.{part};
+ghost use Rattle.mapblock.specs.Sections.{found};
+ghost use Rattle.mapblock.specs.Table.{freeIn};
+ghost use Rattle.mapblock.specs.Scan.{openingIs, toldOpening, FrontTold, FrontIs, MiddleTold, MiddleIs, metadataHead, earlyHead, Sized, soFar, withLate, Upto, toldScan};
 
 // ---- the front: head, the names of version 29, node data
 pub struct OpeningFields {
@@ -15,6 +45,45 @@ pub struct OpeningFields {
 pub enum OpeningRead {
     Fields(OpeningFields, usize),
     Refused(Fault, usize),
+}
+
+fn opening(s: &[u8]) -> OpeningRead
+    ensures { λ r. ⌜ toldOpening r ≡ opening .read (now (s .entry)) ⌝ }
+{
+    let U8::Value(version) = u8_at(s, 0) else {
+        return OpeningRead::Refused(Fault::Ends, 0);
+    };
+    if version < 22 {
+        return OpeningRead::Refused(Fault::Version, 0);
+    }
+    if 29 < version {
+        return OpeningRead::Refused(Fault::Version, 0);
+    }
+    let U8::Value(flags) = u8_at(s, 1) else {
+        return OpeningRead::Refused(Fault::Ends, 1);
+    };
+    if version < 27 {
+        let lighting = 65535;
+        return OpeningRead::Fields(
+            OpeningFields {
+                version,
+                flags,
+                lighting,
+            },
+            2,
+        );
+    }
+    match u16_at(s, 2) {
+        U16::Ends => OpeningRead::Refused(Fault::Ends, 2),
+        U16::Value(lighting) => OpeningRead::Fields(
+            OpeningFields {
+                version,
+                flags,
+                lighting,
+            },
+            4,
+        ),
+    }
 }
 
 // Version 29's names stand in front, with their timestamp and number; `lists` is where the param lists start.
@@ -34,8 +103,64 @@ pub enum FrontRead {
 }
 
 // Before version 29: the node data at once.
+fn plain_front(s: &[u8], o: OpeningFields, at: usize, ids: &[u8; 65536]) -> FrontRead
+    requires { ⌜ (o .version < 29) × (opening .read (now s) ≡ done (openingIs o) at) ⌝ }
+    ensures { λ r. ⌜ FrontTold (now (ids .entry)) (now (ids .entry)) (now (s .entry)) r ⌝ }
+{
+    sized(ids);
+    match node_data(o.version, &s[at..]) {
+        Reach::Refused(f, p) => FrontRead::Refused(f, at + p),
+        Reach::End(n) => FrontRead::Fields(FrontFields {
+            version: o.version,
+            flags: o.flags,
+            lighting: o.lighting,
+            timestamp: 0,
+            count: 0,
+            lists: at + 2,
+            end: at + n,
+        }),
+    }
+}
 
 // In version 29: timestamp and names, then the node data. The names' ids stay marked, unless the front is refused.
+fn named_front(s: &[u8], o: OpeningFields, at: usize, ids: &mut [u8; 65536]) -> FrontRead
+    requires { ⌜ (29 ≤ o .version) × (opening .read (now s) ≡ done (openingIs o) at) ⌝ }
+    ensures { λ r. ⌜ FrontTold (now (ids .entry)) (now (ids .exit)) (now (s .entry)) r ⌝ }
+{
+    match saved(&s[at..], ids) {
+        SavedRead::Refused(f, p) => FrontRead::Refused(f, at + p),
+        SavedRead::Rows(timestamp, count, n) => match node_data(o.version, &s[at + n..]) {
+            Reach::Refused(f, p) => {
+                unmark(&s[at + 7..], count, ids);
+                FrontRead::Refused(f, at + n + p)
+            }
+            Reach::End(m) => FrontRead::Fields(FrontFields {
+                version: o.version,
+                flags: o.flags,
+                lighting: o.lighting,
+                timestamp,
+                count,
+                lists: at + n + 2,
+                end: at + n + m,
+            }),
+        },
+    }
+}
+
+fn front(s: &[u8], ids: &mut [u8; 65536]) -> FrontRead
+    ensures { λ r. ⌜ FrontTold (now (ids .entry)) (now (ids .exit)) (now (s .entry)) r ⌝ }
+{
+    match opening(s) {
+        OpeningRead::Refused(f, p) => FrontRead::Refused(f, p),
+        OpeningRead::Fields(o, n) => {
+            if o.version < 29 {
+                plain_front(s, o, n, ids)
+            } else {
+                named_front(s, o, n, ids)
+            }
+        }
+    }
+}
 
 // ---- the rest: metadata, timers, static objects, the names before version 29
 // The lengths of the lists up to the static objects, and the timer byte.
@@ -49,6 +174,26 @@ pub struct MiddleFields {
 pub enum MiddleRead {
     Lists(MiddleFields),
     Refused(Fault, usize),
+}
+
+fn middle(version: u8, s: &[u8]) -> MiddleRead
+    ensures { λ r. ⌜ MiddleTold version (now (s .entry)) r ⌝ }
+{
+    match metadata_list(version, s) {
+        Reach::Refused(f, p) => MiddleRead::Refused(f, p),
+        Reach::End(metadata) => match early_timers(version, &s[metadata..]) {
+            EarlyRead::Refused(f, p) => MiddleRead::Refused(f, metadata + p),
+            EarlyRead::Timers(timer, early) => match object_list(version, &s[metadata + early..]) {
+                Reach::Refused(f, p) => MiddleRead::Refused(f, metadata + early + p),
+                Reach::End(objects) => MiddleRead::Lists(MiddleFields {
+                    metadata,
+                    early,
+                    objects,
+                    timer,
+                }),
+            },
+        },
+    }
 }
 
 // What a block's scan finds: the head, where the param lists start, and the sections.
@@ -65,19 +210,151 @@ pub enum Judged {
 }
 
 // The rows of a list: they stand behind its head.
+fn rows_of(at: usize, head: usize, length: usize) -> Part
+    requires { ⌜ (head ≤ length) × (at + length < 18446744073709551616) ⌝ }
+    ensures { λ r. ⌜ r ≡ part (at + head) (length - head) ⌝ }
+{
+    Part {
+        start: at + head,
+        length: length - head,
+    }
+}
 
 // A metadata list's version and count.
+fn metadata_head(version: u8) -> usize
+    ensures { λ r. ⌜ r ≡ metadataHead version ⌝ }
+{
+    if version < 23 { 4 } else { 3 }
+}
 
 // What stands before version 24's timers: all of it where there are none.
+fn early_head(m: MiddleFields) -> usize
+    ensures { λ r. ⌜ r ≡ earlyHead m ⌝ }
+{
+    if m.timer == 1 { 3 } else { m.early }
+}
 
 // What is found before the late timers.
+fn so_far(w: FrontFields, m: MiddleFields, timestamp: u32, names: Part) -> Found
+    requires { ⌜ Sized w m ⌝ }
+    ensures { λ r. ⌜ r ≡ soFar w m timestamp names ⌝ }
+{
+    let early = w.end + m.metadata;
+    Found {
+        head: Head {
+            version: w.version,
+            flags: w.flags,
+            lighting: w.lighting,
+            timestamp,
+            timer: m.timer,
+        },
+        lists: w.lists,
+        sections: Sections {
+            names,
+            metadata: rows_of(w.end, metadata_head(w.version), m.metadata),
+            objects: rows_of(early + m.early, 3, m.objects),
+            timers: rows_of(early, early_head(m), m.early),
+        },
+    }
+}
 
 // The same with the late timers, which are the n bytes from a place on.
+fn with_late(w: Found, at: usize, n: usize) -> Found
+    requires { ⌜ (25 ≤ w .head .version → 3 ≤ n) × (at + n < 18446744073709551616) ⌝ }
+    ensures { λ r. ⌜ r ≡ withLate w at n ⌝ }
+{
+    let head = w.head;
+    if head.version < 25 {
+        return w;
+    }
+    let before = w.sections;
+    let names = before.names;
+    let metadata = before.metadata;
+    let objects = before.objects;
+    let timers = rows_of(at, 3, n);
+    Found {
+        head,
+        lists: w.lists,
+        sections: Sections {
+            names,
+            metadata,
+            objects,
+            timers,
+        },
+    }
+}
 
 // The late timers, the end of the bytes, and that every id is mapped.
+fn ending(s: &[u8], w: Found, at: usize, ids: &[u8; 65536]) -> Judged
+    requires { ⌜ ((free : ℕ → Bool) × Upto free (now s) w at (now ids)) ⌝ }
+    ensures { λ r. ⌜ ((free : ℕ → Bool) → Upto free (now (s .entry)) w at (now (ids .entry)) → toldScan r ≡ mapRead found (verdict free (now (s .entry)))) ⌝ }
+{
+    let head = w.head;
+    let version = head.version;
+    let lists = w.lists;
+    match late_timers(version, &s[at..]) {
+        Reach::Refused(f, p) => Judged::Refused(f, at + p),
+        Reach::End(n) => {
+            if at + n < s.len() {
+                return Judged::Refused(Fault::BytesAfter, at + n);
+            }
+            match first_stray(version, &s[lists..], ids) {
+                Stray::At(i) => Judged::Refused(Fault::IdUnmapped, lists + width(version) * i),
+                Stray::None => Judged::Taken(with_late(w, at, n), at + n),
+            }
+        }
+    }
+}
 
 // Before version 29: timestamp and names behind the static objects, then the end.
+fn names_behind(s: &[u8], w: FrontFields, m: MiddleFields, ids: &mut [u8; 65536]) -> Judged
+    requires { ⌜ (w .version < 29) × ((t : List ℕ) × FrontIs t (now ids) (now s) w) × MiddleIs (w .version) (drop (w .end) (now s)) m ⌝ }
+    ensures { λ r. ⌜ ((t : List ℕ) → FrontIs t (now (ids .entry)) (now (s .entry)) w → toldScan r ≡ mapRead found (verdict (freeIn t) (now (s .entry)))) ⌝ }
+    ensures { λ _. ⌜ now (ids .exit) ≡ now (ids .entry) ⌝ }
+{
+    let at = w.end + m.metadata + m.early + m.objects;
+    match saved(&s[at..], ids) {
+        SavedRead::Refused(f, p) => Judged::Refused(f, at + p),
+        SavedRead::Rows(timestamp, count, n) => {
+            let found = so_far(w, m, timestamp, rows_of(at, 7, n));
+            let r = ending(s, found, at + n, ids);
+            unmark(&s[at + 7..], count, ids);
+            r
+        }
+    }
+}
 
 // What follows the node data.
+fn behind_front(s: &[u8], w: FrontFields, ids: &mut [u8; 65536]) -> Judged
+    requires { ⌜ ((t : List ℕ) × FrontIs t (now ids) (now s) w) ⌝ }
+    ensures { λ r. ⌜ ((t : List ℕ) → FrontIs t (now (ids .entry)) (now (s .entry)) w → toldScan r ≡ mapRead found (verdict (freeIn t) (now (s .entry)))) ⌝ }
+    ensures { λ _. ⌜ now (ids .exit) ≡ now (ids .entry) ⌝ }
+{
+    let end = w.end;
+    match middle(w.version, &s[end..]) {
+        MiddleRead::Refused(f, p) => Judged::Refused(f, end + p),
+        MiddleRead::Lists(m) => {
+            if w.version < 29 {
+                return names_behind(s, w, m, ids);
+            }
+            let names = rows_of(4, 7, w.lists - 6);
+            let found = so_far(w, m, w.timestamp, names);
+            ending(s, found, end + m.metadata + m.early + m.objects, ids)
+        }
+    }
+}
 
 // Judges a block. The table tells which ids are free, all of them where it is clear, and comes back as it was; so one table serves many blocks.
+pub fn scan(s: &[u8], ids: &mut [u8; 65536]) -> Judged
+    ensures { λ r. ⌜ toldScan r ≡ mapRead found (verdict (freeIn (now (ids .entry))) (now (s .entry))) ⌝ }
+    ensures { λ _. ⌜ now (ids .exit) ≡ now (ids .entry) ⌝ }
+{
+    match front(s, ids) {
+        FrontRead::Refused(f, p) => Judged::Refused(f, p),
+        FrontRead::Fields(w) => {
+            let r = behind_front(s, w, ids);
+            unmark(&s[11..], w.count, ids);
+            r
+        }
+    }
+}

@@ -1,0 +1,90 @@
+-- What follows the node data: the steps of the scan's last functions, over plain variables.
+use Prim.Native.Nat.{ℕ, _+_, _-_, _<_, _≤_}
+use mathlib.Core.Path.{_≡_, refl, ap, sym, subst, _∙_}
+use mathlib.Core.List.{List}
+use native.Mathlib.Omega.{arith}
+use lib.Dec.{eqb}
+use lib.ListN.{length, drop, length-drop}
+use lib.Seq.{drop-drop}
+use Rattle.wire.specs.Choice.{pick}
+use Rattle.wire.specs.Bytes.{Bytes}
+use Rattle.wire.specs.Read.{done, refused, mapRead, map-done, map-refused}
+use Rattle.wire.specs.Format.{pair, ends-in}
+use Rattle.mapblock.specs.Data.{Saved}
+use Rattle.mapblock.specs.Layout.{saved, front}
+use Rattle.mapblock.specs.Block.{verdict}
+use Rattle.mapblock.specs.Rows.{part}
+use Rattle.mapblock.specs.Sections.{found}
+use Rattle.mapblock.specs.Scan.{FrontIs, MiddleIs, middle, metadataHead, earlyHead, Sized, soFar, Upto}
+use Rattle.mapblock.specs.Table.{freeIn, unmarked, frontRows, NamesMarked, SavedMarked}
+use Rattle.mapblock.specs.Told.{shownSaved}
+use Rattle.mapblock.specs.declared.fault.Fault.{Fault}
+use Rattle.mapblock.specs.declared.scan.FrontFields.{FrontFields}
+use Rattle.mapblock.specs.declared.scan.MiddleFields.{MiddleFields}
+use Rattle.mapblock.proofs.ListLengths.{saved-rows, restored, metadata-rows-length, objects-rows-length}
+use Rattle.mapblock.proofs.Uptos.{block-no-front, block-no-middle, block-no-names}
+use Rattle.mapblock.proofs.SoFar.{front-read, middle-inside, early-fits, same-table, upto-old}
+use Rattle.mapblock.proofs.Verdicts.{verdict-refused}
+
+module _ (t u s : List ℕ) (w : FrontFields) (F : FrontIs t u s w) where
+  pub front-inside : w .end ≤ length s
+  front-inside = ends-in (front (freeIn t)) (F .reads)
+
+  -- a table that is as the front left it is put back
+  pub front-undone : (z : List ℕ) → z ≡ u → unmarked z (frontRows (w .count) (drop 11 s)) ≡ t
+  front-undone z e = rw (e, F .rows) (F .marked .undone)
+
+  pub no-middle : {f : Fault} {p : ℕ} → middle (w .version) .read (drop (w .end) s) ≡ refused f p
+      → refused f (w .end + p) ≡ mapRead found (verdict (freeIn t) s)
+  no-middle k = verdict-refused (freeIn t) s (block-no-middle (freeIn t) s (front-read t u s w F) k)
+
+  module _ (m : MiddleFields) (M : MiddleIs (w .version) (drop (w .end) s) m) (b : Bytes s) where
+    abbrev at : ℕ
+    at = w .end + m .metadata + m .early + m .objects
+
+    pub sized : length s < 18446744073709551616 → Sized w m
+    sized l = record {
+      metadata = omega (arith, M .first, metadata-rows-length (w .version) (M .x .0));
+      early = early-fits t u s w F m M b;
+      objects = omega (arith, M .third, objects-rows-length (M .x .1 .1));
+      fits = omega (arith, middle-inside t u s w F m M b);
+    }
+
+    module _ (h : w .version < 29) where
+      pub no-names : {f : Fault} {p : ℕ} → refused f p ≡ mapRead shownSaved (saved (freeIn u) .read (drop at s))
+          → refused f (at + p) ≡ mapRead found (verdict (freeIn t) s)
+      no-names {f} {p} k =
+          let r = subst (λ (l : List ℕ). saved (freeIn l) .read (drop at s) ≡ refused f p) (same-table t u s w F m M b h) (map-refused shownSaved (saved (freeIn u) .read (drop at s)) f p (sym k)) in
+          let z : w .end + (m .metadata + (m .early + m .objects)) ≡ at = omega arith in
+          ap (λ (i : ℕ). refused f (i + p)) (sym z)
+          ∙ verdict-refused (freeIn t) s (block-no-names (freeIn t) s (front-read t u s w F) (M .reads) h (rw z r))
+
+      module _ {time count n : ℕ} (k : done (pair time count) n ≡ mapRead shownSaved (saved (freeIn u) .read (drop at s))) where
+        saved-is : (sv : Saved) × (saved (freeIn u) .read (drop at s) ≡ done sv n) × (shownSaved sv ≡ pair time count)
+        saved-is = map-done shownSaved (saved (freeIn u) .read (drop at s)) (pair time count) n (sym k)
+
+        pub names-long : (7 ≤ n) × (at + n ≤ length s)
+        names-long =
+            let x = saved-is in (
+              omega (arith, saved-rows (freeIn u) (drop at s) (x .1) .2),
+              omega (arith, ends-in (saved (freeIn u)) (x .1), length-drop at s, middle-inside t u s w F m M b),
+            )
+
+        module _ (z : List ℕ) (g : SavedMarked u z (saved (freeIn u) .read (drop at s))) where
+          marks : NamesMarked u z (saved-is .0 .names)
+          marks = rw (saved-is .1) at g
+
+          pub names-upto : Upto (freeIn t) s (soFar w m time (part (at + 7) (n - 7))) (at + n) z
+          names-upto =
+              let x = saved-is in
+              let q = same-table t u s w F m M b h in
+              let e : x .0 .timestamp ≡ time = ap (λ (y : ℕ × ℕ). y .0) (x .2) in
+              let r = upto-old t u s w F m M b h (x .0) n (subst (λ (l : List ℕ). saved (freeIn l) .read (drop at s) ≡ done (x .0) n) q (x .1)) z
+              (subst (λ (l : List ℕ). NamesMarked l z (x .0 .names)) q marks) in
+              rw (← e) r
+
+          pub names-restored : unmarked z (frontRows count (drop (at + 7) s)) ≡ u
+          names-restored =
+              let x = saved-is in
+              let c : length (x .0 .names) ≡ count = ap (λ (y : ℕ × ℕ). y .1) (x .2) in
+              rw (← c, ← drop-drop 7 at s) (restored u z (drop at s) (x .1) marks)

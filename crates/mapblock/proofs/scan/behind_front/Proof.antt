@@ -1,0 +1,121 @@
+use borrow.Author.Needs.{needs}
+use Rattle.mapblock.proofs.SoFar.{names-room}
+use Prim.Native.Nat.{ℕ, _+_, _≤_}
+use Rattle.mapblock.proofs.Rests.{front-inside, no-middle, sized}
+use Rattle.mapblock.proofs.SoFar.{middle-inside, upto-new}
+use Rattle.mapblock.proofs.Readings.{within}
+use Rattle.mapblock.specs.Table.{freeIn}
+use Rattle.mapblock.specs.Scan.{middle, MiddleIs, MiddleTold}
+use Rattle.mapblock.specs.Layout.{front}
+use Rattle.wire.specs.Read.{reach, refused}
+use Rattle.wire.specs.Lists.{rest-is}
+use Rattle.wire.specs.Bytes.{Bytes}
+use lib.ListN.{length, drop, length-drop}
+use denote.Ref.{now}
+use native.Mathlib.Omega.{arith}
+use mathlib.Core.List.{List}
+use mathlib.Core.Path.{_≡_, refl, ap, sym, subst, _∙_}
+use Rattle.mapblock.proofs.scan.behind_front.Statement.{statement}
+use Rattle.mapblock.proofs.scan.behind_front.Tie as tie
+use Rattle.mapblock.proofs.scan.behind_front.Reads as reads
+use Rattle.mapblock.proofs.scan.behind_front.Lts as lts
+use Rattle.mapblock.proofs.scan.ending.Reads as ending-reads
+use Rattle.mapblock.proofs.scan.middle.Reads as middle-reads
+use Rattle.mapblock.proofs.scan.names_behind.Reads as names-behind-reads
+use Rattle.mapblock.proofs.scan.rows_of.Reads as rows-of-reads
+use Rattle.mapblock.proofs.scan.so_far.Reads as so-far-reads
+
+bytes : (c : tie.After-shared-slice-known) → Bytes (now (c .before .args .s))
+bytes c i = c .shared-slice-known .given i .fits
+
+-- the lists behind the node data, refused or read
+no-lists : (c : tie.After-f) → let a = c .before .before .before .before .before .args in middle (a .w .version) .read (drop (a .w .end) (now (a .s))) ≡ refused (c .f .given .0 .0) (c .f .given .0 .1 .0)
+no-lists c = let a = c .before .before .before .before .before .args in rw (c .f .given .1, rest-is (a .w .end) (now (a .s))) at (c .before .before .middle .ensures)
+
+lists-are : (c : tie.After-m) → let a = c .before .before .before .before .before .args in MiddleIs (a .w .version) (drop (a .w .end) (now (a .s))) (c .m .given .0 .0)
+lists-are c = let a = c .before .before .before .before .before .args in rw (c .m .given .1, rest-is (a .w .end) (now (a .s))) at (c .before .before .middle .ensures)
+
+inside : (c : tie.After-m) → let a = c .before .before .before .before .before .args in let m = c .m .given .0 .0 in a .w .end + m .metadata + m .early + m .objects ≤ length (now (a .s))
+inside c = middle-inside _ _ _ _ (c .before .before .before .before .before .pre .1) _ (lists-are c) (bytes (c .before .before .before .before))
+
+sub-middle : tie.Need-sub-middle
+sub-middle c = front-inside _ _ _ _ (c .before .pre .1)
+
+part-middle-start : tie.Need-part-middle-start
+part-middle-start c = front-inside _ _ _ _ (c .before .pre .1)
+
+part-middle-end : tie.Need-part-middle-end
+part-middle-end c = search needs
+
+middle-requires : tie.Need-middle-requires
+middle-requires c κs = search needs
+
+enum-known-f : tie.Need-enum-known-f
+enum-known-f c = search needs
+
+add-t16 : tie.Need-add-t16
+add-t16 c =
+    let a = c .before .before .before .before .before .before .args in
+    omega (arith, front-inside _ _ _ _ (c .before .before .before .before .before .before .pre .1), length-drop (a .w .end) (now (a .s)), within (middle (a .w .version)) (drop (a .w .end) (now (a .s))) (no-lists (c .before)))
+
+enum-known-m : tie.Need-enum-known-m
+enum-known-m c = search needs
+
+names-behind-requires : tie.Need-names-behind-requires
+names-behind-requires c κs = (c .before .if1 .taken, c .before .before .before .before .before .before .before .before .before .pre, lists-are (c .before .before .before .before))
+
+returns : tie.Need-returns
+returns c = search needs
+
+sub-rows-of : tie.Need-sub-rows-of
+sub-rows-of c = let r = names-room _ _ _ _ (c .before .before .before .before .before .before .before .before .before .pre .1) _ (lists-are (c .before .before .before .before)) (bytes (c .before .before .before .before .before .before .before .before)) (omega (arith, c .before .if1 .left)) in omega (arith, r)
+
+rows-of-requires : tie.Need-rows-of-requires
+rows-of-requires c κs =
+    let r = names-room _ _ _ _ (c .before .before .before .before .before .before .before .before .before .pre .1) _ (lists-are (c .before .before .before .before)) (bytes (c .before .before .before .before .before .before .before .before)) (omega (arith, c .before .if1 .left)) in
+    let l : c .before .before .before .before .before .before .before .before .before .args .w .lists ≤ length (now (c .before .before .before .before .before .before .before .before .before .args .s)) = omega (arith, front-inside _ _ _ _ (c .before .before .before .before .before .before .before .before .before .pre .1), c .before .before .before .before .before .before .before .before .before .pre .1 .ends) in
+    (omega arith, omega (arith, c .before .before .before .before .before .before .before .before .before .good .0 .0))
+
+so-far-requires : tie.Need-so-far-requires
+so-far-requires c κs = sized _ _ _ _ (c .before .before .before .before .before .before .before .before .before .before .pre .1) _ (lists-are (c .before .before .before .before .before)) (bytes (c .before .before .before .before .before .before .before .before .before)) (c .before .before .before .before .before .before .before .before .before .before .good .0 .0)
+
+add-ending : tie.Need-add-ending
+add-ending c = omega (arith, inside (c .before .before .before .before .before .before .before), c .before .before .before .before .before .before .before .before .before .before .before .before .good .0 .0)
+
+add-ending-2 : tie.Need-add-ending-2
+add-ending-2 c = omega (arith, inside (c .before .before .before .before .before .before .before .before), c .before .before .before .before .before .before .before .before .before .before .before .before .before .good .0 .0)
+
+add-ending-3 : tie.Need-add-ending-3
+add-ending-3 c = omega (arith, inside (c .before .before .before .before .before .before .before .before .before), c .before .before .before .before .before .before .before .before .before .before .before .before .before .before .good .0 .0)
+
+ending-requires : tie.Need-ending-requires
+ending-requires c κs = (freeIn (c .before .before .before .before .before .before .before .before .before .before .before .before .before .before .before .pre .0), rw (c .before .before .before .before .so-far .ensures, c .before .before .before .before .before .rows-of .ensures) (upto-new _ _ _ _ (c .before .before .before .before .before .before .before .before .before .before .before .before .before .before .before .pre .1) _ (lists-are (c .before .before .before .before .before .before .before .before .before .before)) (bytes (c .before .before .before .before .before .before .before .before .before .before .before .before .before .before)) (omega (arith, c .before .before .before .before .before .before .before .if1 .left))))
+
+returns-2 : tie.Need-returns-2
+returns-2 c = ((λ t F. no-middle t _ _ _ F (no-lists (c .before))), refl)
+
+returns-3 : tie.Need-returns-3
+returns-3 c = ((λ t F. c .ending .ensures (freeIn t) (rw (c .before .before .before .before .before .so-far .ensures, c .before .before .before .before .before .before .rows-of .ensures) (upto-new t _ _ _ F _ (lists-are (c .before .before .before .before .before .before .before .before .before .before .before)) (bytes (c .before .before .before .before .before .before .before .before .before .before .before .before .before .before .before)) (omega (arith, c .before .before .before .before .before .before .before .before .if1 .left))))), refl)
+
+pub behind-front-spec : {M : Type 1} → statement M
+behind-front-spec =
+    tie.close
+    (tie.spec
+    sub-middle
+    part-middle-start
+    part-middle-end
+    middle-requires
+    enum-known-f
+    add-t16
+    enum-known-m
+    names-behind-requires
+    returns
+    sub-rows-of
+    rows-of-requires
+    so-far-requires
+    add-ending
+    add-ending-2
+    add-ending-3
+    ending-requires
+    returns-2
+    returns-3)

@@ -1,0 +1,158 @@
+use borrow.Author.Needs.{needs}
+use Rattle.wire.specs.Bytes.{Bytes, bytes-drop}
+use Prim.Native.Nat.{_*_, _<_, _≤_}
+use Rattle.mapblock.specs.Layout.{width}
+use Rattle.mapblock.specs.Params.{strayIn}
+use mathlib.Core.Option.{some}
+use Rattle.mapblock.proofs.Endings.{late-long, stray-below, width-place}
+use Rattle.mapblock.proofs.Verdicts.{late-refused, late-inside, late-after, late-stray, late-done}
+use Rattle.mapblock.proofs.Readings.{within-ended}
+use Rattle.mapblock.specs.Told.{ended, toldReach, toldStray}
+use Rattle.mapblock.specs.Layout.{lateTimers}
+use Rattle.wire.specs.Read.{done}
+use Rattle.wire.specs.Bytes.{bytes-drop}
+use Rattle.wire.specs.Lists.{rest-is}
+use lib.ListN.{length, drop, length-drop}
+use denote.Ref.{now}
+use native.Mathlib.Omega.{arith}
+use mathlib.Core.Path.{_≡_, ap, sym, _∙_}
+use Rattle.mapblock.proofs.scan.ending.Statement.{statement}
+use Rattle.mapblock.proofs.scan.ending.Tie as tie
+use Rattle.mapblock.proofs.scan.ending.Reads as reads
+use Rattle.mapblock.proofs.scan.ending.Lts as lts
+use Rattle.mapblock.proofs.lists.late_timers.Reads as late-timers-reads
+use Rattle.mapblock.proofs.nodes.first_stray.Reads as first-stray-reads
+use Rattle.mapblock.proofs.nodes.width.Reads as width-reads
+use Rattle.mapblock.proofs.scan.with_late.Reads as with-late-reads
+
+-- the first node that is not mapped
+stray-is : (c : tie.After-i) → let a = c .before .before .before .before .before .before .before .before .before .before .before .before .args in some (c .i .given .0 .0) ≡ strayIn (a .w .head .version) (drop (a .w .lists) (now (a .s))) (now (a .ids)) 4096 0
+stray-is c = rw (rest-is (c .before .before .before .before .before .before .before .before .before .before .before .before .args .w .lists) (now (c .before .before .before .before .before .before .before .before .before .before .before .before .args .s))) at (sym (ap toldStray (c .i .given .1)) ∙ c .before .before .first-stray .ensures)
+
+stray-at : (c : tie.After-i) → let a = c .before .before .before .before .before .before .before .before .before .before .before .before .args in let v = a .w .head .version in
+    (width v * c .i .given .0 .0 < 8192) × (width v * c .i .given .0 .0 ≤ 4096 * width v)
+stray-at c = let a = c .before .before .before .before .before .before .before .before .before .before .before .before .args in width-place (a .w .head .version) (c .i .given .0 .0) (omega (arith, stray-below (a .w .head .version) _ _ 4096 0 (stray-is c)))
+
+-- the late timers that were read
+late-is : (c : tie.After-n) → let a = c .before .before .before .before .before .before .args in done tt (c .n .given .0 .0) ≡ ended (lateTimers (a .w .head .version) .read (drop (a .at) (now (a .s))))
+late-is c = rw (rest-is (c .before .before .before .before .before .before .args .at) (now (c .before .before .before .before .before .before .args .s))) at (sym (ap toldReach (c .n .given .1)) ∙ c .before .before .late-timers .ensures)
+
+sub-late-timers : tie.Need-sub-late-timers
+sub-late-timers c = search needs
+
+part-late-timers-start : tie.Need-part-late-timers-start
+part-late-timers-start c = search needs
+
+part-late-timers-end : tie.Need-part-late-timers-end
+part-late-timers-end c = search needs
+
+late-timers-requires : tie.Need-late-timers-requires
+late-timers-requires c κs = search needs
+
+enum-known-f : tie.Need-enum-known-f
+enum-known-f c = search needs
+
+add-t18 : tie.Need-add-t18
+add-t18 c =
+    let a = c .before .before .before .before .before .before .before .args in
+    let u = c .before .before .before .before .before .before .before .pre .1 in
+    let e = rw (rest-is (a .at) (now (a .s))) at (sym (ap toldReach (c .before .f .given .1)) ∙ c .before .before .before .late-timers .ensures) in
+    omega (arith, length-drop (a .at) (now (a .s)), u .inside, within-ended (lateTimers (a .w .head .version)) (drop (a .at) (now (a .s))) e)
+
+enum-known-n : tie.Need-enum-known-n
+enum-known-n c = search needs
+
+add-if1 : tie.Need-add-if1
+add-if1 c = omega (arith, late-inside (c .before .before .before .before .before .before .before .pre .1) (late-is (c .before)))
+
+add-t23 : tie.Need-add-t23
+add-t23 c = search needs
+
+returns : tie.Need-returns
+returns c = λ free u. late-after u (late-is (c .before .before)) (c .if1 .taken)
+
+sub-first-stray : tie.Need-sub-first-stray
+sub-first-stray c = search needs
+
+part-first-stray-start : tie.Need-part-first-stray-start
+part-first-stray-start c = search needs
+
+part-first-stray-end : tie.Need-part-first-stray-end
+part-first-stray-end c = search needs
+
+first-stray-requires : tie.Need-first-stray-requires
+first-stray-requires c κs = search needs
+
+enum-known-i : tie.Need-enum-known-i
+enum-known-i c = search needs
+
+width-requires : tie.Need-width-requires
+width-requires c κs = search needs
+
+mul-t31 : tie.Need-mul-t31
+mul-t31 c = rw (c .width .ensures) (omega (arith, stray-at (c .before .before) .0))
+
+add-t32 : tie.Need-add-t32
+add-t32 c =
+    let u = c .before .before .before .before .before .before .before .before .before .before .before .before .before .before .pre .1 in
+    rw (c .width .ensures) (omega (arith, stray-at (c .before .before) .1, u .long, u .inside))
+
+enum-told : tie.Need-enum-told
+enum-told c = search needs
+
+with-late-requires : tie.Need-with-late-requires
+with-late-requires c κs =
+    let a = c .before .before .before .before .before .before .before .before .before .before .before .before .args in
+    let s = now (a .s) in
+    let b : Bytes s = λ i. c .before .before .before .before .before .before .before .before .before .before .before .shared-slice-known .given i .fits in
+    ((λ l. late-long _ _ (drop (a .at) s) (bytes-drop (a .at) s b) (late-is (c .before .before .before .before .before .before)) l), omega (arith, late-inside (c .before .before .before .before .before .before .before .before .before .before .before .before .pre .1) (late-is (c .before .before .before .before .before .before)), c .before .before .before .before .before .before .before .before .before .before .before .before .good .0 .0))
+
+add-t34 : tie.Need-add-t34
+add-t34 c = omega (arith, late-inside (c .before .before .before .before .before .before .before .before .before .before .before .before .before .pre .1) (late-is (c .before .before .before .before .before .before .before)), c .before .before .before .before .before .before .before .before .before .before .before .before .before .good .0 .0)
+
+returns-2 : tie.Need-returns-2
+returns-2 c =
+    let a = c .before .before .before .before .before .before .before .args in
+    let e = rw (rest-is (a .at) (now (a .s))) at (sym (ap toldReach (c .before .f .given .1)) ∙ c .before .before .before .late-timers .ensures) in
+    λ free u. late-refused u e
+
+returns-3 : tie.Need-returns-3
+returns-3 c =
+    let b : Bytes (now (c .before .before .before .before .before .before .before .before .before .before .before .before .before .before .args .s)) = λ i. c .before .before .before .before .before .before .before .before .before .before .before .before .before .shared-slice-known .given i .fits in
+    λ free u. rw (c .width .ensures) (late-stray u (late-is (c .before .before .before .before .before .before .before .before)) b (c .before .before .before .before .before .before .if1 .left) (stray-is (c .before .before)))
+
+returns-4 : tie.Need-returns-4
+returns-4 c =
+    let a = c .before .before .before .before .before .before .before .before .before .before .before .before .before .args in
+    let b : Bytes (now (a .s)) = λ i. c .before .before .before .before .before .before .before .before .before .before .before .before .shared-slice-known .given i .fits in
+    let e = rw (rest-is (a .w .lists) (now (a .s))) at (sym (ap toldStray (c .before .enum-told .given .1)) ∙ c .before .before .before .first-stray .ensures) in
+    λ free u. rw (c .with-late .ensures) (late-done u (late-is (c .before .before .before .before .before .before .before)) b (c .before .before .before .before .before .if1 .left) e)
+
+pub ending-spec : {M : Type 1} → statement M
+ending-spec =
+    tie.close
+    (tie.spec
+    sub-late-timers
+    part-late-timers-start
+    part-late-timers-end
+    late-timers-requires
+    enum-known-f
+    add-t18
+    enum-known-n
+    add-if1
+    add-t23
+    returns
+    sub-first-stray
+    part-first-stray-start
+    part-first-stray-end
+    first-stray-requires
+    enum-known-i
+    width-requires
+    mul-t31
+    add-t32
+    enum-told
+    with-late-requires
+    add-t34
+    returns-2
+    returns-3
+    returns-4)

@@ -1,0 +1,74 @@
+use borrow.Author.Needs.{needs}
+use Prim.Native.Nat.{_≤_}
+use Rattle.mapblock.proofs.Verdicts.{verdict-refused}
+use Rattle.mapblock.proofs.Rests.{front-inside, front-undone}
+use Rattle.mapblock.proofs.Uptos.{block-no-front}
+use Rattle.mapblock.specs.Table.{unmarked, frontRows}
+use Rattle.mapblock.specs.Scan.{FrontIs}
+use Rattle.wire.specs.Lists.{rest-is}
+use lib.ListN.{length, drop}
+use denote.Ref.{now}
+use native.Mathlib.Omega.{arith}
+use mathlib.Core.List.{List}
+use mathlib.Core.Path.{_≡_, refl, ap, sym, _∙_}
+use Rattle.mapblock.proofs.scan.scan.Statement.{statement}
+use Rattle.mapblock.proofs.scan.scan.Tie as tie
+use Rattle.mapblock.proofs.scan.scan.Reads as reads
+use Rattle.mapblock.proofs.scan.scan.Lts as lts
+use Rattle.mapblock.proofs.names.unmark.Reads as unmark-reads
+use Rattle.mapblock.proofs.scan.behind_front.Reads as behind-front-reads
+use Rattle.mapblock.proofs.scan.front.Reads as front-reads
+
+front-is : (c : tie.After-w) → let a = c .before .before .before .before .before .args in FrontIs (now (a .ids)) (c .before .before .front .last .1 .0) (now (a .s)) (c .w .given .0 .0)
+front-is c = rw (c .w .given .1) at (c .before .before .front .ensures)
+
+long : (c : tie.After-w) → 11 ≤ length (now (c .before .before .before .before .before .args .s))
+long c = omega (arith, front-inside _ _ _ _ (front-is c), front-is c .ends)
+
+front-requires : tie.Need-front-requires
+front-requires c κs = search needs
+
+enum-known-f : tie.Need-enum-known-f
+enum-known-f c = search needs
+
+enum-known-w : tie.Need-enum-known-w
+enum-known-w c = search needs
+
+behind-front-requires : tie.Need-behind-front-requires
+behind-front-requires c κs = (_, front-is (c .before .before))
+
+sub-unmark : tie.Need-sub-unmark
+sub-unmark c = long (c .before .before .before)
+
+part-unmark-start : tie.Need-part-unmark-start
+part-unmark-start c = long (c .before .before .before)
+
+part-unmark-end : tie.Need-part-unmark-end
+part-unmark-end c = search needs
+
+unmark-requires : tie.Need-unmark-requires
+unmark-requires c κs = search needs
+
+returns : tie.Need-returns
+returns c = let e = rw (c .before .f .given .1) at (c .before .before .before .front .ensures) in (verdict-refused _ _ (block-no-front _ _ (e .0)), e .1)
+
+returns-2 : tie.Need-returns-2
+returns-2 c =
+    let a = c .before .before .before .before .before .before .before .before .before .before .before .args in
+    let e = rw (rest-is 11 (now (a .s))) at (c .unmark .ensures) in
+    (c .before .before .before .behind-front .ensures .0 _ (front-is (c .before .before .before .before .before .before)), e ∙ front-undone _ _ _ _ (front-is (c .before .before .before .before .before .before)) _ (c .before .before .before .behind-front .ensures .1))
+
+pub scan-spec : {M : Type 1} → statement M
+scan-spec =
+    tie.close
+    (tie.spec
+    front-requires
+    enum-known-f
+    enum-known-w
+    behind-front-requires
+    sub-unmark
+    part-unmark-start
+    part-unmark-end
+    unmark-requires
+    returns
+    returns-2)
