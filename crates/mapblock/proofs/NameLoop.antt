@@ -3,7 +3,7 @@ use Prim.Native.Nat.{ℕ, zero, suc, _+_, _-_, _<_, _≤_}
 use mathlib.Core.Path.{_≡_, refl, ap, sym, _∙_}
 use mathlib.Core.List.{List, [], _∷_, _++_, append-assoc, append-nil}
 use mathlib.Core.Bool.{Bool, true, false}
-use native.Mathlib.Nat.{zero-add, add-zero}
+use native.Mathlib.Nat.{zero-add}
 use native.Mathlib.Omega.{arith}
 use lib.Dec.{eqb}
 use lib.ListN.{length, getD, take, drop, set, length-drop}
@@ -15,9 +15,9 @@ use Rattle.wire.specs.Read.{Read, done, refused, mapRead, reach, map-done, map-
 use Rattle.wire.specs.Format.{items, readItems}
 use Rattle.wire.proofs.Items.{after, items-start, items-on, items-refused, items-end}
 use Rattle.mapblock.specs.Data.{NameRow}
-use Rattle.mapblock.specs.Layout.{all, without, unused, unmapped, nameRow}
+use Rattle.mapblock.specs.Layout.{without, unused, unmapped, nameRow}
 use Rattle.mapblock.specs.Rows.{nameFields}
-use Rattle.mapblock.specs.Table.{freeIn, Tabled, unmarked, frontRows, NamesMarked, RowsMarked}
+use Rattle.mapblock.specs.Table.{freeIn, Tabled, unmarked, frontRows, RowsMarked}
 use Rattle.mapblock.specs.Told.{ended}
 use Rattle.mapblock.specs.declared.fault.Fault.{Fault}
 use Rattle.mapblock.specs.declared.names.NameFields.{NameFields}

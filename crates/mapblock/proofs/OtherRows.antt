@@ -1,10 +1,10 @@
 -- Rows of static objects and of timers, field by field, as they are told.
 use Prim.Native.Nat.{ℕ, _+_}
-use mathlib.Core.Path.{_≡_, refl, ap, sym, _∙_}
+use mathlib.Core.Path.{_≡_}
 use mathlib.Core.List.{List, []}
 use native.Mathlib.Omega.{arith}
 use lib.IntN.{ℤ}
-use lib.ListN.{length, take, drop}
+use lib.ListN.{take, drop}
 use lib.Seq.{drop-drop}
 use Rattle.wire.specs.Read.{done, refused, mapRead}
 use Rattle.wire.specs.Format.{such, _⨾_, along}

@@ -7,16 +7,14 @@ use native.Mathlib.Nat.{zero-add, add-assoc}
 use native.Mathlib.Omega.{arith}
 use lib.ListN.{length, drop, length-drop}
 use lib.Seq.{drop-drop}
-use Rattle.wire.specs.Read.{Read, done, refused, bind, mapRead, onward, reach, blaming, bind-done, map-done, map-refused, pick-done, reach-map}
+use Rattle.wire.specs.Read.{Read, done, refused, bind, mapRead, onward, reach, bind-done, map-done, map-refused, pick-done}
 use Rattle.wire.specs.Format.{tested, such, _⨾_, next, pair, along, items, readItems, ends-in}
 use Rattle.wire.specs.Formats.{_▹_, number, counted, listed}
-use Rattle.wire.specs.Told.{Short, short}
-use Rattle.wire.proofs.Steps.{number-told, counted-told}
 use Rattle.wire.proofs.Items.{after, items-start, items-on, items-refused, items-end}
 use Rattle.mapblock.specs.Inventory.{Form}
+use Rattle.mapblock.proofs.Leaves.{told-in}
 use Rattle.mapblock.specs.Told.{ended}
 use Rattle.mapblock.specs.declared.fault.Fault.{Fault}
-use Rattle.mapblock.specs.declared.fault.Fault.the-variants as fault
 
 -- ---- fields whose bytes may end
 abbrev pub num : ℕ → Form ℕ
@@ -30,14 +28,7 @@ pub within : {A : Type 0} (f : Form A) (s : List ℕ) {r : Read Fault A} → f .
 within f s h = rw h at (f .inside s)
 
 pub within-ended : {A : Type 0} (f : Form A) (s : List ℕ) {r : Read Fault (Unit {0})} → r ≡ ended (f .read s) → reach r ≤ length s
-within-ended f s h = rw (h, reach-map) (f .inside s)
-
--- ---- what a leaf was told, in its case
-pub num-told : (k : ℕ) (s : List ℕ) {r t : Read Short ℕ} → r ≡ number {ends = short} k .read s → r ≡ t → num k .read s ≡ blaming fault.Ends t
-num-told k s h e = number-told fault.Ends k s h ∙ ap (blaming fault.Ends) e
-
-pub text-told : (k : ℕ) (s : List ℕ) {r t : Read Short (List ℕ)} → r ≡ counted {ends = short} k .read s → r ≡ t → text k .read s ≡ blaming fault.Ends t
-text-told k s h e = counted-told fault.Ends k s h ∙ ap (blaming fault.Ends) e
+within-ended f s h = told-in (λ _. tt) f s h
 
 -- ---- one after the other, tested, listed
 module _ {A B : Type 0} (f : Form A) (g : Form B) (s : List ℕ) where

@@ -1,12 +1,10 @@
 -- What follows the node data: the steps of the scan's last functions, over plain variables.
 use Prim.Native.Nat.{ℕ, _+_, _-_, _<_, _≤_}
-use mathlib.Core.Path.{_≡_, refl, ap, sym, subst, _∙_}
+use mathlib.Core.Path.{_≡_, ap, sym, subst, _∙_}
 use mathlib.Core.List.{List}
 use native.Mathlib.Omega.{arith}
-use lib.Dec.{eqb}
 use lib.ListN.{length, drop, length-drop}
 use lib.Seq.{drop-drop}
-use Rattle.wire.specs.Choice.{pick}
 use Rattle.wire.specs.Bytes.{Bytes}
 use Rattle.wire.specs.Read.{done, refused, mapRead, map-done, map-refused}
 use Rattle.wire.specs.Format.{pair, ends-in}
@@ -15,14 +13,14 @@ use Rattle.mapblock.specs.Layout.{saved, front}
 use Rattle.mapblock.specs.Block.{verdict}
 use Rattle.mapblock.specs.Rows.{part}
 use Rattle.mapblock.specs.Sections.{found}
-use Rattle.mapblock.specs.Scan.{FrontIs, MiddleIs, middle, metadataHead, earlyHead, Sized, soFar, Upto}
+use Rattle.mapblock.specs.Scan.{FrontIs, MiddleIs, middle, Sized, soFar, Upto}
 use Rattle.mapblock.specs.Table.{freeIn, unmarked, frontRows, NamesMarked, SavedMarked}
 use Rattle.mapblock.specs.Told.{shownSaved}
 use Rattle.mapblock.specs.declared.fault.Fault.{Fault}
 use Rattle.mapblock.specs.declared.scan.FrontFields.{FrontFields}
 use Rattle.mapblock.specs.declared.scan.MiddleFields.{MiddleFields}
 use Rattle.mapblock.proofs.ListLengths.{saved-rows, restored, metadata-rows-length, objects-rows-length}
-use Rattle.mapblock.proofs.Uptos.{block-no-front, block-no-middle, block-no-names}
+use Rattle.mapblock.proofs.Uptos.{block-no-middle, block-no-names}
 use Rattle.mapblock.proofs.SoFar.{front-read, middle-inside, early-fits, same-table, upto-old}
 use Rattle.mapblock.proofs.Verdicts.{verdict-refused}
 

@@ -6,9 +6,9 @@ use mathlib.Core.Bool.{Bool}
 use native.Mathlib.Omega.{arith}
 use lib.ListN.{length, drop}
 use lib.Seq.{drop-drop}
-use Rattle.wire.specs.Read.{Read, done, refused, mapRead, onward, never, bind-done, onward-done}
+use Rattle.wire.specs.Read.{Read, done, refused, mapRead, onward, bind-done, onward-done}
 use Rattle.wire.specs.Format.{_⨾_, along, items, readItems, pair}
-use Rattle.wire.specs.Formats.{u8, u16, u32, listed}
+use Rattle.wire.specs.Formats.{listed}
 use Rattle.mapblock.specs.Inventory.{Form}
 use Rattle.mapblock.specs.Data.{NameRow, savedParts}
 use Rattle.mapblock.specs.Layout.{nameRow, saved}

@@ -1,5 +1,5 @@
 -- What the scan has found before the late timers is what the block's definition tells.
-use Prim.Native.Nat.{ℕ, _+_, _-_, _*_, _<_, _≤_}
+use Prim.Native.Nat.{ℕ, _+_, _-_, _<_, _≤_}
 use mathlib.Core.Path.{_≡_, refl, ap, sym, subst, _∙_}
 use mathlib.Core.List.{List, []}
 use mathlib.Core.Bool.{Bool, true, false}
@@ -8,22 +8,22 @@ use lib.Dec.{leb, eqb}
 use lib.ListN.{length, drop, length-append, length-drop}
 use borrow.Author.Tests.{le-leb, lt-leb, leb-true, leb-false}
 use Rattle.wire.specs.Choice.{pick}
-use Rattle.wire.specs.Bytes.{Bytes, bytes-drop, spell-length}
+use Rattle.wire.specs.Bytes.{Bytes, bytes-drop}
 use Rattle.wire.specs.Read.{done}
-use Rattle.wire.specs.Format.{run, nothing, such, _⨾_, along, pair, encodeItems, ends-in}
-use Rattle.wire.specs.Formats.{number, only, _▹_}
-use Rattle.mapblock.specs.Data.{Opening, Saved, Timers, Nodes, unsaved, untimed}
-use Rattle.mapblock.specs.Layout.{since, all, unused, unmapped, width, nameRow, metadataRow, objectRow, timerRow, opening, saved, nodes, metadata, earlyTimers, objects, lateTimers, Front, front}
+use Rattle.wire.specs.Format.{nothing, _⨾_, pair, encodeItems, ends-in}
+use Rattle.wire.specs.Formats.{only, _▹_}
+use Rattle.mapblock.specs.Data.{Opening, Saved, Timers, unsaved, untimed}
+use Rattle.mapblock.specs.Layout.{since, all, unmapped, nameRow, metadataRow, objectRow, timerRow, opening, saved, nodes, metadata, earlyTimers, objects, lateTimers, Front, front}
 use Rattle.mapblock.specs.Rows.{part}
 use Rattle.mapblock.specs.Sections.{sections, found}
-use Rattle.mapblock.specs.Scan.{FrontIs, MiddleIs, MiddleRows, middle, metadataHead, earlyHead, soFar, withLate, Upto, savedLength}
+use Rattle.mapblock.specs.Scan.{FrontIs, MiddleIs, MiddleRows, middle, metadataHead, earlyHead, soFar, withLate, Upto}
 use Rattle.mapblock.specs.Table.{freeIn, Tabled, NamesMarked}
 use Rattle.mapblock.specs.declared.head.Head.{Head}
 use Rattle.mapblock.specs.declared.head.Part.{Part}
 use Rattle.mapblock.specs.declared.scan.FrontFields.{FrontFields}
 use Rattle.mapblock.specs.declared.scan.MiddleFields.{MiddleFields}
 use Rattle.mapblock.specs.declared.scan.Found.{Found}
-use Rattle.mapblock.proofs.ListLengths.{then-parts, saved-same, saved-length, saved-rows-length, metadata-rows-length, objects-rows-length, AtEnd, early-none, early-length, early-rows, late-rows-length, late-none, late-byte}
+use Rattle.mapblock.proofs.ListLengths.{then-parts, saved-same, saved-length, saved-rows-length, metadata-rows-length, objects-rows-length, AtEnd, early-none, early-length, early-rows, late-rows-length, late-byte}
 use Rattle.mapblock.proofs.Fronts.{opening-length}
 use Rattle.mapblock.proofs.Uptos.{withLateTimers, reads-new, reads-old}
 

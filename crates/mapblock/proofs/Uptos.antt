@@ -1,17 +1,17 @@
 -- A block read up to its late timers: what the front, the lists behind it and the names before version 29 give together.
-use Prim.Native.Nat.{ℕ, _+_, _-_, _*_, _<_, _≤_}
-use mathlib.Core.Path.{_≡_, refl, ap, sym, _∙_}
-use mathlib.Core.List.{List, []}
+use Prim.Native.Nat.{ℕ, _+_, _-_, _<_, _≤_}
+use mathlib.Core.Path.{_≡_, ap, sym, _∙_}
+use mathlib.Core.List.{List}
 use mathlib.Core.Bool.{Bool}
 use native.Mathlib.Omega.{arith}
-use lib.ListN.{length, drop}
+use lib.ListN.{drop}
 use lib.Seq.{drop-drop}
 use borrow.Author.Tests.{le-leb, lt-leb}
 use Rattle.wire.specs.Read.{Read, done, refused, mapRead, onward}
 use Rattle.wire.specs.Format.{nothing, _⨾_, pair, along}
 use Rattle.wire.specs.Formats.{_▹_, only}
 use Rattle.mapblock.specs.Inventory.{Form}
-use Rattle.mapblock.specs.Data.{Block, MetadataRow, ObjectRow, Nodes, Opening, Saved, Timers, unsaved}
+use Rattle.mapblock.specs.Data.{Block, Saved, Timers, unsaved}
 use Rattle.mapblock.specs.Layout.{before, saved, metadata, earlyTimers, objects, lateTimers, Front, front, Rest, rest, steps}
 use Rattle.mapblock.specs.Block.{block, blockFrom}
 use Rattle.mapblock.specs.Scan.{MiddleRows, middle}

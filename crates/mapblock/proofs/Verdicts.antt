@@ -16,7 +16,7 @@ use Rattle.wire.specs.Formats.{_▹_}
 use Rattle.mapblock.specs.Inventory.{Form}
 use Rattle.mapblock.specs.Data.{Block, Timers}
 use Rattle.mapblock.specs.Layout.{width, lateTimers}
-use Rattle.mapblock.specs.Block.{block, stray, strayFrom, param0At, verdict}
+use Rattle.mapblock.specs.Block.{block, stray, param0At, verdict}
 use Rattle.mapblock.specs.Params.{strayIn}
 use Rattle.mapblock.specs.Sections.{found}
 use Rattle.mapblock.specs.Scan.{withLate, Upto}

@@ -4,7 +4,7 @@ use mathlib.Core.List.{List, [], _∷_}
 use mathlib.Core.Bool.{Bool, true, false, not, _&&_}
 use lib.Dec.{leb, eqb}
 use Rattle.wire.specs.Choice.{pick}
-use Rattle.wire.specs.Format.{Format, nothing, such, _⨾_}
+use Rattle.wire.specs.Format.{nothing, such, _⨾_}
 use Rattle.wire.specs.Formats.{_▹_, u8, u16, u32, s32, number, counted, listed, fixed, times, only, into}
 use Rattle.mapblock.specs.Inventory.{Form, inventory}
 use Rattle.mapblock.specs.Data.{NameRow, Variable, MetadataRow, ObjectRow, TimerRow, Nodes, Opening, Saved, Timers, unsaved, untimed, nameParts, variableParts, metadataParts, objectParts, timerParts, nodeParts, openingParts, savedParts, timersParts}

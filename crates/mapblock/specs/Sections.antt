@@ -2,13 +2,11 @@
 -- at the end of their list. A part is told by its start and its length in the caller's block.
 use Prim.Native.Nat.{ℕ, _+_, _-_}
 use mathlib.Core.List.{List, []}
-use mathlib.Core.Bool.{Bool}
 use lib.ListN.{length, take, drop}
 use Rattle.wire.specs.Choice.{pick}
 use Rattle.wire.specs.Format.{encodeItems}
-use Rattle.wire.specs.Formats.{only}
-use Rattle.mapblock.specs.Data.{Block, unsaved, untimed}
-use Rattle.mapblock.specs.Layout.{since, before, all, nameRow, metadataRow, objectRow, timerRow, opening, saved, nodes, metadata, earlyTimers, objects, lateTimers}
+use Rattle.mapblock.specs.Data.{Block}
+use Rattle.mapblock.specs.Layout.{since, all, nameRow, metadataRow, objectRow, timerRow, saved, nodes, metadata, earlyTimers, objects, lateTimers}
 use Rattle.mapblock.specs.Block.{savedOf, timersOf, frontNamesEnd, listsAt}
 use Rattle.mapblock.specs.Rows.{part}
 use Rattle.mapblock.specs.declared.head.Part.{Part}

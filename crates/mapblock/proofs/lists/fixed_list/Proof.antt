@@ -10,13 +10,14 @@ use Rattle.mapblock.specs.Kinds.{rowAfter}
 use Rattle.mapblock.specs.Told.{ended}
 use Rattle.mapblock.specs.declared.fault.Fault.the-variants as fault
 use Rattle.mapblock.proofs.Fixed.{fixed-refused, fixed-other}
-use Rattle.mapblock.proofs.Readings.{num, num-told, within, within-ended}
+use Rattle.mapblock.proofs.Leaves.{by-number}
+use Rattle.mapblock.proofs.Readings.{num, within, within-ended}
 use Rattle.mapblock.proofs.RowLists.{fixed-told}
 use Rattle.mapblock.proofs.lists.fixed_list.Statement.{statement}
 use Rattle.mapblock.proofs.lists.fixed_list.Tie as tie
 
 byte : (c : tie.After-known-told) → num 1 .read (now (c .before .before .before .before .before .args .s)) ≡ done (c .before .v .given .0 .0) 1
-byte c = num-told 1 _ (c .before .before .before .u8-at .ensures) (ap toldU8 (c .before .v .given .1))
+byte c = by-number 1 _ toldU8 (c .before .before .before .u8-at .ensures) (c .before .v .given .1)
 
 -- the list behind it: refused, or read
 no-list : (c : tie.After-known-told2) → let a = c .before .before .before .before .before .before .before .before .before .before .before .args in
@@ -43,7 +44,7 @@ enum-told c = search needs
 returns : tie.Need-returns
 returns c =
     let a = c .before .before .before .before .args in
-    ap ended (sym (fixed-refused fault.Ends 1 (a .value) (a .fault) (listed 2 (rowAfter (a .kind) (a .version))) _ (num-told 1 _ (c .before .before .u8-at .ensures) (ap toldU8 (c .enum-told .given .1)))))
+    ap ended (sym (fixed-refused fault.Ends 1 (a .value) (a .fault) (listed 2 (rowAfter (a .kind) (a .version))) _ (by-number 1 _ toldU8 (c .before .before .u8-at .ensures) (c .enum-told .given .1))))
 
 returns-2 : tie.Need-returns-2
 returns-2 c =

@@ -10,13 +10,14 @@ use Rattle.mapblock.specs.Layout.{metadataRow, metadata}
 use Rattle.mapblock.specs.Told.{ended}
 use Rattle.mapblock.specs.declared.fault.Fault.the-variants as fault
 use Rattle.mapblock.proofs.Fixed.{fixed-refused, fixed-other}
-use Rattle.mapblock.proofs.Readings.{num, num-told, within, within-ended}
+use Rattle.mapblock.proofs.Leaves.{by-number}
+use Rattle.mapblock.proofs.Readings.{num, within, within-ended}
 use Rattle.mapblock.proofs.RowLists.{fixed-told, metadata-old}
 use Rattle.mapblock.proofs.lists.old_metadata.Statement.{statement}
 use Rattle.mapblock.proofs.lists.old_metadata.Tie as tie
 
 number : (c : tie.After-known-told) → num 2 .read (now (c .before .before .before .before .before .args .s)) ≡ done (c .before .v .given .0 .0) 2
-number c = num-told 2 _ (c .before .before .before .u16-at .ensures) (ap toldU16 (c .before .v .given .1))
+number c = by-number 2 _ toldU16 (c .before .before .before .u16-at .ensures) (c .before .v .given .1)
 
 -- the list behind it: refused, or read
 no-list : (c : tie.After-known-told2) → let a = c .before .before .before .before .before .before .before .before .before .before .before .args in
@@ -45,7 +46,7 @@ enum-told c = search needs
 returns : tie.Need-returns
 returns c =
     let a = c .before .before .before .before .args in
-    ap ended (sym (metadata-old (a .version) _ (c .before .before .before .before .pre) ∙ fixed-refused fault.Ends 2 1 fault.MetadataVersion (listed 2 (metadataRow (a .version))) _ (num-told 2 _ (c .before .before .u16-at .ensures) (ap toldU16 (c .enum-told .given .1)))))
+    ap ended (sym (metadata-old (a .version) _ (c .before .before .before .before .pre) ∙ fixed-refused fault.Ends 2 1 fault.MetadataVersion (listed 2 (metadataRow (a .version))) _ (by-number 2 _ toldU16 (c .before .before .u16-at .ensures) (c .enum-told .given .1))))
 
 returns-2 : tie.Need-returns-2
 returns-2 c =

@@ -1,13 +1,14 @@
 use borrow.Author.Needs.{needs}
 use Prim.Native.Nat.{_+_}
-use mathlib.Core.Path.{_≡_, ap}
+use mathlib.Core.Path.{_≡_}
 use native.Mathlib.Omega.{arith}
 use denote.Ref.{now}
 use lib.ListN.{take, drop, length-drop}
 use Rattle.wire.specs.Read.{done, refused}
 use Rattle.wire.specs.Told.{toldCounted}
 use Rattle.mapblock.specs.declared.fault.Fault.the-variants as fault
-use Rattle.mapblock.proofs.Readings.{text, within, text-told}
+use Rattle.mapblock.proofs.Leaves.{by-counted}
+use Rattle.mapblock.proofs.Readings.{text, within}
 use Rattle.mapblock.proofs.MetadataRows.{key-ends, value-ends, value-done}
 use Rattle.mapblock.proofs.metadata.key_and_value.Statement.{statement}
 use Rattle.mapblock.proofs.metadata.key_and_value.Tie as tie
@@ -15,17 +16,17 @@ use Rattle.mapblock.proofs.metadata.key_and_value.Tie as tie
 -- the key; the bytes that end in the value; the value
 key : (c : tie.After-known-told2) → let s = now (c .before .before .before .before .before .args .s) in
     text 2 .read s ≡ done (take (c .before .k .given .0 .0) (drop 2 s)) (2 + c .before .k .given .0 .0)
-key c = text-told 2 _ (c .before .before .before .counted16-at .ensures) (ap (toldCounted 2 _) (c .before .k .given .1))
+key c = by-counted 2 _ (toldCounted 2 _) (c .before .before .before .counted16-at .ensures) (c .before .k .given .1)
 
 no-value : (c : tie.After-known-told3) → let s = now (c .before .before .before .before .before .before .before .before .before .args .s) in
     text 4 .read (drop (2 + c .before .before .before .before .before .k .given .0 .0) s) ≡ refused fault.Ends (c .before .p2 .given .0 .0)
-no-value c = text-told 4 _ (c .before .before .before .counted32-at .ensures) (ap (toldCounted 4 _) (c .before .p2 .given .1))
+no-value c = by-counted 4 _ (toldCounted 4 _) (c .before .before .before .counted32-at .ensures) (c .before .p2 .given .1)
 
 value : (c : tie.After-known-told4) → let s = now (c .before .before .before .before .before .before .before .before .before .args .s) in
     let k = c .before .before .before .before .before .k .given .0 .0 in
     let n = c .before .n .given .0 .0 in
     text 4 .read (drop (2 + k) s) ≡ done (take n (drop 4 (drop (2 + k) s))) (4 + n)
-value c = text-told 4 _ (c .before .before .before .counted32-at .ensures) (ap (toldCounted 4 _) (c .before .n .given .1))
+value c = by-counted 4 _ (toldCounted 4 _) (c .before .before .before .counted32-at .ensures) (c .before .n .given .1)
 
 counted16-at-requires : tie.Need-counted16-at-requires
 counted16-at-requires c κs = search needs
@@ -64,7 +65,7 @@ add-t16 c =
     omega (arith, within (text 2) _ (key (c .before .before .before .before)), rw length-drop at (within (text 4) _ (value c)))
 
 returns : tie.Need-returns
-returns c = key-ends _ (text-told 2 _ (c .before .before .before .counted16-at .ensures) (ap (toldCounted 2 _) (c .before .p .given .1)))
+returns c = key-ends _ (by-counted 2 _ (toldCounted 2 _) (c .before .before .before .counted16-at .ensures) (c .before .p .given .1))
 
 returns-2 : tie.Need-returns-2
 returns-2 c = value-ends _ (key (c .before .before .before .before)) (no-value c)

@@ -11,14 +11,15 @@ use Rattle.wire.specs.Told.{toldU32}
 use Rattle.mapblock.specs.Inventory.{inventory}
 use Rattle.mapblock.specs.Layout.{variable}
 use Rattle.mapblock.specs.Told.{toldReach, ended}
-use Rattle.mapblock.proofs.Readings.{num, num-told, within, within-ended}
+use Rattle.mapblock.proofs.Leaves.{by-number}
+use Rattle.mapblock.proofs.Readings.{num, within, within-ended}
 use Rattle.mapblock.proofs.MetadataRows.{count-ends, variables-refused, inventory-refused, new-done}
 use Rattle.mapblock.proofs.metadata.new_row.Statement.{statement}
 use Rattle.mapblock.proofs.metadata.new_row.Tie as tie
 
 -- the count, and that it lies in the bytes
 count : (c : tie.After-known-told) → num 4 .read (drop 2 (now (c .before .before .before .before .before .args .s))) ≡ done (c .before .count .given .0 .0) 4
-count c = num-told 4 _ (c .before .before .before .u32-at .ensures) (ap toldU32 (c .before .count .given .1))
+count c = by-number 4 _ toldU32 (c .before .before .before .u32-at .ensures) (c .before .count .given .1)
 
 six : (c : tie.After-known-told) → 6 ≤ length (now (c .before .before .before .before .before .args .s))
 six c = omega (arith, rw length-drop at (within (num 4) _ (count c)))
@@ -70,7 +71,7 @@ enum-told c = search needs
 returns : tie.Need-returns
 returns c =
     let p = c .before .before .before .before .pre in
-    count-ends _ _ (p .1) (p .0) (num-told 4 _ (c .before .before .u32-at .ensures) (ap toldU32 (c .enum-told .given .1)))
+    count-ends _ _ (p .1) (p .0) (by-number 4 _ toldU32 (c .before .before .u32-at .ensures) (c .enum-told .given .1))
 
 sub-variables : tie.Need-sub-variables
 sub-variables c = six c

@@ -1,29 +1,30 @@
 use borrow.Author.Needs.{needs}
 use Prim.Native.Nat.{_+_}
-use mathlib.Core.Path.{_≡_, ap}
+use mathlib.Core.Path.{_≡_}
 use native.Mathlib.Omega.{arith}
 use denote.Ref.{now}
 use lib.ListN.{take, drop, length-drop}
 use Rattle.wire.specs.Read.{done, refused}
 use Rattle.wire.specs.Told.{toldU16, toldCounted}
 use Rattle.mapblock.specs.declared.fault.Fault.the-variants as fault
-use Rattle.mapblock.proofs.Readings.{num, num-told, text, within, text-told}
+use Rattle.mapblock.proofs.Leaves.{by-number, by-counted}
+use Rattle.mapblock.proofs.Readings.{num, text, within}
 use Rattle.mapblock.proofs.MetadataRows.{kind-ends, content-ends, content-done}
 use Rattle.mapblock.proofs.metadata.old_row.Statement.{statement}
 use Rattle.mapblock.proofs.metadata.old_row.Tie as tie
 
 -- the type; the bytes that end in the content; the content
 kind : (c : tie.After-known-told) → num 2 .read (drop 2 (now (c .before .before .before .before .before .args .s))) ≡ done (c .before .kind .given .0 .0) 2
-kind c = num-told 2 _ (c .before .before .before .u16-at .ensures) (ap toldU16 (c .before .kind .given .1))
+kind c = by-number 2 _ toldU16 (c .before .before .before .u16-at .ensures) (c .before .kind .given .1)
 
 no-content : (c : tie.After-known-told2) → let s = now (c .before .before .before .before .before .before .before .before .before .args .s) in
     text 2 .read (drop 4 s) ≡ refused fault.Ends (c .before .p .given .0 .0)
-no-content c = text-told 2 _ (c .before .before .before .counted16-at .ensures) (ap (toldCounted 2 _) (c .before .p .given .1))
+no-content c = by-counted 2 _ (toldCounted 2 _) (c .before .before .before .counted16-at .ensures) (c .before .p .given .1)
 
 content : (c : tie.After-known-told3) → let s = now (c .before .before .before .before .before .before .before .before .before .args .s) in
     let n = c .before .n .given .0 .0 in
     text 2 .read (drop 4 s) ≡ done (take n (drop 2 (drop 4 s))) (2 + n)
-content c = text-told 2 _ (c .before .before .before .counted16-at .ensures) (ap (toldCounted 2 _) (c .before .n .given .1))
+content c = by-counted 2 _ (toldCounted 2 _) (c .before .before .before .counted16-at .ensures) (c .before .n .given .1)
 
 u16-at-requires : tie.Need-u16-at-requires
 u16-at-requires c κs = search needs
@@ -37,7 +38,7 @@ enum-told c = search needs
 returns : tie.Need-returns
 returns c =
     let p = c .before .before .before .before .pre in
-    kind-ends _ _ (p .1) (p .0) (num-told 2 _ (c .before .before .u16-at .ensures) (ap toldU16 (c .enum-told .given .1)))
+    kind-ends _ _ (p .1) (p .0) (by-number 2 _ toldU16 (c .before .before .u16-at .ensures) (c .enum-told .given .1))
 
 counted16-at-requires : tie.Need-counted16-at-requires
 counted16-at-requires c κs = search needs

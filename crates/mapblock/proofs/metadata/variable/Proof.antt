@@ -6,7 +6,8 @@ use lib.ListN.{drop, length-drop}
 use Rattle.wire.specs.Read.{done}
 use Rattle.wire.specs.Told.{toldU8}
 use Rattle.mapblock.specs.Told.{toldReach, ended}
-use Rattle.mapblock.proofs.Readings.{num, num-told, within}
+use Rattle.mapblock.proofs.Leaves.{by-number}
+use Rattle.mapblock.proofs.Readings.{num, within}
 use Rattle.mapblock.proofs.MetadataRows.{keyAndValue, variable-refused, variable-bare, private-ends, private-other, private-done}
 use Rattle.mapblock.proofs.metadata.variable.Statement.{statement}
 use Rattle.mapblock.proofs.metadata.variable.Tie as tie
@@ -17,7 +18,7 @@ two c = sym (ap toldReach (c .before .r .given .1)) ∙ c .before .before .befor
 
 byte : (c : tie.After-known-told2) → let a = c .before .before .before .before .before .before .r .given .0 .0 in
     num 1 .read (drop a (now (c .before .before .before .before .before .before .before .before .before .before .args .s))) ≡ done (c .before .private .given .0 .0) 1
-byte c = num-told 1 _ (c .before .before .before .u8-at .ensures) (ap toldU8 (c .before .private .given .1))
+byte c = by-number 1 _ toldU8 (c .before .before .before .u8-at .ensures) (c .before .private .given .1)
 
 key-and-value-requires : tie.Need-key-and-value-requires
 key-and-value-requires c κs = search needs
@@ -48,7 +49,7 @@ add-t13 c = omega (arith, rw length-drop at (within (num 1) _ (byte (c .before))
 
 returns-3 : tie.Need-returns-3
 returns-3 c = private-ends _ _ (two (c .before .before .before .before)) (omega arith)
-    (num-told 1 _ (c .before .before .u8-at .ensures) (ap toldU8 (c .enum-told2 .given .1)))
+    (by-number 1 _ toldU8 (c .before .before .u8-at .ensures) (c .enum-told2 .given .1))
 
 returns-4 : tie.Need-returns-4
 returns-4 c = private-other _ _ (two (c .before .before .before .before .before .before)) (omega arith) (byte (c .before)) (c .if2 .taken)

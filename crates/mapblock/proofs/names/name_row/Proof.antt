@@ -9,10 +9,6 @@ use Rattle.wire.specs.Told.{toldU16, toldCounted}
 use native.Mathlib.Omega.{arith}
 use Rattle.mapblock.proofs.names.name_row.Statement.{statement}
 use Rattle.mapblock.proofs.names.name_row.Tie as tie
-use Rattle.mapblock.proofs.names.name_row.Reads as reads
-use Rattle.mapblock.proofs.names.name_row.Lts as lts
-use Rattle.wire.proofs.fields.counted16_at.Reads as counted16-at-reads
-use Rattle.wire.proofs.fields.u16_at.Reads as u16-at-reads
 
 u16-at-requires : tie.Need-u16-at-requires
 u16-at-requires c κs = search needs

@@ -7,11 +7,6 @@ use borrow.Author.Needs.{needs}
 use denote.Ref.{now}
 use mathlib.Core.Path.{ap, sym, _∙_}
 use Rattle.mapblock.proofs.names.name_rows.Tie as tie
-use Rattle.mapblock.proofs.names.name_rows.Reads as reads
-use Rattle.mapblock.proofs.names.name_rows.Lts as lts
-use Rattle.mapblock.proofs.names.new_name_row.Reads as new-name-row-reads
-use Rattle.mapblock.proofs.names.sized.Reads as sized-reads
-use Rattle.mapblock.proofs.names.unmark.Reads as unmark-reads
 
 -- The invariant: the rows that are left give the answer, and the table can be put back.
 abbrev Inv-loop : tie.InvT-loop

@@ -5,16 +5,10 @@ use Rattle.mapblock.proofs.Leaves.{by-number}
 use Rattle.mapblock.specs.Rows.{nameFields}
 use Rattle.wire.specs.Told.{toldU16}
 use Rattle.wire.specs.Read.{mapRead}
-use borrow.Author.Tests.{ne-eqb, eq-eqb, not-false}
-use denote.Ref.{now}
-use native.Mathlib.Omega.{arith}
+use borrow.Author.Tests.{ne-eqb, eq-eqb}
 use mathlib.Core.Path.{ap, sym, _∙_}
 use Rattle.mapblock.proofs.names.new_name_row.Statement.{statement}
 use Rattle.mapblock.proofs.names.new_name_row.Tie as tie
-use Rattle.mapblock.proofs.names.new_name_row.Reads as reads
-use Rattle.mapblock.proofs.names.new_name_row.Lts as lts
-use Rattle.mapblock.proofs.names.name_row.Reads as name-row-reads
-use Rattle.wire.proofs.fields.u16_at.Reads as u16-at-reads
 
 u16-at-requires : tie.Need-u16-at-requires
 u16-at-requires c κs = search needs

@@ -11,19 +11,13 @@ use Rattle.wire.specs.Told.{toldU8, toldU16, toldU32}
 use Rattle.wire.specs.Format.{items}
 use Rattle.wire.specs.Lists.{rest-is}
 use Rattle.wire.specs.Read.{done}
-use lib.ListN.{length, drop}
+use lib.ListN.{drop}
 use lib.Dec.{lit<}
 use denote.Ref.{now}
 use native.Mathlib.Omega.{arith}
 use mathlib.Core.Path.{_≡_, ap, sym, _∙_}
 use Rattle.mapblock.proofs.names.saved.Statement.{statement}
 use Rattle.mapblock.proofs.names.saved.Tie as tie
-use Rattle.mapblock.proofs.names.saved.Reads as reads
-use Rattle.mapblock.proofs.names.saved.Lts as lts
-use Rattle.mapblock.proofs.names.name_rows.Reads as name-rows-reads
-use Rattle.wire.proofs.fields.u16_at.Reads as u16-at-reads
-use Rattle.wire.proofs.fields.u32_at.Reads as u32-at-reads
-use Rattle.wire.proofs.fields.u8_at.Reads as u8-at-reads
 
 -- the three numbers in front
 time-is : (c : tie.After-timestamp) → num 4 .read (now (c .before .before .before .before .args .s)) ≡ done (c .timestamp .given .0 .0) 4

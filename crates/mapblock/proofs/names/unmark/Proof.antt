@@ -8,17 +8,13 @@ use Rattle.mapblock.specs.Table.{unmarked, frontRows}
 use Rattle.mapblock.specs.Rows.{nameFields}
 use Rattle.mapblock.specs.Layout.{all, nameRow}
 use Rattle.wire.specs.Lists.{rest-is}
-use Rattle.wire.specs.Read.{Read, mapRead, done}
-use lib.ListN.{length, length-drop, length-set}
+use lib.ListN.{length, length-drop}
 use denote.Ref.{now}
 use native.Mathlib.Nat.{le-refl}
 use native.Mathlib.Omega.{arith}
 use mathlib.Core.Path.{_≡_, refl, ap, sym, _∙_}
 use Prim.Native.Nat.{_≤_}
 use Rattle.mapblock.proofs.names.unmark.Tie as tie
-use Rattle.mapblock.proofs.names.unmark.Reads as reads
-use Rattle.mapblock.proofs.names.unmark.Lts as lts
-use Rattle.mapblock.proofs.names.name_row.Reads as name-row-reads
 
 -- The invariant: taking off the marks of the rows that are left gives the answer.
 abbrev Inv-loop : tie.InvT-loop

@@ -5,22 +5,16 @@ use Rattle.mapblock.proofs.OtherRows.{object-no-kind, object-no-x, obje
 use Rattle.mapblock.proofs.Leaves.{by-number, by-signed, by-counted, told-behind}
 use Rattle.mapblock.specs.declared.fault.Fault.the-variants as fault
 use Rattle.wire.specs.Formats.{u8, s32, half32, counted}
-use Rattle.wire.specs.Format.{ends-in}
 use Rattle.wire.specs.Read.{done}
 use Rattle.wire.specs.Told.{toldU8, toldS32, toldCounted}
 use mir.ValLaws.{toZ-ofZ}
 use mir.Syntax.{w32}
-use lib.ListN.{drop, length}
+use lib.ListN.{drop}
 use denote.Ref.{now}
 use native.Mathlib.Omega.{arith}
 use mathlib.Core.Path.{_≡_, refl}
 use Rattle.mapblock.proofs.objects.object_row.Statement.{statement}
 use Rattle.mapblock.proofs.objects.object_row.Tie as tie
-use Rattle.mapblock.proofs.objects.object_row.Reads as reads
-use Rattle.mapblock.proofs.objects.object_row.Lts as lts
-use Rattle.wire.proofs.fields.counted16_at.Reads as counted16-at-reads
-use Rattle.wire.proofs.fields.s32_at.Reads as s32-at-reads
-use Rattle.wire.proofs.fields.u8_at.Reads as u8-at-reads
 
 -- the four numbers in front
 kind-is : (c : tie.After-kind) → u8 {ends = fault.Ends} .read (now (c .before .before .before .before .args .s)) ≡ done (c .kind .given .0 .0) 1

@@ -5,9 +5,6 @@ use native.Mathlib.Omega.{arith}
 use mathlib.Core.Path.{ap, sym, _∙_}
 use Rattle.mapblock.proofs.positions.new_position.Statement.{statement}
 use Rattle.mapblock.proofs.positions.new_position.Tie as tie
-use Rattle.mapblock.proofs.positions.new_position.Reads as reads
-use Rattle.mapblock.proofs.positions.new_position.Lts as lts
-use Rattle.mapblock.proofs.positions.position.Reads as position-reads
 
 position-requires : tie.Need-position-requires
 position-requires c κs = search needs

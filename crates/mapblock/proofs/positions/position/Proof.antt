@@ -5,9 +5,6 @@ use Rattle.wire.specs.Told.{toldU16}
 use native.Mathlib.Omega.{arith}
 use Rattle.mapblock.proofs.positions.position.Statement.{statement}
 use Rattle.mapblock.proofs.positions.position.Tie as tie
-use Rattle.mapblock.proofs.positions.position.Reads as reads
-use Rattle.mapblock.proofs.positions.position.Lts as lts
-use Rattle.wire.proofs.fields.u16_at.Reads as u16-at-reads
 
 u16-at-requires : tie.Need-u16-at-requires
 u16-at-requires c κs = search needs

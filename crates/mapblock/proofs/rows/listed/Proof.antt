@@ -8,14 +8,15 @@ use Rattle.wire.specs.Read.{done, refused}
 use Rattle.wire.specs.Told.{toldU16}
 use Rattle.mapblock.specs.Kinds.{rowAfter}
 use Rattle.mapblock.specs.Told.{ended}
-use Rattle.mapblock.proofs.Readings.{num, num-told, within, within-ended, listed-refused}
+use Rattle.mapblock.proofs.Leaves.{by-number}
+use Rattle.mapblock.proofs.Readings.{num, within, within-ended, listed-refused}
 use Rattle.mapblock.proofs.RowLists.{listed-told}
 use Rattle.mapblock.proofs.rows.listed.Statement.{statement}
 use Rattle.mapblock.proofs.rows.listed.Tie as tie
 
 -- the count
 count : (c : tie.After-known-told) → num 2 .read (now (c .before .before .before .before .before .args .s)) ≡ done (c .before .count .given .0 .0) 2
-count c = num-told 2 _ (c .before .before .before .u16-at .ensures) (ap toldU16 (c .before .count .given .1))
+count c = by-number 2 _ toldU16 (c .before .before .before .u16-at .ensures) (c .before .count .given .1)
 
 -- the rows behind it: refused, or read
 no-rows : (c : tie.After-known-told2) → let a = c .before .before .before .before .before .before .before .before .before .before .args in
@@ -40,7 +41,7 @@ enum-told : tie.Need-enum-told
 enum-told c = search needs
 
 returns : tie.Need-returns
-returns c = let a = c .before .before .before .before .args in ap ended (sym (listed-refused 2 (rowAfter (a .kind) (a .version)) _ (num-told 2 _ (c .before .before .u16-at .ensures) (ap toldU16 (c .enum-told .given .1)))))
+returns c = let a = c .before .before .before .before .args in ap ended (sym (listed-refused 2 (rowAfter (a .kind) (a .version)) _ (by-number 2 _ toldU16 (c .before .before .u16-at .ensures) (c .enum-told .given .1))))
 
 sub-rows : tie.Need-sub-rows
 sub-rows c = within (num 2) _ (count c)

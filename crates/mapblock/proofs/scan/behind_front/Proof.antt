@@ -1,29 +1,20 @@
 use borrow.Author.Needs.{needs}
 use Rattle.mapblock.proofs.SoFar.{names-room}
-use Prim.Native.Nat.{ℕ, _+_, _≤_}
+use Prim.Native.Nat.{_+_, _≤_}
 use Rattle.mapblock.proofs.Rests.{front-inside, no-middle, sized}
 use Rattle.mapblock.proofs.SoFar.{middle-inside, upto-new}
 use Rattle.mapblock.proofs.Readings.{within}
 use Rattle.mapblock.specs.Table.{freeIn}
-use Rattle.mapblock.specs.Scan.{middle, MiddleIs, MiddleTold}
-use Rattle.mapblock.specs.Layout.{front}
-use Rattle.wire.specs.Read.{reach, refused}
+use Rattle.mapblock.specs.Scan.{middle, MiddleIs}
+use Rattle.wire.specs.Read.{refused}
 use Rattle.wire.specs.Lists.{rest-is}
 use Rattle.wire.specs.Bytes.{Bytes}
 use lib.ListN.{length, drop, length-drop}
 use denote.Ref.{now}
 use native.Mathlib.Omega.{arith}
-use mathlib.Core.List.{List}
-use mathlib.Core.Path.{_≡_, refl, ap, sym, subst, _∙_}
+use mathlib.Core.Path.{_≡_, refl}
 use Rattle.mapblock.proofs.scan.behind_front.Statement.{statement}
 use Rattle.mapblock.proofs.scan.behind_front.Tie as tie
-use Rattle.mapblock.proofs.scan.behind_front.Reads as reads
-use Rattle.mapblock.proofs.scan.behind_front.Lts as lts
-use Rattle.mapblock.proofs.scan.ending.Reads as ending-reads
-use Rattle.mapblock.proofs.scan.middle.Reads as middle-reads
-use Rattle.mapblock.proofs.scan.names_behind.Reads as names-behind-reads
-use Rattle.mapblock.proofs.scan.rows_of.Reads as rows-of-reads
-use Rattle.mapblock.proofs.scan.so_far.Reads as so-far-reads
 
 bytes : (c : tie.After-shared-slice-known) → Bytes (now (c .before .args .s))
 bytes c i = c .shared-slice-known .given i .fits

@@ -12,18 +12,12 @@ use Rattle.mapblock.specs.Layout.{lateTimers}
 use Rattle.wire.specs.Read.{done}
 use Rattle.wire.specs.Bytes.{bytes-drop}
 use Rattle.wire.specs.Lists.{rest-is}
-use lib.ListN.{length, drop, length-drop}
+use lib.ListN.{drop, length-drop}
 use denote.Ref.{now}
 use native.Mathlib.Omega.{arith}
 use mathlib.Core.Path.{_≡_, ap, sym, _∙_}
 use Rattle.mapblock.proofs.scan.ending.Statement.{statement}
 use Rattle.mapblock.proofs.scan.ending.Tie as tie
-use Rattle.mapblock.proofs.scan.ending.Reads as reads
-use Rattle.mapblock.proofs.scan.ending.Lts as lts
-use Rattle.mapblock.proofs.lists.late_timers.Reads as late-timers-reads
-use Rattle.mapblock.proofs.nodes.first_stray.Reads as first-stray-reads
-use Rattle.mapblock.proofs.nodes.width.Reads as width-reads
-use Rattle.mapblock.proofs.scan.with_late.Reads as with-late-reads
 
 -- the first node that is not mapped
 stray-is : (c : tie.After-i) → let a = c .before .before .before .before .before .before .before .before .before .before .before .before .args in some (c .i .given .0 .0) ≡ strayIn (a .w .head .version) (drop (a .w .lists) (now (a .s))) (now (a .ids)) 4096 0

@@ -5,7 +5,7 @@ use Rattle.mapblock.proofs.Readings.{within-ended}
 use Rattle.mapblock.proofs.Leaves.{told-in}
 use Rattle.mapblock.specs.Told.{ended, timerByte, toldReach, toldEarly}
 use Rattle.mapblock.specs.Layout.{metadata, earlyTimers, objects}
-use Rattle.wire.specs.Read.{Read, done, mapRead}
+use Rattle.wire.specs.Read.{done, mapRead}
 use Rattle.wire.specs.Lists.{rest-is}
 use lib.ListN.{length, drop, length-drop}
 use denote.Ref.{now}
@@ -13,11 +13,6 @@ use native.Mathlib.Omega.{arith}
 use mathlib.Core.Path.{_≡_, ap, sym, _∙_}
 use Rattle.mapblock.proofs.scan.middle.Statement.{statement}
 use Rattle.mapblock.proofs.scan.middle.Tie as tie
-use Rattle.mapblock.proofs.scan.middle.Reads as reads
-use Rattle.mapblock.proofs.scan.middle.Lts as lts
-use Rattle.mapblock.proofs.lists.early_timers.Reads as early-timers-reads
-use Rattle.mapblock.proofs.lists.metadata_list.Reads as metadata-list-reads
-use Rattle.mapblock.proofs.lists.object_list.Reads as object-list-reads
 
 metadata-is : (c : tie.After-metadata) → let a = c .before .before .before .before .args in done tt (c .metadata .given .0 .0) ≡ ended (metadata (a .version) .read (now (a .s)))
 metadata-is c = sym (ap toldReach (c .metadata .given .1)) ∙ c .before .before .metadata-list .ensures

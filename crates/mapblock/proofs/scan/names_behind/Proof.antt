@@ -1,6 +1,5 @@
 use borrow.Author.Needs.{needs}
-use Rattle.mapblock.specs.Table.{unmarked, frontRows}
-use Prim.Native.Nat.{ℕ, _+_, _≤_}
+use Prim.Native.Nat.{_+_, _≤_}
 use Rattle.mapblock.proofs.Rests.{sized, no-names, names-long, names-upto, names-restored}
 use Rattle.mapblock.proofs.SoFar.{middle-inside}
 use Rattle.mapblock.proofs.Leaves.{told-in}
@@ -8,23 +7,15 @@ use Rattle.mapblock.specs.Told.{shownSaved, toldSaved}
 use Rattle.mapblock.specs.Table.{freeIn, SavedMarked}
 use Rattle.mapblock.specs.Layout.{saved}
 use Rattle.wire.specs.Format.{pair}
-use Rattle.wire.specs.Read.{done, refused, mapRead, map-refused}
+use Rattle.wire.specs.Read.{done, mapRead, map-refused}
 use Rattle.wire.specs.Lists.{rest-is}
 use Rattle.wire.specs.Bytes.{Bytes}
 use lib.ListN.{length, drop, length-drop}
 use denote.Ref.{now}
 use native.Mathlib.Omega.{arith}
-use mathlib.Core.List.{List}
-use mathlib.Core.Path.{_≡_, refl, ap, sym, subst, _∙_}
+use mathlib.Core.Path.{_≡_, ap, sym, _∙_}
 use Rattle.mapblock.proofs.scan.names_behind.Statement.{statement}
 use Rattle.mapblock.proofs.scan.names_behind.Tie as tie
-use Rattle.mapblock.proofs.scan.names_behind.Reads as reads
-use Rattle.mapblock.proofs.scan.names_behind.Lts as lts
-use Rattle.mapblock.proofs.names.saved.Reads as saved-reads
-use Rattle.mapblock.proofs.names.unmark.Reads as unmark-reads
-use Rattle.mapblock.proofs.scan.ending.Reads as ending-reads
-use Rattle.mapblock.proofs.scan.rows_of.Reads as rows-of-reads
-use Rattle.mapblock.proofs.scan.so_far.Reads as so-far-reads
 
 bytes : (c : tie.After-shared-slice-known) → Bytes (now (c .before .args .s))
 bytes c i = c .shared-slice-known .given i .fits

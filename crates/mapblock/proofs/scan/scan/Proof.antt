@@ -3,21 +3,14 @@ use Prim.Native.Nat.{_≤_}
 use Rattle.mapblock.proofs.Verdicts.{verdict-refused}
 use Rattle.mapblock.proofs.Rests.{front-inside, front-undone}
 use Rattle.mapblock.proofs.Uptos.{block-no-front}
-use Rattle.mapblock.specs.Table.{unmarked, frontRows}
 use Rattle.mapblock.specs.Scan.{FrontIs}
 use Rattle.wire.specs.Lists.{rest-is}
-use lib.ListN.{length, drop}
+use lib.ListN.{length}
 use denote.Ref.{now}
 use native.Mathlib.Omega.{arith}
-use mathlib.Core.List.{List}
-use mathlib.Core.Path.{_≡_, refl, ap, sym, _∙_}
+use mathlib.Core.Path.{_∙_}
 use Rattle.mapblock.proofs.scan.scan.Statement.{statement}
 use Rattle.mapblock.proofs.scan.scan.Tie as tie
-use Rattle.mapblock.proofs.scan.scan.Reads as reads
-use Rattle.mapblock.proofs.scan.scan.Lts as lts
-use Rattle.mapblock.proofs.names.unmark.Reads as unmark-reads
-use Rattle.mapblock.proofs.scan.behind_front.Reads as behind-front-reads
-use Rattle.mapblock.proofs.scan.front.Reads as front-reads
 
 front-is : (c : tie.After-w) → let a = c .before .before .before .before .before .args in FrontIs (now (a .ids)) (c .before .before .front .last .1 .0) (now (a .s)) (c .w .given .0 .0)
 front-is c = rw (c .w .given .1) at (c .before .before .front .ensures)

@@ -9,10 +9,6 @@ use Rattle.wire.specs.Told.{toldS32}
 use mathlib.Core.Path.{refl, ap, sym, _∙_}
 use Rattle.mapblock.proofs.timers.timer_row.Statement.{statement}
 use Rattle.mapblock.proofs.timers.timer_row.Tie as tie
-use Rattle.mapblock.proofs.timers.timer_row.Reads as reads
-use Rattle.mapblock.proofs.timers.timer_row.Lts as lts
-use Rattle.mapblock.proofs.positions.position.Reads as position-reads
-use Rattle.wire.proofs.fields.s32_at.Reads as s32-at-reads
 
 position-requires : tie.Need-position-requires
 position-requires c κs = search needs
