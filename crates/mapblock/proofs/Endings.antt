@@ -6,14 +6,15 @@ use mathlib.Core.List.{List}
 use mathlib.Core.Bool.{Bool, true, false}
 use native.Mathlib.Omega.{arith}
 use lib.Dec.{leb, eqb}
-use lib.ListN.{getD, drop}
+use borrow.Author.Tests.{le-leb}
+use lib.ListN.{length, getD, drop, length-drop}
 use lib.Seq.{drop-drop}
 use Rattle.wire.specs.Choice.{pick}
 use Rattle.wire.specs.Bytes.{Bytes, bytes-drop}
 use Rattle.wire.specs.Read.{done, refused, mapRead, map-done, map-refused}
 use Rattle.wire.specs.Formats.{_▹_}
 use Rattle.mapblock.specs.Layout.{width, metadata, earlyTimers, objects, lateTimers}
-use Rattle.mapblock.specs.Params.{idIn, strayIn}
+use Rattle.mapblock.specs.Params.{idIn, strayIn, strayOf}
 use Rattle.mapblock.specs.Scan.{middle, MiddleIs}
 use Rattle.mapblock.specs.Told.{ended, timerByte}
 use Rattle.mapblock.specs.declared.fault.Fault.{Fault}
@@ -75,3 +76,7 @@ width-place v i h = go (leb 24 v)
     go : (b : Bool) → (pick b 2 1 * i < 8192) × (pick b 2 1 * i ≤ 4096 * pick b 2 1)
     go true = (omega arith, omega arith)
     go false = (omega arith, omega arith)
+
+-- the param lists lie in the bytes
+pub stray-there : (v : ℕ) (s t : List ℕ) (lists at : ℕ) → lists + (4096 * width v + 8192) ≤ at → at ≤ length s → strayOf v (drop lists s) t ≡ strayIn v (drop lists s) t 4096 0
+stray-there v s t lists at h k = rw (le-leb (4096 * width v + 8192) (length (drop lists s)) (omega (arith, length-drop lists s)))

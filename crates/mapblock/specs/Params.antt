@@ -2,8 +2,9 @@
 use Prim.Native.Nat.{ℕ, zero, suc, _+_, _*_}
 use mathlib.Core.Option.{Option, some, none}
 use mathlib.Core.List.{List, [], _∷_}
-use lib.Dec.{eqb}
-use lib.ListN.{getD, take, drop}
+use mathlib.Core.Bool.{Bool}
+use lib.Dec.{eqb, leb}
+use lib.ListN.{length, getD, take, drop}
 use Rattle.wire.specs.Choice.{pick}
 use Rattle.wire.specs.Bytes.{spelt}
 use Rattle.mapblock.specs.Data.{Nodes}
@@ -27,3 +28,10 @@ idIn v s i = contentId v (spelt 0 (take (width v) (drop (width v * i) s))) (getD
 unfoldable pub strayIn : ℕ → List ℕ → List ℕ → ℕ → ℕ → Option ℕ
 strayIn v s t zero i = none
 strayIn v s t (suc n) i = pick (eqb (getD t (idIn v s i) 0) 0) (some i) (strayIn v s t n (suc i))
+
+-- the bytes hold the three lists
+abbrev pub holdsLists : ℕ → List ℕ → Bool
+holdsLists v s = leb (4096 * width v + 8192) (length s)
+
+abbrev pub strayOf : ℕ → List ℕ → List ℕ → Option ℕ
+strayOf v s t = pick (holdsLists v s) (strayIn v s t 4096 0) none

@@ -8,7 +8,7 @@ ghost use mathlib.Core.Path.{_≡_};
 ghost use Prim.Native.Nat.{_+_, _*_, _<_, _≤_};
 ghost use lib.ListN.{length, drop};
 ghost use Rattle.mapblock.specs.Layout.{nodes, params, width};
-ghost use Rattle.mapblock.specs.Params.{entries, idIn, strayIn};
+ghost use Rattle.mapblock.specs.Params.{entries, idIn, strayIn, holdsLists, strayOf};
 ghost use Rattle.mapblock.specs.Told.{toldReach, ended, toldStray};
 
 // How many nodes a block has.
@@ -79,8 +79,8 @@ pub enum Stray {
     At(usize),
 }
 
-// The first node whose content id is not marked as mapped.
-pub(crate) fn first_stray(version: u8, s: &[u8], ids: &[u8; 65536]) -> Stray
+// The first node whose content id is not marked as mapped, in bytes that hold the lists.
+fn stray_in(version: u8, s: &[u8], ids: &[u8; 65536]) -> Stray
     requires { ⌜ 4096 * width version + 8192 ≤ length (now s) ⌝ }
     ensures { λ r. ⌜ toldStray r ≡ strayIn version (now (s .entry)) (now (ids .entry)) 4096 0 ⌝ }
 {
@@ -92,6 +92,24 @@ pub(crate) fn first_stray(version: u8, s: &[u8], ids: &[u8; 65536]) -> Stray
         i += 1;
     }
     Stray::None
+}
+
+// Whether bytes hold the three lists.
+fn holds_lists(version: u8, s: &[u8]) -> bool
+    ensures { λ r. ⌜ r ≡ holdsLists version (now (s .entry)) ⌝ }
+{
+    NODES * width(version) + 2 * NODES <= s.len()
+}
+
+// The same of any bytes; their bounds are tested once.
+pub(crate) fn first_stray(version: u8, s: &[u8], ids: &[u8; 65536]) -> Stray
+    ensures { λ r. ⌜ toldStray r ≡ strayOf version (now (s .entry)) (now (ids .entry)) ⌝ }
+{
+    if holds_lists(version, s) {
+        stray_in(version, s, ids)
+    } else {
+        Stray::None
+    }
 }
 
 // The entries of two bytes at the front, into a lent list.

@@ -4,7 +4,7 @@ use Prim.Native.Nat.{_*_, _<_, _≤_}
 use Rattle.mapblock.specs.Layout.{width}
 use Rattle.mapblock.specs.Params.{strayIn}
 use mathlib.Core.Option.{some}
-use Rattle.mapblock.proofs.Endings.{late-long, stray-below, width-place}
+use Rattle.mapblock.proofs.Endings.{late-long, stray-below, stray-there, width-place}
 use Rattle.mapblock.proofs.Verdicts.{late-refused, late-inside, late-after, late-stray, late-done}
 use Rattle.mapblock.proofs.Readings.{within-ended}
 use Rattle.mapblock.specs.Told.{ended, toldReach, toldStray}
@@ -21,7 +21,11 @@ use Rattle.mapblock.proofs.scan.ending.Tie as tie
 
 -- the first node that is not mapped
 stray-is : (c : tie.After-i) → let a = c .before .before .before .before .before .before .before .before .before .before .before .before .args in some (c .i .given .0 .0) ≡ strayIn (a .w .head .version) (drop (a .w .lists) (now (a .s))) (now (a .ids)) 4096 0
-stray-is c = rw (rest-is (c .before .before .before .before .before .before .before .before .before .before .before .before .args .w .lists) (now (c .before .before .before .before .before .before .before .before .before .before .before .before .args .s))) at (sym (ap toldStray (c .i .given .1)) ∙ c .before .before .first-stray .ensures)
+stray-is c =
+    let a = c .before .before .before .before .before .before .before .before .before .before .before .before .args in
+    let u = c .before .before .before .before .before .before .before .before .before .before .before .before .pre .1 in
+    rw (rest-is (a .w .lists) (now (a .s))) at (sym (ap toldStray (c .i .given .1)) ∙ c .before .before .first-stray .ensures)
+    ∙ stray-there (a .w .head .version) (now (a .s)) (now (a .ids)) (a .w .lists) (a .at) (u .long) (u .inside)
 
 stray-at : (c : tie.After-i) → let a = c .before .before .before .before .before .before .before .before .before .before .before .before .args in let v = a .w .head .version in
     (width v * c .i .given .0 .0 < 8192) × (width v * c .i .given .0 .0 ≤ 4096 * width v)
@@ -118,8 +122,10 @@ returns-3 c =
 returns-4 : tie.Need-returns-4
 returns-4 c =
     let a = c .before .before .before .before .before .before .before .before .before .before .before .before .before .args in
+    let q = c .before .before .before .before .before .before .before .before .before .before .before .before .before .pre .1 in
     let b : Bytes (now (a .s)) = λ i. c .before .before .before .before .before .before .before .before .before .before .before .before .shared-slice-known .given i .fits in
-    let e = rw (rest-is (a .w .lists) (now (a .s))) at (sym (ap toldStray (c .before .enum-told .given .1)) ∙ c .before .before .before .first-stray .ensures) in
+    let e = rw (rest-is (a .w .lists) (now (a .s))) at (sym (ap toldStray (c .before .enum-told .given .1)) ∙ c .before .before .before .first-stray .ensures)
+    ∙ stray-there (a .w .head .version) (now (a .s)) (now (a .ids)) (a .w .lists) (a .at) (q .long) (q .inside) in
     λ free u. rw (c .with-late .ensures) (late-done u (late-is (c .before .before .before .before .before .before .before)) b (c .before .before .before .before .before .if1 .left) e)
 
 pub ending-spec : {M : Type 1} → statement M
