@@ -22,3 +22,6 @@ pub mod Taken
 pub mod SoFar
 pub mod Endings
 pub mod Rests
+pub mod SectionsThere
+pub mod BlockAnswers
+pub mod NodeNames

@@ -123,10 +123,10 @@ objects-rows-length l = fixed-length 2 (λ _. objectRow) 1 0 fault.ObjectVersion
 abbrev pub AtEnd : Timers → ℕ → Type 0
 AtEnd k n = (length (encodeItems timerRow [] (k .rows)) ≡ n - pick (eqb (k .byte) 1) 3 n) × (pick (eqb (k .byte) 1) 3 n ≤ n)
 
-abbrev timersOf24 : Form Timers
+abbrev pub timersOf24 : Form Timers
 timersOf24 = into timersParts (such (λ t. leb t 1) fault.TimerByte (number 1) ⨾ λ t. only (eqb t 1) [] (listed 2 timerRow))
 
-abbrev earlyBy : Bool → Bool → Bool → Form Timers
+abbrev pub earlyBy : Bool → Bool → Bool → Form Timers
 earlyBy a b c = only a untimed (pick b timersOf24 (pick c (fixed 1 0 fault.ByteOf23 (nothing untimed)) (nothing untimed)))
 
 rows-none : (k : Timers) (n : ℕ) → k ≡ untimed → AtEnd k n

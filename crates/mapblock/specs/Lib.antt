@@ -12,5 +12,6 @@ pub mod Light
 pub mod Scan
 pub mod Numbers
 pub mod RowQuestions
+pub mod Questions
 pub mod Valid
 pub mod Theorems

@@ -1,17 +1,22 @@
--- What the definitions promise together. proofs/ValidOk.antt proves the first, proofs/Taken.antt the others.
-use Prim.Native.Nat.{ℕ, _≤_}
+-- What the definitions promise together. proofs/ValidOk.antt proves the first; `SectionsAreRows` and `VeryBytes` are proved in
+-- proofs/SectionsThere.antt and proofs/NodeNames.antt, the others in proofs/Taken.antt.
+use Prim.Native.Nat.{ℕ, _+_, _≤_}
 use mathlib.Core.Path.{_≡_}
 use mathlib.Core.Logic.{_↔_}
 use mathlib.Core.Option.{none}
-use mathlib.Core.List.{List}
+use mathlib.Core.List.{List, []}
 use lib.ListN.{length}
 use Rattle.wire.specs.Bytes.{Bytes}
 use Rattle.wire.specs.Read.{Read, done, refused}
+use Rattle.wire.specs.Format.{encodeItems}
 use Rattle.mapblock.specs.Data.{Block}
-use Rattle.mapblock.specs.Layout.{all}
+use Rattle.mapblock.specs.Layout.{all, nameRow, metadataRow, objectRow, timerRow}
 use Rattle.mapblock.specs.Block.{block, stray, verdict}
 use Rattle.mapblock.specs.Valid.{Valid}
+use Rattle.mapblock.specs.Sections.{sections, within}
+use Rattle.mapblock.specs.Questions.{nameAt, nameSpot}
 use Rattle.mapblock.specs.declared.fault.Fault.{Fault}
+use Rattle.mapblock.specs.declared.head.Part.{Part}
 
 -- ---- well formed
 -- The valid blocks are those that have bytes in the layout and no id unmapped.
@@ -65,3 +70,24 @@ pub record TakesTwo (v : ℕ) (r : Reader) : Type 0 where
 -- A reader that `TakenBy` holds of is neither of the first two; it takes blocks of every version, and not one alone.
 abbrev pub ShutOut : Type 0
 ShutOut = (r : Reader) → TakenBy r → (RefusesAll r → ⊥) × (GivesOne r → ⊥) × ((v : ℕ) → 22 ≤ v → v ≤ 29 → TakesTwo v r)
+
+-- ---- parts of the caller's block: document 01, 'Reading, looking, writing'
+-- the part p lies in s, and holds the bytes r
+pub record Holds (s : List ℕ) (p : Part) (r : List ℕ) : Type 0 where
+  pub inside : p .start + p .length ≤ length s
+  pub bytes : within s p ≡ r
+
+-- each section of the block b holds the bytes of its rows
+pub record RowsIn (s : List ℕ) (b : Block) : Type 0 where
+  pub names : Holds s (sections b .names) (encodeItems (nameRow all) [] (b .names))
+  pub metadata : Holds s (sections b .metadata) (encodeItems (metadataRow (b .head .version)) [] (b .metadata))
+  pub objects : Holds s (sections b .objects) (encodeItems (λ _. objectRow) [] (b .objects))
+  pub timers : Holds s (sections b .timers) (encodeItems timerRow [] (b .timers))
+
+-- "A section is the run of its rows without count, and comes back as a part of the caller's block."
+abbrev pub SectionsAreRows : Type 0
+SectionsAreRows = (s : List ℕ) (b : Block) (n : ℕ) → Bytes s → verdict all s ≡ done b n → RowsIn s b
+
+-- "The name of a node comes back as the very bytes in the caller's block"
+abbrev pub VeryBytes : Type 0
+VeryBytes = (s : List ℕ) (b : Block) (n : ℕ) → Bytes s → verdict all s ≡ done b n → (i : ℕ) → i ≤ 4095 → Holds s (nameSpot b i) (nameAt b i)

@@ -1,0 +1,101 @@
+-- The invariant: the name stands in the rows that are left where it stands in all of them.
+use borrow.Author.Needs.{needs}
+use mathlib.Core.Path.{_≡_, ap, sym, _∙_}
+use mathlib.Core.List.{[]}
+use native.Mathlib.Omega.{arith}
+use lib.ListN.{length, length-drop}
+use denote.Ref.{now}
+use Rattle.wire.specs.Lists.{rest-is}
+use Rattle.wire.specs.Read.{done, mapRead}
+use Rattle.mapblock.specs.Layout.{all, nameRow}
+use Rattle.mapblock.specs.Rows.{nameFields}
+use Rattle.mapblock.specs.Told.{toldName}
+use Rattle.mapblock.proofs.NodeNames.{Finding, finding-start, finding-end, finding-refused, row-start, row-size, row-inside, finding-here, finding-on}
+use Rattle.mapblock.proofs.node.find.Statement.{statement}
+use Rattle.mapblock.proofs.node.find.Tie as tie
+
+abbrev Inv-loop : tie.InvT-loop
+Inv-loop names start id rest₀ at₀ rest at = Finding names rest start at id
+
+abbrev μ-loop : tie.MeasureT-loop
+μ-loop names start id rest₀ at₀ rest at = length rest
+
+-- the front row, as it was read
+row-is : (c : tie.After-row Inv-loop μ-loop) → done (c .row .given .0 .0) (c .row .given .0 .1 .0) ≡ mapRead nameFields (nameRow all [] .read (now (c .before .before .before .before .loop .rest)))
+row-is c = sym (ap toldName (c .row .given .1)) ∙ c .before .before .name-row .ensures
+
+loop-holds : tie.Need-loop-holds Inv-loop μ-loop
+loop-holds c = finding-start _ _ _ (λ i. c .shared-slice-known .given i .fits)
+
+name-row-requires : tie.Need-name-row-requires Inv-loop μ-loop
+name-row-requires c κs = search needs
+
+enum-told : tie.Need-enum-told Inv-loop μ-loop
+enum-told c = search needs
+
+returns : tie.Need-returns Inv-loop μ-loop
+returns c = finding-refused (c .before .before .before .before .loop .inv) (c .before .before .before .loop-test .taken) (sym (ap toldName (c .enum-told .given .1)) ∙ c .before .before .name-row .ensures)
+
+enum-known-row : tie.Need-enum-known-row Inv-loop μ-loop
+enum-known-row c = search needs
+
+cast-if1 : tie.Need-cast-if1 Inv-loop μ-loop
+cast-if1 c = search needs
+
+add-t14 : tie.Need-add-t14 Inv-loop μ-loop
+add-t14 c =
+    let k = c .before .before .before .before .before in
+    let f = k .before .before .before .before .loop .inv in
+    omega (arith, f .size, row-start f (row-is k), row-size f (row-is k), row-inside f (row-is k))
+
+returns-2 : tie.Need-returns-2 Inv-loop μ-loop
+returns-2 c = let k = c .before .before .before .before .before in finding-here (k .before .before .before .before .loop .inv) (row-is k) (c .before .before .if1 .taken)
+
+sub-rest : tie.Need-sub-rest Inv-loop μ-loop
+sub-rest c = let k = c .before .before .before in row-inside (k .before .before .before .before .loop .inv) (row-is k)
+
+part-rest-start : tie.Need-part-rest-start Inv-loop μ-loop
+part-rest-start c = let k = c .before .before .before in row-inside (k .before .before .before .before .loop .inv) (row-is k)
+
+part-rest-end : tie.Need-part-rest-end Inv-loop μ-loop
+part-rest-end c = search needs
+
+add-at : tie.Need-add-at Inv-loop μ-loop
+add-at c =
+    let k = c .before .before .before .before in
+    let f = k .before .before .before .before .loop .inv in
+    omega (arith, f .size, row-inside f (row-is k))
+
+loop-less : tie.Need-loop-less Inv-loop μ-loop
+loop-less c =
+    let k = c .before .before .before .before in
+    let f = k .before .before .before .before .loop .inv in
+    rw (rest-is (k .row .given .0 .1 .0) (now (k .before .before .before .before .loop .rest)), length-drop) (omega (arith, row-size f (row-is k), row-inside f (row-is k)))
+
+loop-again : tie.Need-loop-again Inv-loop μ-loop
+loop-again c = let k = c .before .before .before .before in finding-on (k .before .before .before .before .loop .inv) (row-is k) (c .before .if1 .left)
+
+returns-3 : tie.Need-returns-3 Inv-loop μ-loop
+returns-3 c = finding-end (c .before .loop .inv) (omega arith)
+
+pub find-spec : {M : Type 1} → statement M
+find-spec =
+    tie.close
+    (tie.spec
+    Inv-loop
+    μ-loop
+    loop-holds
+    name-row-requires
+    enum-told
+    returns
+    enum-known-row
+    cast-if1
+    add-t14
+    returns-2
+    sub-rest
+    part-rest-start
+    part-rest-end
+    add-at
+    loop-less
+    loop-again
+    returns-3)

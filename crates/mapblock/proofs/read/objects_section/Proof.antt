@@ -1,0 +1,18 @@
+use borrow.Author.Needs.{needs}
+use mathlib.Core.Path.{refl}
+use Rattle.mapblock.specs.declared.head.Sections.{Sections}
+use Rattle.mapblock.proofs.BlockAnswers.{parts-inside, section-told}
+use Rattle.mapblock.proofs.read.objects_section.Statement.{statement}
+use Rattle.mapblock.proofs.read.objects_section.Tie as tie
+
+parts-requires : tie.Need-parts-requires
+parts-requires c κs = search needs
+
+cut-requires : tie.Need-cut-requires
+cut-requires c κs = parts-inside _ (λ i. c .before .before .shared-slice-known .given i .fits) (c .before .parts .ensures) .objects
+
+returns : tie.Need-returns
+returns c = section-told _ (λ (x : Sections). x .objects) refl (c .cut .ensures) (c .before .before .parts .ensures)
+
+pub objects-section-spec : {M : Type 1} → statement M
+objects-section-spec = tie.close (tie.spec parts-requires cut-requires returns)

@@ -1,0 +1,108 @@
+-- The reader, and the questions asked of a whole block: document 01, 'Reading, looking, writing' and 'Order'.
+use Prim.Native.Nat.{ℕ, _+_}
+use mathlib.Core.List.{List, [], _∷_}
+use mathlib.Core.Bool.{_&&_}
+use mathlib.Core.Path.{_≡_}
+use lib.Dec.{leb, eqb}
+use lib.ListN.{length}
+use Rattle.wire.specs.Choice.{pick}
+use Rattle.wire.specs.Read.{Read, done, refused}
+use Rattle.wire.specs.Format.{encodeItems}
+use Rattle.wire.specs.Answer.{Answer, good, refusal, plain, mapAnswer, partsMisfit, noSuch}
+use Rattle.mapblock.specs.Data.{NameRow, Block}
+use Rattle.mapblock.specs.Layout.{all, nameRow}
+use Rattle.mapblock.specs.Block.{idAt, verdict}
+use Rattle.mapblock.specs.Numbers.{number}
+use Rattle.mapblock.specs.Rows.{part, nowhere}
+use Rattle.mapblock.specs.Valid.{Each, NameGood}
+use Rattle.mapblock.specs.Sections.{sections, namesPart, within}
+use Rattle.mapblock.specs.declared.fault.Fault.{Fault}
+use Rattle.mapblock.specs.declared.head.Head.{Head}
+use Rattle.mapblock.specs.declared.head.Part.{Part}
+use Rattle.mapblock.specs.declared.head.Sections.{Sections}
+use Rattle.mapblock.specs.declared.read.ReadAnswer.{ReadAnswer}
+use Rattle.mapblock.specs.declared.read.ReadAnswer.the-variants as read
+use Rattle.mapblock.specs.declared.read.SectionsAnswer.{SectionsAnswer}
+use Rattle.mapblock.specs.declared.read.SectionsAnswer.the-variants as looked
+use Rattle.mapblock.specs.declared.node.NodeAnswer.{NodeAnswer}
+use Rattle.mapblock.specs.declared.node.NodeAnswer.the-variants as nodes
+
+-- the block, or the number and place of its fault
+abbrev pub blockAnswer : Read Fault Block → Answer Block
+blockAnswer (done b n) = good b
+blockAnswer (refused f p) = refusal (number f) 0 p
+
+unfoldable pub blockOf : List ℕ → Answer Block
+blockOf s = blockAnswer (verdict all s)
+
+-- what the reader and the section question tell of a block
+abbrev pub shown : Block → Head × Sections
+shown b = (b .head, sections b)
+
+abbrev pub sectionsOf : List ℕ → Answer (Head × Sections)
+sectionsOf s = mapAnswer shown (blockOf s)
+
+-- The reader: 12 where a list lent is not of 4,096, and then the block. The lists hold what `lent` says of its param0, param1 and param2.
+abbrev pub readOf : List ℕ → ℕ → ℕ → ℕ → Answer Block
+readOf s a b c = pick (eqb a 4096 && (eqb b 4096 && eqb c 4096)) (blockOf s) (plain partsMisfit)
+
+-- where the sections are; nowhere when refused
+abbrev pub partsOf : Answer (Head × Sections) → Sections
+partsOf (good x) = x .1
+partsOf (refusal n r o) = record { names = nowhere; metadata = nowhere; objects = nowhere; timers = nowhere }
+
+-- a section as a part of the block, empty when refused
+abbrev pub sectionOf : (Sections → Part) → List ℕ → Answer (Head × Sections) → List ℕ
+sectionOf which s (good x) = within s (which (x .1))
+sectionOf which s (refusal n r o) = []
+
+-- ---- the name of a node
+-- the name that an id has in the rows
+abbrev pub nameOf : List NameRow → ℕ → List ℕ
+nameOf [] id = []
+nameOf (r ∷ l) id = pick (eqb id (r .id)) (r .name) (nameOf l id)
+
+-- the name of the node at an index
+abbrev pub nameAt : Block → ℕ → List ℕ
+nameAt b i = nameOf (b .names) (idAt b i)
+
+-- where an id's name stands in rows that start at a place; a row's name stands behind its id and length
+abbrev pub spotOf : List NameRow → ℕ → ℕ → Part
+spotOf [] at id = part at 0
+spotOf (r ∷ l) at id = pick (eqb id (r .id)) (part (at + 4) (length (r .name))) (spotOf l (at + 4 + length (r .name)) id)
+
+abbrev pub nameSpot : Block → ℕ → Part
+nameSpot b i = spotOf (b .names) (namesPart b .start) (idAt b i)
+
+-- the reader's number, then 16 for an index above 4095
+abbrev pub nodeOn : ℕ → Answer Block → Answer Part
+nodeOn i (good b) = pick (leb i 4095) (good (nameSpot b i)) (plain noSuch)
+nodeOn i (refusal n r o) = refusal n r o
+
+abbrev pub nodeOf : List ℕ → ℕ → Answer Part
+nodeOf s i = nodeOn i (blockOf s)
+
+-- the very bytes in the block, empty when refused
+abbrev pub nodeNameOf : List ℕ → Answer Part → List ℕ
+nodeNameOf s (good p) = within s p
+nodeNameOf s (refusal n r o) = []
+
+-- bytes that are the rows of names
+pub record NameRun (s : List ℕ) (l : List NameRow) : Type 0 where
+  pub bytes : s ≡ encodeItems (nameRow all) [] l
+  pub good : Each NameGood l
+
+-- ---- what the code's answers say
+abbrev pub toldRead : ReadAnswer → Answer (Head × Sections)
+toldRead (read.Block h s) = good (h, s)
+toldRead read.Misfit = plain partsMisfit
+toldRead (read.Refused f p) = refusal (number f) 0 p
+
+abbrev pub toldSections : SectionsAnswer → Answer (Head × Sections)
+toldSections (looked.Block h s) = good (h, s)
+toldSections (looked.Refused f p) = refusal (number f) 0 p
+
+abbrev pub toldNode : NodeAnswer → Answer Part
+toldNode (nodes.Name p) = good p
+toldNode nodes.NoSuchNode = plain noSuch
+toldNode (nodes.Refused f p) = refusal (number f) 0 p

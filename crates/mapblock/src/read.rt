@@ -1,0 +1,157 @@
+// The reader, and the sections of a block.
+use crate::fault::Fault;
+use crate::head::Head;
+use crate::head::Part;
+use crate::head::Sections;
+use crate::nodes::NODES;
+use crate::nodes::fill;
+use crate::scan::Judged;
+use crate::scan::scan;
+ghost use mathlib.Core.Path.{_≡_};
+ghost use mathlib.Core.Bool.{_&&_};
+ghost use Prim.Native.Nat.{_+_, _≤_};
+ghost use lib.Dec.{eqb};
+ghost use lib.ListN.{length};
+ghost use Rattle.wire.specs.Read.{mapRead};
+ghost use Rattle.wire.specs.Answer.{lent, mapAnswer};
+ghost use Rattle.mapblock.specs.Data.{Block};
+ghost use Rattle.mapblock.specs.Layout.{all};
+ghost use Rattle.mapblock.specs.Block.{verdict};
+ghost use Rattle.mapblock.specs.Sections.{found, within};
+ghost use Rattle.mapblock.specs.Scan.{toldScan};
+ghost use Rattle.mapblock.specs.Questions.{shown, sectionsOf, readOf, sectionOf, partsOf, toldRead, toldSections};
+
+// Judges a block by itself: all ids are free.
+pub(crate) fn judge(block: &[u8]) -> Judged
+    ensures { λ r. ⌜ toldScan r ≡ mapRead found (verdict all (now (block .entry))) ⌝ }
+{
+    let mut ids = [0u8; 65536];
+    scan(block, &mut ids)
+}
+
+// A part of the block.
+pub(crate) fn cut(block: &[u8], part: Part) -> &[u8]
+    requires { ⌜ part .start + part .length ≤ length (now block) ⌝ }
+    ensures { λ r. ⌜ now r ≡ within (now (block .entry)) part ⌝ }
+{
+    let start = part.start;
+    let end = start + part.length;
+    &block[start..end]
+}
+
+// ---- the reader
+pub enum ReadAnswer {
+    Block(Head, Sections),
+    // A lent list is not of 4,096.
+    Misfit,
+    Refused(Fault, usize),
+}
+
+// Whether each of three lists has an entry for every node.
+fn are_whole(a: usize, b: usize, c: usize) -> bool
+    ensures { λ r. ⌜ r ≡ (eqb a 4096 && (eqb b 4096 && eqb c 4096)) ⌝ }
+{
+    if a != NODES {
+        return false;
+    }
+    if b != NODES {
+        return false;
+    }
+    c == NODES
+}
+
+// Fills the three lent lists of a block that is taken, and tells its head and where its sections are. A refusal leaves the lists as they were.
+pub fn read(block: &[u8], param0: &mut [u16], param1: &mut [u8], param2: &mut [u8]) -> ReadAnswer
+    ensures { λ r. ⌜ toldRead r ≡ mapAnswer shown (readOf (now (block .entry)) (length (now (param0 .entry))) (length (now (param1 .entry))) (length (now (param2 .entry)))) ⌝ }
+    ensures { λ _. ⌜ now (param0 .exit) ≡ lent (mapAnswer (λ (b : Block). b .nodes .param0) (readOf (now (block .entry)) (length (now (param0 .entry))) (length (now (param1 .entry))) (length (now (param2 .entry))))) (now (param0 .entry)) ⌝ }
+    ensures { λ _. ⌜ now (param1 .exit) ≡ lent (mapAnswer (λ (b : Block). b .nodes .param1) (readOf (now (block .entry)) (length (now (param0 .entry))) (length (now (param1 .entry))) (length (now (param2 .entry))))) (now (param1 .entry)) ⌝ }
+    ensures { λ _. ⌜ now (param2 .exit) ≡ lent (mapAnswer (λ (b : Block). b .nodes .param2) (readOf (now (block .entry)) (length (now (param0 .entry))) (length (now (param1 .entry))) (length (now (param2 .entry))))) (now (param2 .entry)) ⌝ }
+{
+    if !are_whole(param0.len(), param1.len(), param2.len()) {
+        return ReadAnswer::Misfit;
+    }
+    match judge(block) {
+        Judged::Refused(f, p) => ReadAnswer::Refused(f, p),
+        Judged::Taken(found, _) => {
+            let head = found.head;
+            let lists = found.lists;
+            let sections = found.sections;
+            fill(head.version, &block[lists..], param0, param1, param2);
+            ReadAnswer::Block(head, sections)
+        }
+    }
+}
+
+// ---- the sections
+pub enum SectionsAnswer {
+    Block(Head, Sections),
+    Refused(Fault, usize),
+}
+
+// The head of a block, and where its sections are.
+pub fn sections(block: &[u8]) -> SectionsAnswer
+    ensures { λ r. ⌜ toldSections r ≡ sectionsOf (now (block .entry)) ⌝ }
+{
+    match judge(block) {
+        Judged::Refused(f, p) => SectionsAnswer::Refused(f, p),
+        Judged::Taken(found, _) => {
+            let head = found.head;
+            let sections = found.sections;
+            SectionsAnswer::Block(head, sections)
+        }
+    }
+}
+
+// Where the sections are; nowhere in a block that is refused.
+fn parts(block: &[u8]) -> Sections
+    ensures { λ r. ⌜ r ≡ partsOf (sectionsOf (now (block .entry))) ⌝ }
+{
+    match sections(block) {
+        SectionsAnswer::Block(_, found) => found,
+        SectionsAnswer::Refused(_, _) => {
+            let none = Part {
+                start: 0,
+                length: 0,
+            };
+            Sections {
+                names: none,
+                metadata: none,
+                objects: none,
+                timers: none,
+            }
+        }
+    }
+}
+
+// Each section as a part of the block, empty when refused.
+pub fn names_section(block: &[u8]) -> &[u8]
+    ensures { λ r. ⌜ now r ≡ sectionOf (λ (s : Sections). s .names) (now (block .entry)) (sectionsOf (now (block .entry))) ⌝ }
+{
+    let found = parts(block);
+    let names = found.names;
+    cut(block, names)
+}
+
+pub fn metadata_section(block: &[u8]) -> &[u8]
+    ensures { λ r. ⌜ now r ≡ sectionOf (λ (s : Sections). s .metadata) (now (block .entry)) (sectionsOf (now (block .entry))) ⌝ }
+{
+    let found = parts(block);
+    let metadata = found.metadata;
+    cut(block, metadata)
+}
+
+pub fn objects_section(block: &[u8]) -> &[u8]
+    ensures { λ r. ⌜ now r ≡ sectionOf (λ (s : Sections). s .objects) (now (block .entry)) (sectionsOf (now (block .entry))) ⌝ }
+{
+    let found = parts(block);
+    let objects = found.objects;
+    cut(block, objects)
+}
+
+pub fn timers_section(block: &[u8]) -> &[u8]
+    ensures { λ r. ⌜ now r ≡ sectionOf (λ (s : Sections). s .timers) (now (block .entry)) (sectionsOf (now (block .entry))) ⌝ }
+{
+    let found = parts(block);
+    let timers = found.timers;
+    cut(block, timers)
+}
