@@ -22,7 +22,7 @@ use Rattle.wire.proofs.Laid.{stored-fits}
 use Rattle.mapblock.specs.Data.{Nodes, Block}
 use Rattle.mapblock.specs.Layout.{width, params, nodes, unmapped}
 use Rattle.mapblock.specs.Block.{idAt, strayFrom}
-use Rattle.mapblock.specs.Params.{listsOf, entries, idIn, strayIn}
+use Rattle.mapblock.specs.Params.{listsOf, entries, idIn, strayIn, idOf}
 use Rattle.mapblock.specs.Told.{ended}
 use Rattle.mapblock.specs.Table.{Tabled}
 use Rattle.mapblock.specs.declared.fault.Fault.{Fault}
@@ -296,3 +296,7 @@ module _ (b : Block) (v : ℕ) (s : List ℕ) (e : b .head .version ≡ v) (h : 
 
     pub stray-same : strayFrom free b 4096 0 ≡ strayIn v s t 4096 0
     stray-same = same-from 4096 0 (omega arith)
+
+-- an index below 4,096, in bytes that hold the lists
+pub id-there : (v : ℕ) (s : List ℕ) (i : ℕ) → i < 4096 → 4096 * width v + 8192 ≤ length s → idOf v s i ≡ idIn v s i
+id-there v s i h k = rw (lt-leb 4096 i h, le-leb (4096 * width v + 8192) (length s) k)

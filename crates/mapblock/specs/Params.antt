@@ -35,3 +35,6 @@ holdsLists v s = leb (4096 * width v + 8192) (length s)
 
 abbrev pub strayOf : ℕ → List ℕ → List ℕ → Option ℕ
 strayOf v s t = pick (holdsLists v s) (strayIn v s t 4096 0) none
+
+abbrev pub idOf : ℕ → List ℕ → ℕ → ℕ
+idOf v s i = pick (leb 4096 i) 0 (pick (holdsLists v s) (idIn v s i) 0)

@@ -1,4 +1,7 @@
 // What a block's reader tells beside the lists: the head, and where things stand in the block. They cross to a host as they are.
+ghost use mathlib.Core.Path.{_≡_};
+ghost use Rattle.mapblock.specs.Sections.{within};
+
 #[repr(C)]
 pub struct Head {
     pub version: u8,
@@ -24,4 +27,19 @@ pub struct Sections {
     pub metadata: Part,
     pub objects: Part,
     pub timers: Part,
+}
+
+// The bytes of a part; of one that reaches past the end, those that are there.
+pub fn cut(s: &[u8], part: Part) -> &[u8]
+    ensures { λ r. ⌜ now r ≡ within (now (s .entry)) part ⌝ }
+{
+    let start = part.start;
+    let n = part.length;
+    if s.len() < start {
+        return &s[..0];
+    }
+    if s.len() - start < n {
+        return &s[start..];
+    }
+    &s[start..start + n]
 }

@@ -1,11 +1,11 @@
 // The name of a node: the very bytes in the caller's block.
 use crate::fault::Fault;
 use crate::head::Part;
+use crate::head::cut;
 use crate::names::NameRead;
 use crate::names::name_row;
 use crate::nodes::NODES;
-use crate::nodes::id_in;
-use crate::read::cut;
+use crate::nodes::id_of;
 use crate::read::judge;
 use crate::scan::Judged;
 ghost use mathlib.Core.Path.{_≡_};
@@ -71,7 +71,7 @@ pub fn node(block: &[u8], index: usize) -> NodeAnswer
             let lists = found.lists;
             let sections = found.sections;
             let names = sections.names;
-            let id = id_in(head.version, &block[lists..], index);
+            let id = id_of(head.version, &block[lists..], index);
             NodeAnswer::Name(find(cut(block, names), names.start, id))
         }
     }

@@ -3,12 +3,11 @@ use crate::fault::Fault;
 use crate::fault::Reach;
 use wire::fields::U8;
 use wire::fields::u8_at;
-use wire::store::put_bytes;
 ghost use mathlib.Core.Path.{_≡_};
 ghost use Prim.Native.Nat.{_+_, _*_, _<_, _≤_};
-ghost use lib.ListN.{length, drop};
+ghost use lib.ListN.{length};
 ghost use Rattle.mapblock.specs.Layout.{nodes, params, width};
-ghost use Rattle.mapblock.specs.Params.{entries, idIn, strayIn, holdsLists, strayOf};
+ghost use Rattle.mapblock.specs.Params.{idIn, strayIn, holdsLists, strayOf, idOf};
 ghost use Rattle.mapblock.specs.Told.{toldReach, ended, toldStray};
 
 // How many nodes a block has.
@@ -58,7 +57,7 @@ pub(crate) fn node_data(version: u8, s: &[u8]) -> Reach
 }
 
 // The content id of the node at an index, from the lists' bytes.
-pub(crate) fn id_in(version: u8, s: &[u8], i: usize) -> usize
+fn id_in(version: u8, s: &[u8], i: usize) -> usize
     requires { ⌜ (i < 4096) × (4096 * width version + 8192 ≤ length (now s)) ⌝ }
     ensures { λ r. ⌜ r ≡ idIn version (now (s .entry)) i ⌝ }
     ensures { λ r. ⌜ r < 65536 ⌝ }
@@ -112,44 +111,16 @@ pub(crate) fn first_stray(version: u8, s: &[u8], ids: &[u8; 65536]) -> Stray
     }
 }
 
-// The entries of two bytes at the front, into a lent list.
-fn fill16(s: &[u8], out: &mut [u16])
-    requires { ⌜ 2 * length (now out) ≤ length (now s) ⌝ }
-    ensures { λ _. ⌜ now (out .exit) ≡ entries 2 (length (now (out .entry))) (now (s .entry)) ⌝ }
+// The content id of the node at an index, 0 where there is none.
+pub(crate) fn id_of(version: u8, s: &[u8], i: usize) -> usize
+    ensures { λ r. ⌜ r ≡ idOf version (now (s .entry)) i ⌝ }
 {
-    let mut i: usize = 0;
-    while i < out.len() {
-        out[i] = s[2 * i] as u16 * 256 + s[2 * i + 1] as u16;
-        i += 1;
+    if NODES <= i {
+        return 0;
     }
-}
-
-// The same of one byte.
-fn fill8(s: &[u8], out: &mut [u16])
-    requires { ⌜ length (now out) ≤ length (now s) ⌝ }
-    ensures { λ _. ⌜ now (out .exit) ≡ entries 1 (length (now (out .entry))) (now (s .entry)) ⌝ }
-{
-    let mut i: usize = 0;
-    while i < out.len() {
-        out[i] = s[i] as u16;
-        i += 1;
-    }
-}
-
-// The lists' bytes into three lent lists.
-pub(crate) fn fill(version: u8, s: &[u8], param0: &mut [u16], param1: &mut [u8], param2: &mut [u8])
-    requires { ⌜ 4096 * width version + 8192 ≤ length (now s) ⌝ }
-    requires { ⌜ (length (now param0) ≡ 4096) × (length (now param1) ≡ 4096) × (length (now param2) ≡ 4096) ⌝ }
-    ensures { λ _. ⌜ now (param0 .exit) ≡ entries (width version) 4096 (now (s .entry)) ⌝ }
-    ensures { λ _. ⌜ now (param1 .exit) ≡ entries 1 4096 (drop (4096 * width version) (now (s .entry))) ⌝ }
-    ensures { λ _. ⌜ now (param2 .exit) ≡ entries 1 4096 (drop (4096 * width version + 4096) (now (s .entry))) ⌝ }
-{
-    let w = width(version);
-    if version < 24 {
-        fill8(s, param0);
+    if holds_lists(version, s) {
+        id_in(version, s, i)
     } else {
-        fill16(s, param0);
+        0
     }
-    put_bytes(param1, 0, &s[NODES * w..NODES * w + NODES]);
-    put_bytes(param2, 0, &s[NODES * w + NODES..NODES * w + 2 * NODES]);
 }

@@ -3,21 +3,24 @@ use crate::fault::Fault;
 use crate::head::Head;
 use crate::head::Part;
 use crate::head::Sections;
+use crate::head::cut;
 use crate::nodes::NODES;
-use crate::nodes::fill;
+use crate::nodes::width;
 use crate::scan::Judged;
 use crate::scan::scan;
+use wire::store::put_bytes;
 ghost use mathlib.Core.Path.{_≡_};
 ghost use mathlib.Core.Bool.{_&&_};
-ghost use Prim.Native.Nat.{_+_, _≤_};
+ghost use Prim.Native.Nat.{_+_, _*_, _≤_};
 ghost use lib.Dec.{eqb};
-ghost use lib.ListN.{length};
+ghost use lib.ListN.{length, drop};
 ghost use Rattle.wire.specs.Read.{mapRead};
 ghost use Rattle.wire.specs.Answer.{lent, mapAnswer};
 ghost use Rattle.mapblock.specs.Data.{Block};
-ghost use Rattle.mapblock.specs.Layout.{all};
+ghost use Rattle.mapblock.specs.Layout.{all, width};
 ghost use Rattle.mapblock.specs.Block.{verdict};
-ghost use Rattle.mapblock.specs.Sections.{found, within};
+ghost use Rattle.mapblock.specs.Params.{entries};
+ghost use Rattle.mapblock.specs.Sections.{found};
 ghost use Rattle.mapblock.specs.Scan.{toldScan};
 ghost use Rattle.mapblock.specs.Questions.{shown, sectionsOf, readOf, sectionOf, partsOf, toldRead, toldSections};
 
@@ -27,16 +30,6 @@ pub(crate) fn judge(block: &[u8]) -> Judged
 {
     let mut ids = [0u8; 65536];
     scan(block, &mut ids)
-}
-
-// A part of the block.
-pub(crate) fn cut(block: &[u8], part: Part) -> &[u8]
-    requires { ⌜ part .start + part .length ≤ length (now block) ⌝ }
-    ensures { λ r. ⌜ now r ≡ within (now (block .entry)) part ⌝ }
-{
-    let start = part.start;
-    let end = start + part.length;
-    &block[start..end]
 }
 
 // ---- the reader
@@ -58,6 +51,48 @@ fn are_whole(a: usize, b: usize, c: usize) -> bool
         return false;
     }
     c == NODES
+}
+
+// The entries of two bytes at the front, into a lent list.
+fn fill16(s: &[u8], out: &mut [u16])
+    requires { ⌜ 2 * length (now out) ≤ length (now s) ⌝ }
+    ensures { λ _. ⌜ now (out .exit) ≡ entries 2 (length (now (out .entry))) (now (s .entry)) ⌝ }
+{
+    let mut i: usize = 0;
+    while i < out.len() {
+        out[i] = s[2 * i] as u16 * 256 + s[2 * i + 1] as u16;
+        i += 1;
+    }
+}
+
+// The same of one byte.
+fn fill8(s: &[u8], out: &mut [u16])
+    requires { ⌜ length (now out) ≤ length (now s) ⌝ }
+    ensures { λ _. ⌜ now (out .exit) ≡ entries 1 (length (now (out .entry))) (now (s .entry)) ⌝ }
+{
+    let mut i: usize = 0;
+    while i < out.len() {
+        out[i] = s[i] as u16;
+        i += 1;
+    }
+}
+
+// The lists' bytes into three lent lists.
+fn fill(version: u8, s: &[u8], param0: &mut [u16], param1: &mut [u8], param2: &mut [u8])
+    requires { ⌜ 4096 * width version + 8192 ≤ length (now s) ⌝ }
+    requires { ⌜ (length (now param0) ≡ 4096) × (length (now param1) ≡ 4096) × (length (now param2) ≡ 4096) ⌝ }
+    ensures { λ _. ⌜ now (param0 .exit) ≡ entries (width version) 4096 (now (s .entry)) ⌝ }
+    ensures { λ _. ⌜ now (param1 .exit) ≡ entries 1 4096 (drop (4096 * width version) (now (s .entry))) ⌝ }
+    ensures { λ _. ⌜ now (param2 .exit) ≡ entries 1 4096 (drop (4096 * width version + 4096) (now (s .entry))) ⌝ }
+{
+    let w = width(version);
+    if version < 24 {
+        fill8(s, param0);
+    } else {
+        fill16(s, param0);
+    }
+    put_bytes(param1, 0, &s[NODES * w..NODES * w + NODES]);
+    put_bytes(param2, 0, &s[NODES * w + NODES..NODES * w + 2 * NODES]);
 }
 
 // Fills the three lent lists of a block that is taken, and tells its head and where its sections are. A refusal leaves the lists as they were.

@@ -2,14 +2,16 @@ use borrow.Author.Needs.{needs}
 use mathlib.Core.Path.{ap, sym, subst, _∙_}
 use mathlib.Core.List.{List}
 use native.Mathlib.Omega.{arith}
-use Prim.Native.Nat.{ℕ}
-use lib.ListN.{length-drop}
+use Prim.Native.Nat.{ℕ, _+_, _-_, _*_, _≤_}
+use lib.ListN.{length, take, drop, length-drop}
 use denote.Ref.{now}
 use Rattle.wire.specs.Lists.{rest-is}
 use Rattle.wire.specs.Bytes.{Bytes}
 use Rattle.mapblock.specs.Questions.{partsOf, nodeOn, NameRun}
 use Rattle.mapblock.specs.Scan.{toldScan}
 use Rattle.mapblock.proofs.BlockAnswers.{TakenAs, taken-as, block-refused, sections-told, AllInside, parts-inside}
+use Rattle.mapblock.specs.Layout.{width}
+use Rattle.mapblock.proofs.Entries.{id-there}
 use Rattle.mapblock.proofs.NodeNames.{within-length, names-run, node-none, node-told}
 use Rattle.mapblock.proofs.node.node.Statement.{statement}
 use Rattle.mapblock.proofs.node.node.Tie as tie
@@ -36,22 +38,25 @@ enum-known-found c = search needs
 returns : tie.Need-returns
 returns c = let k = c .before .before in node-none (block-is k) (bytes k) _ (omega arith)
 
-sub-id-in : tie.Need-sub-id-in
-sub-id-in c = omega (arith, block-is (c .before .before .before .before .before) .inside)
+sub-id-of : tie.Need-sub-id-of
+sub-id-of c = omega (arith, block-is (c .before .before .before .before .before) .inside)
 
-part-id-in-start : tie.Need-part-id-in-start
-part-id-in-start c = omega (arith, block-is (c .before .before .before .before .before) .inside)
+part-id-of-start : tie.Need-part-id-of-start
+part-id-of-start c = omega (arith, block-is (c .before .before .before .before .before) .inside)
 
-part-id-in-end : tie.Need-part-id-in-end
-part-id-in-end c = search needs
+part-id-of-end : tie.Need-part-id-of-end
+part-id-of-end c = search needs
 
-id-in-requires : tie.Need-id-in-requires
-id-in-requires c κs =
-    let k = c .before .before .before .before .before .before in
-    (omega arith, rw (rest-is (k .found .given .0 .0 .lists) (now (k .before .before .before .before .args .block)), length-drop) (omega (arith, block-is k .inside)))
+id-of-requires : tie.Need-id-of-requires
+id-of-requires c κs = search needs
+
+-- the param lists lie in the block
+lists-long : (c : tie.After-found) → let s = now (c .before .before .before .before .args .block) in let w = c .found .given .0 .0 in
+    4096 * width (w .head .version) + 8192 ≤ length (take (length s - w .lists) (drop (w .lists) s))
+lists-long c = rw (rest-is (c .found .given .0 .0 .lists) (now (c .before .before .before .before .args .block)), length-drop) (omega (arith, block-is c .inside))
 
 cut-requires : tie.Need-cut-requires
-cut-requires c κs = parts-are (c .before .before .before .before .before .before .before) .names
+cut-requires c κs = search needs
 
 find-requires : tie.Need-find-requires
 find-requires c κs =
@@ -65,7 +70,7 @@ returns-2 c =
 returns-3 : tie.Need-returns-3
 returns-3 c =
     let k = c .before .before .before .before .before .before .before .before .before in
-    node-told (block-is k) (bytes k) (k .before .before .before .before .args .index) (omega arith) (c .before .before .id-in .ensures .0) (c .find .ensures _ (subst (λ (l : List ℕ). NameRun l (block-is k .b .names)) (sym (c .before .cut .ensures)) (names-run (block-is k) (bytes k))))
+    node-told (block-is k) (bytes k) (k .before .before .before .before .args .index) (omega arith) (c .before .before .id-of .ensures ∙ id-there (k .found .given .0 .0 .head .version) _ (k .before .before .before .before .args .index) (omega arith) (lists-long k)) (c .find .ensures _ (subst (λ (l : List ℕ). NameRun l (block-is k .b .names)) (sym (c .before .cut .ensures)) (names-run (block-is k) (bytes k))))
 
 pub node-spec : {M : Type 1} → statement M
 node-spec =
@@ -75,10 +80,10 @@ node-spec =
     enum-known-f
     enum-known-found
     returns
-    sub-id-in
-    part-id-in-start
-    part-id-in-end
-    id-in-requires
+    sub-id-of
+    part-id-of-start
+    part-id-of-end
+    id-of-requires
     cut-requires
     find-requires
     returns-2

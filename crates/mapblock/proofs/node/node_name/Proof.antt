@@ -2,7 +2,6 @@ use borrow.Author.Needs.{needs}
 use mathlib.Core.Path.{ap, sym, _∙_}
 use denote.Ref.{now}
 use Rattle.mapblock.specs.Questions.{nodeNameOf, toldNode}
-use Rattle.mapblock.proofs.NodeNames.{name-inside}
 use Rattle.mapblock.proofs.node.node_name.Statement.{statement}
 use Rattle.mapblock.proofs.node.node_name.Tie as tie
 
@@ -13,7 +12,7 @@ enum-known-name : tie.Need-enum-known-name
 enum-known-name c = search needs
 
 cut-requires : tie.Need-cut-requires
-cut-requires c κs = name-inside _ _ (λ i. c .before .before .before .before .shared-slice-known .given i .fits) (sym (ap toldNode (c .before .name .given .1)) ∙ c .before .before .before .node .ensures)
+cut-requires c κs = search needs
 
 enum-told : tie.Need-enum-told
 enum-told c = search needs

@@ -1,12 +1,8 @@
 use borrow.Author.Needs.{needs}
 use borrow.Author.Tests.{leb-true}
-use mathlib.Core.Path.{_≡_, sym, _∙_}
+use mathlib.Core.Path.{sym, _∙_}
 use Rattle.mapblock.proofs.nodes.first_stray.Statement.{statement}
 use Rattle.mapblock.proofs.nodes.first_stray.Tie as tie
-use Rattle.mapblock.proofs.nodes.first_stray.Reads as reads
-use Rattle.mapblock.proofs.nodes.first_stray.Lts as lts
-use Rattle.mapblock.proofs.nodes.holds_lists.Reads as holds-lists-reads
-use Rattle.mapblock.proofs.nodes.stray_in.Reads as stray-in-reads
 
 holds-lists-requires : tie.Need-holds-lists-requires
 holds-lists-requires c κs = search needs

@@ -4,9 +4,6 @@ use Rattle.mapblock.proofs.Entries.{width-range}
 use native.Mathlib.Omega.{arith}
 use Rattle.mapblock.proofs.nodes.holds_lists.Statement.{statement}
 use Rattle.mapblock.proofs.nodes.holds_lists.Tie as tie
-use Rattle.mapblock.proofs.nodes.holds_lists.Reads as reads
-use Rattle.mapblock.proofs.nodes.holds_lists.Lts as lts
-use Rattle.mapblock.proofs.nodes.width.Reads as width-reads
 
 width-requires : tie.Need-width-requires
 width-requires c κs = search needs

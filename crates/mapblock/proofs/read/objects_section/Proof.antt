@@ -1,7 +1,7 @@
 use borrow.Author.Needs.{needs}
 use mathlib.Core.Path.{refl}
 use Rattle.mapblock.specs.declared.head.Sections.{Sections}
-use Rattle.mapblock.proofs.BlockAnswers.{parts-inside, section-told}
+use Rattle.mapblock.proofs.BlockAnswers.{section-told}
 use Rattle.mapblock.proofs.read.objects_section.Statement.{statement}
 use Rattle.mapblock.proofs.read.objects_section.Tie as tie
 
@@ -9,7 +9,7 @@ parts-requires : tie.Need-parts-requires
 parts-requires c κs = search needs
 
 cut-requires : tie.Need-cut-requires
-cut-requires c κs = parts-inside _ (λ i. c .before .before .shared-slice-known .given i .fits) (c .before .parts .ensures) .objects
+cut-requires c κs = search needs
 
 returns : tie.Need-returns
 returns c = section-told _ (λ (x : Sections). x .objects) refl (c .cut .ensures) (c .before .before .parts .ensures)

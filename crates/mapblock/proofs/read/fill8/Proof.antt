@@ -7,8 +7,8 @@ use borrow.Author.Needs.{needs}
 use denote.Ref.{now}
 use lib.ListN.{length}
 use Rattle.mapblock.proofs.Entries.{entry-one, Filled, fill-on, fill-end}
-use Rattle.mapblock.proofs.nodes.fill8.Statement.{statement}
-use Rattle.mapblock.proofs.nodes.fill8.Tie as tie
+use Rattle.mapblock.proofs.read.fill8.Statement.{statement}
+use Rattle.mapblock.proofs.read.fill8.Tie as tie
 
 abbrev Inv-loop : tie.InvT-loop
 Inv-loop s out₀ i₀ out i = Filled 1 (length out₀) s out i

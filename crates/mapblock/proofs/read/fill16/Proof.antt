@@ -6,8 +6,8 @@ use borrow.Author.Needs.{needs}
 use denote.Ref.{now}
 use lib.ListN.{length}
 use Rattle.mapblock.proofs.Entries.{entry-two, Filled, fill-on, fill-end}
-use Rattle.mapblock.proofs.nodes.fill16.Statement.{statement}
-use Rattle.mapblock.proofs.nodes.fill16.Tie as tie
+use Rattle.mapblock.proofs.read.fill16.Statement.{statement}
+use Rattle.mapblock.proofs.read.fill16.Tie as tie
 
 abbrev Inv-loop : tie.InvT-loop
 Inv-loop s out₀ i₀ out i = Filled 2 (length out₀) s out i

@@ -8,8 +8,8 @@ use lib.ListN.{length}
 use Rattle.mapblock.specs.Layout.{width}
 use Rattle.mapblock.specs.Params.{entries}
 use Rattle.mapblock.proofs.Entries.{width-old, width-new, entries-length, stored-part}
-use Rattle.mapblock.proofs.nodes.fill.Statement.{statement}
-use Rattle.mapblock.proofs.nodes.fill.Tie as tie
+use Rattle.mapblock.proofs.read.fill.Statement.{statement}
+use Rattle.mapblock.proofs.read.fill.Tie as tie
 
 width-requires : tie.Need-width-requires
 width-requires c κs = search needs
