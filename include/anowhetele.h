@@ -3,6 +3,7 @@
 #ifndef ANOWHETELE_H
 #define ANOWHETELE_H
 
+#include <stddef.h>
 #include <stdint.h>
 
 #ifdef __cplusplus
@@ -30,6 +31,11 @@ enum {
     ANOW_NO_SUCH = 16 /* no such row or node */
 };
 
+/* What a call comes back with. For 1 to 8 the offset is where the field starts; record: the record of a sheet; length: the result's, on 0. */
+typedef struct { uint32_t number; uint32_t record; uint64_t offset; uint64_t length; } anow_answer;
+/* A run of the bytes that were given. */
+typedef struct { uint64_t start; uint64_t length; } anow_part;
+
 typedef struct { uint32_t number; int64_t key; } anow_key;
 typedef struct { uint32_t number; int32_t x, y, z; } anow_coordinates;
 typedef struct { uint32_t number; uint32_t inside; } anow_inside; /* inside: 0 or 1 */
@@ -38,6 +44,14 @@ typedef struct { uint32_t number; uint32_t inside; } anow_inside; /* inside: 0 o
 typedef struct { int32_t x0, y0, z0, x1, y1, z1; } anow_lot;
 /* Seconds: from is inside, until is not. In a good span from is not above until. */
 typedef struct { uint32_t from, until; } anow_span;
+
+/* A row at the front of a section: answer.length is its length, and parts and offsets count from the part's first byte. The rows behind it
+ * start at that length. */
+typedef struct { anow_answer answer; uint32_t id; anow_part name; } anow_name_row;
+/* Type and content are version 22's; the number of variables, their rows and the inventory stand from 23 on. The others are 0. */
+typedef struct { anow_answer answer; uint32_t position, type, variables; anow_part content, variable_rows, inventory; } anow_metadata_row;
+typedef struct { anow_answer answer; uint32_t type; int32_t x, y, z; anow_part data; } anow_object_row;
+typedef struct { anow_answer answer; uint32_t position; int32_t timeout, elapsed; } anow_timer_row;
 
 #ifdef __cplusplus
 #define ANOW_VALUE(type) type
@@ -55,6 +69,17 @@ anow_coordinates anow_key_split(int64_t key);
 anow_inside anow_lot_has(anow_lot lot, int32_t x, int32_t y, int32_t z);
 /* Whether a span has a second; 0xffffffff lies in none. Refused: 10. */
 anow_inside anow_span_has(anow_span span, uint32_t second);
+
+/* How many of the low twelve lighting bits are zero. */
+uint32_t anow_light_count(uint16_t lighting);
+/* The front row of a part, judged alone. Refused: 16 for an empty part, then 1. */
+anow_name_row anow_row_name(const uint8_t *part, size_t length);
+/* Refused: 2, 16, then 1, 3 or 4. */
+anow_metadata_row anow_row_metadata(uint8_t version, const uint8_t *part, size_t length);
+/* Refused: 16, then 1. */
+anow_object_row anow_row_object(const uint8_t *part, size_t length);
+/* Refused: 16, then 1 or 4. */
+anow_timer_row anow_row_timer(const uint8_t *part, size_t length);
 
 #ifdef __cplusplus
 }

@@ -1,1 +1,4 @@
+pub mod Answers
+pub mod Blocks
 pub mod Places
+pub mod Rows

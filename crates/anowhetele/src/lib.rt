@@ -1,3 +1,7 @@
 // The library's face for a host: functions that C can call. Each promises the same definition as the operation behind it.
+pub mod answer;
+pub mod blocks;
+pub mod light;
 pub mod numbers;
 pub mod places;
+pub mod rows;

@@ -1,6 +1,12 @@
 // Document 01's numbers, as the functions answer them; include/numbers.txt has all with their words.
 pub const DONE: u32 = 0;
 
+pub const VERSION_OUTSIDE: u32 = 2;
+
 pub const OUT_OF_RANGE: u32 = 9;
 
 pub const BAD_PART: u32 = 10;
+
+pub const PARTS_MISFIT: u32 = 12;
+
+pub const NO_SUCH: u32 = 16;

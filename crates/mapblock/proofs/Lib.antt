@@ -25,3 +25,4 @@ pub mod Rests
 pub mod SectionsThere
 pub mod BlockAnswers
 pub mod NodeNames
+pub mod AskedParts

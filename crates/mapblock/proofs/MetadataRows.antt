@@ -2,7 +2,7 @@
 use Prim.Native.Nat.{ℕ, _+_, _<_, _≤_}
 use mathlib.Core.Path.{_≡_, ap, sym, _∙_}
 use mathlib.Core.List.{List, []}
-use mathlib.Core.Bool.{Bool, true, false, not}
+use mathlib.Core.Bool.{Bool, true, not}
 use native.Mathlib.Nat.{add-zero, zero-add}
 use native.Mathlib.Omega.{arith}
 use lib.Dec.{leb}
@@ -84,17 +84,9 @@ abbrev pub firstTested : {B C : Type 0} → Shape (ℕ × C) B → Fault → For
 firstTested shape e f g test = into shape (such test e f ▹ g)
 
 module _ {B C : Type 0} (shape : Shape (ℕ × C) B) (e : Fault) (f : Form ℕ) (g : Form C) (test : ℕ → Bool) (s : List ℕ) where
-  pub first-fails : {p n : ℕ} → f .read s ≡ done p n → test p ≡ false → firstTested shape e f g test .read s ≡ refused e 0
-  unfolding along _⨾_ such
-  first-fails h t = rw (h, t)
-
   pub first-passes : (other : ℕ → Bool) {p n : ℕ} → f .read s ≡ done p n → test p ≡ other p → firstTested shape e f g test .read s ≡ firstTested shape e f g other .read s
   unfolding along _⨾_ such
   first-passes other h t = rw (h, t)
-
-  pub first-refused : (other : ℕ → Bool) {k : Fault} {q : ℕ} → f .read s ≡ refused k q → firstTested shape e f g test .read s ≡ firstTested shape e f g other .read s
-  unfolding along _⨾_ such
-  first-refused other h = rw h
 
   pub first-read : {b : B} {n : ℕ} → firstTested shape e f g test .read s ≡ done b n → (m : ℕ) × (such test e f .read s ≡ done (shape .parts b .0) m)
   unfolding along
@@ -136,34 +128,18 @@ abbrev timerTail : Form (ℤ × ℤ)
 timerTail = s32 ▹ s32
 
 module _ (v : ℕ) (seen : List MetadataRow) (s : List ℕ) where
-  pub metadata-twice : {p n : ℕ} → position .read s ≡ done p n → unused nodeOf all seen p ≡ false → metadataRow v seen .read s ≡ refused fault.PositionTwice 0
-  unfolding metadataRow
-  metadata-twice h t = first-fails metadataParts fault.PositionTwice position (metadataTail v (since 23 v)) (unused nodeOf all seen) s h t
-
   pub metadata-alone : {p n : ℕ} → position .read s ≡ done p n → unused nodeOf all seen p ≡ true → metadataRow v seen .read s ≡ metadataRow v [] .read s
   unfolding metadataRow unused
   metadata-alone h t = first-passes metadataParts fault.PositionTwice position (metadataTail v (since 23 v)) (unused nodeOf all seen) s all h t
-
-  pub metadata-refused : {e : Fault} {q : ℕ} → position .read s ≡ refused e q → metadataRow v seen .read s ≡ metadataRow v [] .read s
-  unfolding metadataRow unused
-  metadata-refused h = first-refused metadataParts fault.PositionTwice position (metadataTail v (since 23 v)) (unused nodeOf all seen) s all h
 
   pub metadata-position : {a : MetadataRow} {n : ℕ} → metadataRow v seen .read s ≡ done a n → newPosition nodeOf seen .read s ≡ done (a .position) 2
   unfolding metadataRow
   metadata-position h = placed-two nodeOf seen s (first-read metadataParts fault.PositionTwice position (metadataTail v (since 23 v)) (unused nodeOf all seen) s h .1)
 
 module _ (seen : List TimerRow) (s : List ℕ) where
-  pub timer-twice : {p n : ℕ} → position .read s ≡ done p n → unused timedOf all seen p ≡ false → timerRow seen .read s ≡ refused fault.PositionTwice 0
-  unfolding timerRow
-  timer-twice h t = first-fails timerParts fault.PositionTwice position timerTail (unused timedOf all seen) s h t
-
   pub timer-alone : {p n : ℕ} → position .read s ≡ done p n → unused timedOf all seen p ≡ true → timerRow seen .read s ≡ timerRow [] .read s
   unfolding timerRow unused
   timer-alone h t = first-passes timerParts fault.PositionTwice position timerTail (unused timedOf all seen) s all h t
-
-  pub timer-refused : {e : Fault} {q : ℕ} → position .read s ≡ refused e q → timerRow seen .read s ≡ timerRow [] .read s
-  unfolding timerRow unused
-  timer-refused h = first-refused timerParts fault.PositionTwice position timerTail (unused timedOf all seen) s all h
 
   pub timer-position : {a : TimerRow} {n : ℕ} → timerRow seen .read s ≡ done a n → newPosition timedOf seen .read s ≡ done (a .position) 2
   unfolding timerRow

@@ -4,24 +4,24 @@ use mathlib.Core.Path.{_≡_, refl, ap, sym, subst, _∙_}
 use mathlib.Core.List.{List, [], _∷_, _++_, append-assoc}
 use mathlib.Core.Bool.{Bool, true, false}
 use native.Mathlib.Omega.{arith}
-use lib.Dec.{leb, eqb}
+use lib.Dec.{eqb}
 use lib.ListN.{length, take, drop, length-append, length-drop, take-append-drop}
 use lib.Seq.{drop-append-seam, length-take-le}
-use borrow.Author.Tests.{eq-eqb, ne-eqb, le-leb, lt-leb, leb-true}
+use borrow.Author.Tests.{eq-eqb, ne-eqb, le-leb, lt-leb}
 use Rattle.wire.specs.Choice.{pick}
 use Rattle.wire.specs.Lists.{rest-is}
 use Rattle.wire.specs.Bytes.{Bytes, bytes-drop}
-use Rattle.wire.specs.Read.{Read, done, refused, mapRead, never, map-done}
-use Rattle.wire.specs.Answer.{good, plain, noSuch, no-good, answered}
+use Rattle.wire.specs.Read.{done, refused, mapRead, never, map-done}
+use Rattle.wire.specs.Answer.{good, plain, noSuch}
 use Rattle.wire.specs.Format.{run, such, _⨾_, along, encodeItems, ends-in}
 use Rattle.wire.specs.Formats.{counted}
-use Rattle.mapblock.specs.Data.{NameRow, Block}
+use Rattle.mapblock.specs.Data.{NameRow}
 use Rattle.mapblock.specs.Layout.{all, unused, nameRow}
-use Rattle.mapblock.specs.Block.{idAt, verdict}
+use Rattle.mapblock.specs.Block.{idAt}
 use Rattle.mapblock.specs.Params.{idIn}
 use Rattle.mapblock.specs.Rows.{part, nameFields}
 use Rattle.mapblock.specs.Sections.{sections, within}
-use Rattle.mapblock.specs.Questions.{blockAnswer, blockOf, nameOf, spotOf, nameSpot, nodeOn, nodeOf, NameRun}
+use Rattle.mapblock.specs.Questions.{nameOf, spotOf, nameSpot, nodeOf, NameRun}
 use Rattle.mapblock.specs.Theorems.{Holds, VeryBytes}
 use Rattle.mapblock.specs.declared.fault.Fault.{Fault}
 use Rattle.mapblock.specs.declared.head.Part.{Part}
@@ -205,14 +205,3 @@ module _ {s : List ℕ} {w : Found} (k : TakenAs s w) (y : Bytes s) where
         let start : w .sections .names .start ≡ sections (k .b) .names .start = sym (ap (λ (x : Found). x .sections .names .start) (k .shows)) in
         let spot : p ≡ nameSpot (k .b) i = g ∙ rw (start, same) in
         rw (k .answer, le-leb i 4095 (omega arith)) (ap good spot)
-
--- a name that was told lies in the bytes
-pub name-inside : (s : List ℕ) (i : ℕ) {p : Part} → Bytes s → good p ≡ nodeOf s i → p .start + p .length ≤ length s
-unfolding blockOf
-name-inside s i {p} w h = go (verdict all s) refl h
-  where
-    go : (r : Read Fault Block) → verdict all s ≡ r → good p ≡ nodeOn i (blockAnswer r) → p .start + p .length ≤ length s
-    go (done b n) e g =
-        let x = answered (leb i 4095) noSuch (nameSpot b i) p (sym g) in
-        subst (λ (q : Part). q .start + q .length ≤ length s) (x .1) (very-bytes s b n w e i (leb-true i 4095 (x .0)) .inside)
-    go (refused f q) e g = no-good (sym g)

@@ -12,6 +12,7 @@ pub mod Light
 pub mod Scan
 pub mod Numbers
 pub mod RowQuestions
+pub mod AskedRows
 pub mod Questions
 pub mod Valid
 pub mod Theorems

@@ -1,4 +1,8 @@
-// What may be wrong with a block, field by field. Document 01's number of each is given once, in specs/Numbers.antt.
+// Faults of a block.
+ghost use mathlib.Core.Path.{_≡_};
+ghost use Rattle.mapblock.specs.Numbers.{number};
+
+// What may be wrong with a block, field by field.
 pub enum Fault {
     // The bytes end inside a field, or an inventory has no end line.
     Ends,
@@ -18,6 +22,30 @@ pub enum Fault {
     IdTwice,
     BytesAfter,
     IdUnmapped,
+}
+
+// Document 01's number of a fault, as specs/Numbers.antt gives it.
+pub fn number(fault: Fault) -> u32
+    ensures { λ r. ⌜ r ≡ number fault ⌝ }
+{
+    match fault {
+        Fault::Ends => 1,
+        Fault::Version => 2,
+        Fault::ContentWidth => 3,
+        Fault::ParamsWidth => 3,
+        Fault::MetadataVersion => 3,
+        Fault::PrivateByte => 3,
+        Fault::ByteOf23 => 3,
+        Fault::TimerByte => 3,
+        Fault::ObjectVersion => 3,
+        Fault::MappingVersion => 3,
+        Fault::TimerRowLength => 3,
+        Fault::PositionAbove => 4,
+        Fault::PositionTwice => 5,
+        Fault::IdTwice => 6,
+        Fault::BytesAfter => 7,
+        Fault::IdUnmapped => 8,
+    }
 }
 
 // How far a reading came, or the fault that stopped it and its place, both from the first byte it was given.

@@ -20,6 +20,12 @@ pub struct Part {
     pub length: usize,
 }
 
+// Of a run that is not there.
+pub const NOWHERE: Part = Part {
+    start: 0,
+    length: 0,
+};
+
 // The rows of each list, without its count.
 #[repr(C)]
 pub struct Sections {

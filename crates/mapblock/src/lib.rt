@@ -11,6 +11,7 @@ pub mod nodes;
 pub mod objects;
 pub mod positions;
 pub mod read;
+pub mod row_questions;
 pub mod rows;
 pub mod scan;
 pub mod timers;

@@ -8,7 +8,7 @@ use wire::fields::U16;
 use wire::fields::u8_at;
 use wire::fields::u16_at;
 ghost use mathlib.Core.Path.{_≡_};
-ghost use Prim.Native.Nat.{_<_, _≤_};
+ghost use Prim.Native.Nat.{_<_};
 ghost use Rattle.wire.specs.Read.{mapRead};
 ghost use Rattle.wire.specs.Formats.{fixed, listed};
 ghost use Rattle.mapblock.specs.Kinds.{rowAfter};

@@ -1,6 +1,7 @@
 // Rows of metadata.
 use crate::fault::Fault;
 use crate::fault::Reach;
+use crate::head::NOWHERE;
 use crate::head::Part;
 use crate::inventory::inventory;
 use crate::positions::PositionRead;
@@ -39,11 +40,6 @@ pub enum MetadataRead {
     Row(MetadataFields, usize),
     Refused(Fault, usize),
 }
-
-const NOWHERE: Part = Part {
-    start: 0,
-    length: 0,
-};
 
 // A variable's key and value at the front of a part.
 fn key_and_value(s: &[u8]) -> Reach

@@ -1,7 +1,7 @@
 // The reader, and the sections of a block.
 use crate::fault::Fault;
 use crate::head::Head;
-use crate::head::Part;
+use crate::head::NOWHERE;
 use crate::head::Sections;
 use crate::head::cut;
 use crate::nodes::NODES;
@@ -143,18 +143,12 @@ fn parts(block: &[u8]) -> Sections
 {
     match sections(block) {
         SectionsAnswer::Block(_, found) => found,
-        SectionsAnswer::Refused(_, _) => {
-            let none = Part {
-                start: 0,
-                length: 0,
-            };
-            Sections {
-                names: none,
-                metadata: none,
-                objects: none,
-                timers: none,
-            }
-        }
+        SectionsAnswer::Refused(_, _) => Sections {
+            names: NOWHERE,
+            metadata: NOWHERE,
+            objects: NOWHERE,
+            timers: NOWHERE,
+        },
     }
 }
 

@@ -1,0 +1,12 @@
+use borrow.Author.Needs.{needs}
+use Rattle.anowhetele.proofs.answer.refused.Statement.{statement}
+use Rattle.anowhetele.proofs.answer.refused.Tie as tie
+
+number-requires : tie.Need-number-requires
+number-requires c κs = search needs
+
+returns : tie.Need-returns
+returns c = rw (c .number .ensures)
+
+pub refused-spec : {M : Type 1} → statement M
+refused-spec = tie.close (tie.spec number-requires returns)

@@ -1,0 +1,66 @@
+use borrow.Author.Needs.{needs}
+use Rattle.anowhetele.specs.Blocks.{noNode, handedNode}
+use Rattle.mapblock.specs.Questions.{toldNode}
+use mathlib.Core.Path.{ap, sym, _∙_}
+use Rattle.anowhetele.proofs.blocks.anow_node_name.Statement.{statement}
+use Rattle.anowhetele.proofs.blocks.anow_node_name.Tie as tie
+use Rattle.anowhetele.proofs.blocks.anow_node_name.Reads as reads
+use Rattle.anowhetele.proofs.blocks.anow_node_name.Lts as lts
+use Rattle.anowhetele.proofs.answer.done.Reads as done-reads
+use Rattle.anowhetele.proofs.answer.plain.Reads as plain-reads
+use Rattle.anowhetele.proofs.answer.refused.Reads as refused-reads
+use Rattle.anowhetele.proofs.blocks.no_node.Reads as no-node-reads
+use Rattle.mapblock.proofs.node.node.Reads as node-reads
+
+node-requires : tie.Need-node-requires
+node-requires c κs = search needs
+
+enum-known-name : tie.Need-enum-known-name
+enum-known-name c = search needs
+
+done-requires : tie.Need-done-requires
+done-requires c κs = search needs
+
+enum-told : tie.Need-enum-told
+enum-told c = search needs
+
+plain-requires : tie.Need-plain-requires
+plain-requires c κs = search needs
+
+no-node-requires : tie.Need-no-node-requires
+no-node-requires c κs = search needs
+
+enum-known-f : tie.Need-enum-known-f
+enum-known-f c = search needs
+
+refused-requires : tie.Need-refused-requires
+refused-requires c κs = search needs
+
+no-node-requires-2 : tie.Need-no-node-requires-2
+no-node-requires-2 c κs = search needs
+
+returns : tie.Need-returns
+returns c = rw (c .done .ensures) (ap handedNode (sym (ap toldNode (c .before .before .name .given .1)) ∙ c .before .before .before .before .node .ensures))
+
+returns-2 : tie.Need-returns-2
+returns-2 c = c .no-node .ensures ∙ ap noNode (c .before .plain .ensures) ∙ ap handedNode (sym (ap toldNode (c .before .before .enum-told .given .1)) ∙ c .before .before .before .before .node .ensures)
+
+returns-3 : tie.Need-returns-3
+returns-3 c = c .no-node2 .ensures ∙ ap noNode (c .before .refused .ensures) ∙ ap handedNode (sym (ap toldNode (c .before .before .before .f .given .1)) ∙ c .before .before .before .before .before .node .ensures)
+
+pub anow-node-name-spec : {M : Type 1} → statement M
+anow-node-name-spec =
+    tie.close
+    (tie.spec
+    node-requires
+    enum-known-name
+    done-requires
+    enum-told
+    plain-requires
+    no-node-requires
+    enum-known-f
+    refused-requires
+    no-node-requires-2
+    returns
+    returns-2
+    returns-3)

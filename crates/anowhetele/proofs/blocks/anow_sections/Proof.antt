@@ -1,0 +1,49 @@
+use borrow.Author.Needs.{needs}
+use Rattle.anowhetele.specs.Blocks.{noBlock, handedBlock}
+use Rattle.mapblock.specs.Questions.{toldSections}
+use mathlib.Core.Path.{ap, sym, _∙_}
+use Rattle.anowhetele.proofs.blocks.anow_sections.Statement.{statement}
+use Rattle.anowhetele.proofs.blocks.anow_sections.Tie as tie
+use Rattle.anowhetele.proofs.blocks.anow_sections.Reads as reads
+use Rattle.anowhetele.proofs.blocks.anow_sections.Lts as lts
+use Rattle.anowhetele.proofs.answer.done.Reads as done-reads
+use Rattle.anowhetele.proofs.answer.refused.Reads as refused-reads
+use Rattle.anowhetele.proofs.blocks.no_block.Reads as no-block-reads
+use Rattle.mapblock.proofs.read.sections.Reads as sections-reads
+
+sections-requires : tie.Need-sections-requires
+sections-requires c κs = search needs
+
+enum-known-head : tie.Need-enum-known-head
+enum-known-head c = search needs
+
+done-requires : tie.Need-done-requires
+done-requires c κs = search needs
+
+enum-known-f : tie.Need-enum-known-f
+enum-known-f c = search needs
+
+refused-requires : tie.Need-refused-requires
+refused-requires c κs = search needs
+
+no-block-requires : tie.Need-no-block-requires
+no-block-requires c κs = search needs
+
+returns : tie.Need-returns
+returns c = rw (c .done .ensures) (ap handedBlock (sym (ap toldSections (c .before .before .head .given .1)) ∙ c .before .before .before .before .sections .ensures))
+
+returns-2 : tie.Need-returns-2
+returns-2 c = c .no-block .ensures ∙ ap noBlock (c .before .refused .ensures) ∙ ap handedBlock (sym (ap toldSections (c .before .before .before .f .given .1)) ∙ c .before .before .before .before .before .sections .ensures)
+
+pub anow-sections-spec : {M : Type 1} → statement M
+anow-sections-spec =
+    tie.close
+    (tie.spec
+    sections-requires
+    enum-known-head
+    done-requires
+    enum-known-f
+    refused-requires
+    no-block-requires
+    returns
+    returns-2)

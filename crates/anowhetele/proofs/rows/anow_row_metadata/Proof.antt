@@ -1,0 +1,83 @@
+use borrow.Author.Needs.{needs}
+use mathlib.Core.Path.{ap, sym, _∙_}
+use Rattle.mapblock.specs.AskedRows.{toldMetadataRow}
+use Rattle.anowhetele.specs.Rows.{noMetadata, handedMetadata}
+use Rattle.anowhetele.proofs.rows.anow_row_metadata.Statement.{statement}
+use Rattle.anowhetele.proofs.rows.anow_row_metadata.Tie as tie
+
+metadata-row-of-requires : tie.Need-metadata-row-of-requires
+metadata-row-of-requires c κs = search needs
+
+enum-known-row : tie.Need-enum-known-row
+enum-known-row c = search needs
+
+done-requires : tie.Need-done-requires
+done-requires c κs = search needs
+
+cast-t13 : tie.Need-cast-t13
+cast-t13 c = search needs
+
+cast-t14 : tie.Need-cast-t14
+cast-t14 c = search needs
+
+enum-told : tie.Need-enum-told
+enum-told c = search needs
+
+plain-requires : tie.Need-plain-requires
+plain-requires c κs = search needs
+
+no-metadata-requires : tie.Need-no-metadata-requires
+no-metadata-requires c κs = search needs
+
+enum-told-2 : tie.Need-enum-told-2
+enum-told-2 c = search needs
+
+plain-requires-2 : tie.Need-plain-requires-2
+plain-requires-2 c κs = search needs
+
+no-metadata-requires-2 : tie.Need-no-metadata-requires-2
+no-metadata-requires-2 c κs = search needs
+
+enum-known-f : tie.Need-enum-known-f
+enum-known-f c = search needs
+
+refused-requires : tie.Need-refused-requires
+refused-requires c κs = search needs
+
+no-metadata-requires-3 : tie.Need-no-metadata-requires-3
+no-metadata-requires-3 c κs = search needs
+
+returns : tie.Need-returns
+returns c = rw (c .before .before .done .ensures) (ap handedMetadata (sym (ap toldMetadataRow (c .before .before .before .before .before .before .before .row .given .1)) ∙ c .before .before .before .before .before .before .before .before .before .metadata-row-of .ensures))
+
+returns-2 : tie.Need-returns-2
+returns-2 c = c .no-metadata .ensures ∙ ap noMetadata (c .before .plain .ensures) ∙ ap handedMetadata (sym (ap toldMetadataRow (c .before .before .enum-told .given .1)) ∙ c .before .before .before .before .metadata-row-of .ensures)
+
+returns-3 : tie.Need-returns-3
+returns-3 c = c .no-metadata2 .ensures ∙ ap noMetadata (c .before .plain2 .ensures) ∙ ap handedMetadata (sym (ap toldMetadataRow (c .before .before .enum-told2 .given .1)) ∙ c .before .before .before .before .metadata-row-of .ensures)
+
+returns-4 : tie.Need-returns-4
+returns-4 c = c .no-metadata3 .ensures ∙ ap noMetadata (c .before .refused .ensures) ∙ ap handedMetadata (sym (ap toldMetadataRow (c .before .before .before .f .given .1)) ∙ c .before .before .before .before .before .metadata-row-of .ensures)
+
+pub anow-row-metadata-spec : {M : Type 1} → statement M
+anow-row-metadata-spec =
+    tie.close
+    (tie.spec
+    metadata-row-of-requires
+    enum-known-row
+    done-requires
+    cast-t13
+    cast-t14
+    enum-told
+    plain-requires
+    no-metadata-requires
+    enum-told-2
+    plain-requires-2
+    no-metadata-requires-2
+    enum-known-f
+    refused-requires
+    no-metadata-requires-3
+    returns
+    returns-2
+    returns-3
+    returns-4)

@@ -1,0 +1,9 @@
+-- What a host is handed of an answer: the number, the record and the offset, which are 0 on 0, and the length of the result, which is 0 on a refusal.
+use Prim.Native.Nat.{ℕ}
+use Rattle.anowhetele.specs.declared.answer.AnowAnswer.{AnowAnswer}
+
+abbrev pub doneWith : ℕ → AnowAnswer
+doneWith n = record { number = 0; index = 0; offset = 0; length = n }
+
+abbrev pub refusedWith : ℕ → ℕ → ℕ → AnowAnswer
+refusedWith n r o = record { number = n; index = r; offset = o; length = 0 }

@@ -1,0 +1,29 @@
+-- Blocks as a host is handed them: the answer, whose length is 0 since nothing of a length is written, the head and where the sections are;
+-- and the place of a node's name. All are 0 on a refusal.
+use Rattle.wire.specs.Answer.{Answer, good, refusal}
+use Rattle.mapblock.specs.Rows.{nowhere}
+use Rattle.mapblock.specs.declared.head.Head.{Head}
+use Rattle.mapblock.specs.declared.head.Part.{Part}
+use Rattle.mapblock.specs.declared.head.Sections.{Sections}
+use Rattle.anowhetele.specs.Answers.{doneWith, refusedWith}
+use Rattle.anowhetele.specs.declared.answer.AnowAnswer.{AnowAnswer}
+use Rattle.anowhetele.specs.declared.blocks.AnowBlock.{AnowBlock}
+use Rattle.anowhetele.specs.declared.blocks.AnowNode.{AnowNode}
+
+abbrev pub noBlock : AnowAnswer → AnowBlock
+noBlock a = record {
+  answer = a;
+  head = record { version = 0; flags = 0; lighting = 0; timestamp = 0; timer = 0 };
+  sections = record { names = nowhere; metadata = nowhere; objects = nowhere; timers = nowhere };
+}
+
+abbrev pub handedBlock : Answer (Head × Sections) → AnowBlock
+handedBlock (good x) = record { answer = doneWith 0; head = x .0; sections = x .1 }
+handedBlock (refusal n r o) = noBlock (refusedWith n r o)
+
+abbrev pub noNode : AnowAnswer → AnowNode
+noNode a = record { answer = a; name = nowhere }
+
+abbrev pub handedNode : Answer Part → AnowNode
+handedNode (good p) = record { answer = doneWith 0; name = p }
+handedNode (refusal n r o) = noNode (refusedWith n r o)

@@ -1,0 +1,52 @@
+// What a call comes back with.
+use crate::numbers::DONE;
+use mapblock::fault::Fault;
+use mapblock::fault::number;
+ghost use mathlib.Core.Path.{_≡_};
+ghost use Rattle.mapblock.specs.Numbers.{number};
+ghost use Rattle.anowhetele.specs.Answers.{doneWith, refusedWith};
+
+#[repr(C)]
+pub struct AnowAnswer {
+    pub number: u32,
+    // The record of a sheet.
+    pub index: u32,
+    pub offset: u64,
+    // The result's, on 0.
+    pub length: u64,
+}
+
+pub(crate) fn done(length: usize) -> AnowAnswer
+    ensures { λ r. ⌜ r ≡ doneWith length ⌝ }
+{
+    AnowAnswer {
+        number: DONE,
+        index: 0,
+        offset: 0,
+        length: length as u64,
+    }
+}
+
+// A refusal that has neither record nor offset.
+pub(crate) fn plain(number: u32) -> AnowAnswer
+    ensures { λ r. ⌜ r ≡ refusedWith number 0 0 ⌝ }
+{
+    AnowAnswer {
+        number,
+        index: 0,
+        offset: 0,
+        length: 0,
+    }
+}
+
+// A fault in a block or a row, at its place.
+pub(crate) fn refused(fault: Fault, offset: usize) -> AnowAnswer
+    ensures { λ r. ⌜ r ≡ refusedWith (number fault) 0 offset ⌝ }
+{
+    AnowAnswer {
+        number: number(fault),
+        index: 0,
+        offset: offset as u64,
+        length: 0,
+    }
+}

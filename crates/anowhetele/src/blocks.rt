@@ -1,0 +1,118 @@
+// Blocks: the reader, the sections, the name of a node.
+use crate::answer::AnowAnswer;
+use crate::answer::done;
+use crate::answer::plain;
+use crate::answer::refused;
+use crate::numbers::NO_SUCH;
+use crate::numbers::PARTS_MISFIT;
+use mapblock::head::Head;
+use mapblock::head::NOWHERE;
+use mapblock::head::Part;
+use mapblock::head::Sections;
+use mapblock::node::NodeAnswer;
+use mapblock::node::node;
+use mapblock::read::ReadAnswer;
+use mapblock::read::SectionsAnswer;
+use mapblock::read::read;
+use mapblock::read::sections;
+ghost use mathlib.Core.Path.{_≡_};
+ghost use lib.ListN.{length};
+ghost use Rattle.wire.specs.Answer.{lent, mapAnswer};
+ghost use Rattle.mapblock.specs.Data.{Block};
+ghost use Rattle.mapblock.specs.Questions.{shown, readOf, sectionsOf, nodeOf};
+ghost use Rattle.anowhetele.specs.Blocks.{noBlock, noNode, handedBlock, handedNode};
+
+// The sections lie as four parts, one after the other.
+#[repr(C)]
+pub struct AnowBlock {
+    pub answer: AnowAnswer,
+    pub head: Head,
+    pub sections: Sections,
+}
+
+fn no_block(answer: AnowAnswer) -> AnowBlock
+    ensures { λ r. ⌜ r ≡ noBlock answer ⌝ }
+{
+    AnowBlock {
+        answer,
+        head: Head {
+            version: 0,
+            flags: 0,
+            lighting: 0,
+            timestamp: 0,
+            timer: 0,
+        },
+        sections: Sections {
+            names: NOWHERE,
+            metadata: NOWHERE,
+            objects: NOWHERE,
+            timers: NOWHERE,
+        },
+    }
+}
+
+#[no_mangle]
+pub extern "C" fn anow_read(
+    block: &[u8],
+    param0: &mut [u16],
+    param1: &mut [u8],
+    param2: &mut [u8],
+) -> AnowBlock
+    ensures { λ r. ⌜ r ≡ handedBlock (mapAnswer shown (readOf (now (block .entry)) (length (now (param0 .entry))) (length (now (param1 .entry))) (length (now (param2 .entry))))) ⌝ }
+    ensures { λ _. ⌜ now (param0 .exit) ≡ lent (mapAnswer (λ (b : Block). b .nodes .param0) (readOf (now (block .entry)) (length (now (param0 .entry))) (length (now (param1 .entry))) (length (now (param2 .entry))))) (now (param0 .entry)) ⌝ }
+    ensures { λ _. ⌜ now (param1 .exit) ≡ lent (mapAnswer (λ (b : Block). b .nodes .param1) (readOf (now (block .entry)) (length (now (param0 .entry))) (length (now (param1 .entry))) (length (now (param2 .entry))))) (now (param1 .entry)) ⌝ }
+    ensures { λ _. ⌜ now (param2 .exit) ≡ lent (mapAnswer (λ (b : Block). b .nodes .param2) (readOf (now (block .entry)) (length (now (param0 .entry))) (length (now (param1 .entry))) (length (now (param2 .entry))))) (now (param2 .entry)) ⌝ }
+{
+    match read(block, param0, param1, param2) {
+        ReadAnswer::Block(head, sections) => AnowBlock {
+            answer: done(0),
+            head,
+            sections,
+        },
+        ReadAnswer::Misfit => no_block(plain(PARTS_MISFIT)),
+        ReadAnswer::Refused(f, p) => no_block(refused(f, p)),
+    }
+}
+
+#[no_mangle]
+pub extern "C" fn anow_sections(block: &[u8]) -> AnowBlock
+    ensures { λ r. ⌜ r ≡ handedBlock (sectionsOf (now (block .entry))) ⌝ }
+{
+    match sections(block) {
+        SectionsAnswer::Block(head, sections) => AnowBlock {
+            answer: done(0),
+            head,
+            sections,
+        },
+        SectionsAnswer::Refused(f, p) => no_block(refused(f, p)),
+    }
+}
+
+#[repr(C)]
+pub struct AnowNode {
+    pub answer: AnowAnswer,
+    pub name: Part,
+}
+
+fn no_node(answer: AnowAnswer) -> AnowNode
+    ensures { λ r. ⌜ r ≡ noNode answer ⌝ }
+{
+    AnowNode {
+        answer,
+        name: NOWHERE,
+    }
+}
+
+#[no_mangle]
+pub extern "C" fn anow_node_name(block: &[u8], index: u64) -> AnowNode
+    ensures { λ r. ⌜ r ≡ handedNode (nodeOf (now (block .entry)) index) ⌝ }
+{
+    match node(block, index as usize) {
+        NodeAnswer::Name(name) => AnowNode {
+            answer: done(0),
+            name,
+        },
+        NodeAnswer::NoSuchNode => no_node(plain(NO_SUCH)),
+        NodeAnswer::Refused(f, p) => no_node(refused(f, p)),
+    }
+}

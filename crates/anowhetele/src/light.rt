@@ -1,0 +1,10 @@
+// Lighting.
+ghost use mathlib.Core.Path.{_≡_};
+ghost use Rattle.mapblock.specs.Light.{lightCount};
+
+#[no_mangle]
+pub extern "C" fn anow_light_count(lighting: u16) -> u32
+    ensures { λ r. ⌜ r ≡ lightCount lighting ⌝ }
+{
+    mapblock::light::light_count(lighting)
+}

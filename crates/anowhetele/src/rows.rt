@@ -1,0 +1,188 @@
+// Rows from the front of a section.
+use crate::answer::AnowAnswer;
+use crate::answer::done;
+use crate::answer::plain;
+use crate::answer::refused;
+use crate::numbers::NO_SUCH;
+use crate::numbers::VERSION_OUTSIDE;
+use mapblock::head::NOWHERE;
+use mapblock::head::Part;
+use mapblock::row_questions::MetadataRowAnswer;
+use mapblock::row_questions::NameRowAnswer;
+use mapblock::row_questions::ObjectRowAnswer;
+use mapblock::row_questions::TimerRowAnswer;
+use mapblock::row_questions::metadata_row_of;
+use mapblock::row_questions::name_row_of;
+use mapblock::row_questions::object_row_of;
+use mapblock::row_questions::timer_row_of;
+ghost use mathlib.Core.Path.{_≡_};
+ghost use Rattle.mapblock.specs.RowQuestions.{nameRowOf, metadataRowOf, objectRowOf, timerRowOf};
+ghost use Rattle.anowhetele.specs.Rows.{noName, noMetadata, noObject, noTimer, handedName, handedMetadata, handedObject, handedTimer};
+
+// ---- names
+#[repr(C)]
+pub struct AnowNameRow {
+    pub answer: AnowAnswer,
+    pub id: u32,
+    pub name: Part,
+}
+
+fn no_name(answer: AnowAnswer) -> AnowNameRow
+    ensures { λ r. ⌜ r ≡ noName answer ⌝ }
+{
+    AnowNameRow {
+        answer,
+        id: 0,
+        name: NOWHERE,
+    }
+}
+
+#[no_mangle]
+pub extern "C" fn anow_row_name(part: &[u8]) -> AnowNameRow
+    ensures { λ r. ⌜ r ≡ handedName (nameRowOf (now (part .entry))) ⌝ }
+{
+    match name_row_of(part) {
+        NameRowAnswer::Row(row, n) => {
+            let name = row.name;
+            AnowNameRow {
+                answer: done(n),
+                id: row.id as u32,
+                name,
+            }
+        }
+        NameRowAnswer::NoSuchRow => no_name(plain(NO_SUCH)),
+        NameRowAnswer::Refused(f, p) => no_name(refused(f, p)),
+    }
+}
+
+// ---- metadata
+#[repr(C)]
+pub struct AnowMetadataRow {
+    pub answer: AnowAnswer,
+    pub position: u32,
+    pub kind: u32,
+    pub variables: u32,
+    pub content: Part,
+    pub rows: Part,
+    pub inventory: Part,
+}
+
+fn no_metadata(answer: AnowAnswer) -> AnowMetadataRow
+    ensures { λ r. ⌜ r ≡ noMetadata answer ⌝ }
+{
+    AnowMetadataRow {
+        answer,
+        position: 0,
+        kind: 0,
+        variables: 0,
+        content: NOWHERE,
+        rows: NOWHERE,
+        inventory: NOWHERE,
+    }
+}
+
+#[no_mangle]
+pub extern "C" fn anow_row_metadata(version: u8, part: &[u8]) -> AnowMetadataRow
+    ensures { λ r. ⌜ r ≡ handedMetadata (metadataRowOf version (now (part .entry))) ⌝ }
+{
+    match metadata_row_of(version, part) {
+        MetadataRowAnswer::Row(row, n) => {
+            let content = row.content;
+            let rows = row.rows;
+            let inventory = row.inventory;
+            AnowMetadataRow {
+                answer: done(n),
+                position: row.position as u32,
+                kind: row.kind as u32,
+                variables: row.variables,
+                content,
+                rows,
+                inventory,
+            }
+        }
+        MetadataRowAnswer::BadVersion => no_metadata(plain(VERSION_OUTSIDE)),
+        MetadataRowAnswer::NoSuchRow => no_metadata(plain(NO_SUCH)),
+        MetadataRowAnswer::Refused(f, p) => no_metadata(refused(f, p)),
+    }
+}
+
+// ---- static objects
+#[repr(C)]
+pub struct AnowObjectRow {
+    pub answer: AnowAnswer,
+    pub kind: u32,
+    pub x: i32,
+    pub y: i32,
+    pub z: i32,
+    pub content: Part,
+}
+
+fn no_object(answer: AnowAnswer) -> AnowObjectRow
+    ensures { λ r. ⌜ r ≡ noObject answer ⌝ }
+{
+    AnowObjectRow {
+        answer,
+        kind: 0,
+        x: 0,
+        y: 0,
+        z: 0,
+        content: NOWHERE,
+    }
+}
+
+#[no_mangle]
+pub extern "C" fn anow_row_object(part: &[u8]) -> AnowObjectRow
+    ensures { λ r. ⌜ r ≡ handedObject (objectRowOf (now (part .entry))) ⌝ }
+{
+    match object_row_of(part) {
+        ObjectRowAnswer::Row(row, n) => {
+            let content = row.content;
+            AnowObjectRow {
+                answer: done(n),
+                kind: row.kind as u32,
+                x: row.x,
+                y: row.y,
+                z: row.z,
+                content,
+            }
+        }
+        ObjectRowAnswer::NoSuchRow => no_object(plain(NO_SUCH)),
+        ObjectRowAnswer::Refused(f, p) => no_object(refused(f, p)),
+    }
+}
+
+// ---- timers
+#[repr(C)]
+pub struct AnowTimerRow {
+    pub answer: AnowAnswer,
+    pub position: u32,
+    pub timeout: i32,
+    pub elapsed: i32,
+}
+
+fn no_timer(answer: AnowAnswer) -> AnowTimerRow
+    ensures { λ r. ⌜ r ≡ noTimer answer ⌝ }
+{
+    AnowTimerRow {
+        answer,
+        position: 0,
+        timeout: 0,
+        elapsed: 0,
+    }
+}
+
+#[no_mangle]
+pub extern "C" fn anow_row_timer(part: &[u8]) -> AnowTimerRow
+    ensures { λ r. ⌜ r ≡ handedTimer (timerRowOf (now (part .entry))) ⌝ }
+{
+    match timer_row_of(part) {
+        TimerRowAnswer::Row(row, n) => AnowTimerRow {
+            answer: done(n),
+            position: row.position as u32,
+            timeout: row.timeout,
+            elapsed: row.elapsed,
+        },
+        TimerRowAnswer::NoSuchRow => no_timer(plain(NO_SUCH)),
+        TimerRowAnswer::Refused(f, p) => no_timer(refused(f, p)),
+    }
+}

@@ -1,0 +1,176 @@
+-- Row questions: the answer by what the reader says of the front row, and the parts that are handed back.
+use Prim.Native.Nat.{ℕ, _+_, _-_, _<_, _≤_}
+use mathlib.Core.Path.{_≡_, refl, ap, sym, _∙_}
+use mathlib.Core.Logic.{⊎-elim}
+use mathlib.Core.List.{List, [], _∷_}
+use mathlib.Core.Bool.{Bool, true, false, _&&_}
+use native.Mathlib.Omega.{arith}
+use lib.Dec.{leb, eqb}
+use lib.ListN.{length, take, drop, length-append}
+use borrow.Author.Tests.{eq-eqb, ne-eqb, le-leb, lt-leb}
+use denote.Enum.Declared.{tagOf}
+use types.Run.{OneOf}
+use Rattle.wire.specs.Choice.{pick}
+use Rattle.wire.specs.Bytes.{Bytes}
+use Rattle.wire.specs.Lists.{rest-is}
+use Rattle.wire.specs.Read.{Read, done, refused, mapRead, map-done}
+use Rattle.wire.specs.Format.{run, such, nothing, items, _⨾_, along}
+use Rattle.wire.specs.Formats.{number, signed, counted, listed}
+use Rattle.wire.specs.Answer.{Answer, good, refusal, plain, versionOutside, noSuch, no-good}
+use Rattle.mapblock.specs.Inventory.{Form, inventory}
+use Rattle.mapblock.specs.Data.{NameRow, MetadataRow, ObjectRow}
+use Rattle.mapblock.specs.Layout.{all, nameRow, metadataRow, objectRow}
+use Rattle.mapblock.specs.Rows.{nameFields, metadataFields, objectFields, variableBytes}
+use Rattle.mapblock.specs.Numbers.{answerOf}
+use Rattle.mapblock.specs.RowQuestions.{frontRow, nameRowOf, metadataRowOf, objectRowOf, runOf, rowsBehind}
+use Rattle.mapblock.specs.AskedRows.{toldNameRow, toldMetadataRow, toldObjectRow, toldTimerRow}
+use Rattle.mapblock.specs.declared.fault.Fault.{Fault}
+use Rattle.mapblock.specs.declared.head.Part.{Part}
+use Rattle.mapblock.specs.declared.names.NameFields.{NameFields}
+use Rattle.mapblock.specs.declared.metadata.MetadataFields.{MetadataFields}
+use Rattle.mapblock.specs.declared.objects.ObjectFields.{ObjectFields}
+use Rattle.mapblock.specs.declared.row_questions.NameRowAnswer.{NameRowAnswer}
+use Rattle.mapblock.specs.declared.row_questions.NameRowAnswer.the-variants as name
+use Rattle.mapblock.specs.declared.row_questions.MetadataRowAnswer.{MetadataRowAnswer}
+use Rattle.mapblock.specs.declared.row_questions.MetadataRowAnswer.the-variants as metadata
+use Rattle.mapblock.specs.declared.row_questions.ObjectRowAnswer.{ObjectRowAnswer}
+use Rattle.mapblock.specs.declared.row_questions.ObjectRowAnswer.the-variants as object
+use Rattle.mapblock.specs.declared.row_questions.TimerRowAnswer.{TimerRowAnswer}
+use Rattle.mapblock.specs.declared.row_questions.TimerRowAnswer.the-variants as timer
+use Rattle.mapblock.proofs.row_questions.NameRowAnswer as names
+use Rattle.mapblock.proofs.row_questions.MetadataRowAnswer as metadatas
+use Rattle.mapblock.proofs.row_questions.ObjectRowAnswer as objects
+use Rattle.mapblock.proofs.row_questions.TimerRowAnswer as timers
+use Rattle.mapblock.proofs.Leaves.{told-in}
+
+-- ---- the answer
+module _ {A : Type 0} (s : List ℕ) where
+  pub asked-none : (r : Read Fault A) → length s ≡ 0 → plain noSuch ≡ frontRow s r
+  asked-none r h = rw (eq-eqb (length s) 0 h)
+
+  pub asked-row : {r t : Read Fault A} → (length s ≡ 0 → ⊥) → t ≡ r → answerOf t ≡ frontRow s r
+  asked-row h e = rw (ne-eqb (length s) 0 h) (ap answerOf e)
+
+  answer-done : (r : Read Fault A) {a : A} {n : ℕ} → good (a, n) ≡ answerOf r → done a n ≡ r
+  answer-done (done b m) {a} {n} h = let e : _≡_ {A = A × ℕ} (a, n) (b, m) = cc in ap (λ (x : A × ℕ). done (x .0) (x .1)) e
+  answer-done (refused f p) h = no-good (sym h)
+
+  pub asked-done : (r : Read Fault A) {a : A} {n : ℕ} → good (a, n) ≡ frontRow s r → done a n ≡ r
+  asked-done r {a} {n} h = go (eqb (length s) 0) h
+    where
+      go : (b : Bool) → good (a, n) ≡ pick b (plain noSuch) (answerOf r) → done a n ≡ r
+      go true e = no-good (sym e)
+      go false e = answer-done r e
+
+-- of metadata the version is judged first
+module _ (v : ℕ) (s : List ℕ) where
+  pub version-below : v < 22 → plain versionOutside ≡ metadataRowOf v s
+  version-below h = rw (lt-leb 22 v h)
+
+  pub version-above : 22 ≤ v → 29 < v → plain versionOutside ≡ metadataRowOf v s
+  version-above h k = rw (le-leb 22 v h, lt-leb v 29 k)
+
+  pub version-good : {x : Answer (MetadataFields × ℕ)} → 22 ≤ v → v ≤ 29 → x ≡ frontRow s (mapRead (metadataFields v) (metadataRow v [] .read s)) → x ≡ metadataRowOf v s
+  version-good h k e = rw (le-leb 22 v h, le-leb v 29 k) e
+
+  pub version-was : {f : MetadataFields} {n : ℕ} → good (f, n) ≡ metadataRowOf v s → good (f, n) ≡ frontRow s (mapRead (metadataFields v) (metadataRow v [] .read s))
+  version-was {f} {n} h = go (leb 22 v && leb v 29) h
+    where
+      go : (b : Bool) → good (f, n) ≡ pick b (frontRow s (mapRead (metadataFields v) (metadataRow v [] .read s))) (plain versionOutside)
+          → good (f, n) ≡ frontRow s (mapRead (metadataFields v) (metadataRow v [] .read s))
+      go true e = e
+      go false e = no-good (sym e)
+
+-- ---- a refusal hands back nothing
+abbrev pub Refusal : {A : Type 0} → Answer A → Type 0
+Refusal (good a) = ⊥
+Refusal (refusal n r o) = Unit {0}
+
+module _ {A : Type 0} (s : List ℕ) where
+  pub empty-run : (run : A → Part) (x : Answer (A × ℕ)) {y : Answer (A × ℕ)} → x ≡ y → Refusal x → [] ≡ runOf run s y
+  empty-run run (good a) e k = absurd k
+  empty-run run (refusal n r o) e k = rw (← e)
+
+  pub empty-behind : (x : Answer (A × ℕ)) {y : Answer (A × ℕ)} → x ≡ y → Refusal x → [] ≡ rowsBehind s y
+  empty-behind (good a) e k = absurd k
+  empty-behind (refusal n r o) e k = rw (← e)
+
+-- answers other than the first
+pub no-name : (r : NameRowAnswer) → OneOf (1 ∷ 2 ∷ []) (tagOf names.the-type r) → Refusal (toldNameRow r)
+no-name (name.Row f n) k = ⊎-elim (λ w. omega arith) (λ w. omega arith) k
+no-name name.NoSuchRow k = tt
+no-name (name.Refused f p) k = tt
+
+pub no-metadata : (r : MetadataRowAnswer) → OneOf (1 ∷ 2 ∷ 3 ∷ []) (tagOf metadatas.the-type r) → Refusal (toldMetadataRow r)
+no-metadata (metadata.Row f n) k = ⊎-elim (λ w. omega arith) (⊎-elim (λ w. omega arith) (λ w. omega arith)) k
+no-metadata metadata.BadVersion k = tt
+no-metadata metadata.NoSuchRow k = tt
+no-metadata (metadata.Refused f p) k = tt
+
+pub no-object : (r : ObjectRowAnswer) → OneOf (1 ∷ 2 ∷ []) (tagOf objects.the-type r) → Refusal (toldObjectRow r)
+no-object (object.Row f n) k = ⊎-elim (λ w. omega arith) (λ w. omega arith) k
+no-object object.NoSuchRow k = tt
+no-object (object.Refused f p) k = tt
+
+pub no-timer : (r : TimerRowAnswer) → OneOf (1 ∷ 2 ∷ []) (tagOf timers.the-type r) → Refusal (toldTimerRow r)
+no-timer (timer.Row f n) k = ⊎-elim (λ w. omega arith) (λ w. omega arith) k
+no-timer timer.NoSuchRow k = tt
+no-timer (timer.Refused f p) k = tt
+
+-- ---- a row that was told ends in the part
+module _ (s : List ℕ) where
+  pub row-fits : {A B : Type 0} (to : A → B) (f : Form A) {b : B} {n : ℕ} → good (b, n) ≡ frontRow s (mapRead to (f .read s)) → n ≤ length s
+  row-fits to f h = told-in to f s (asked-done s (mapRead to (f .read s)) h)
+
+  -- the rows behind it
+  pub behind-told : {A : Type 0} {a : A} {n : ℕ} {y : Answer (A × ℕ)} → good (a, n) ≡ y → take (length s - n) (drop n s) ≡ rowsBehind s y
+  behind-told {n = n} h = rest-is n s ∙ ap (rowsBehind s) h
+
+-- ---- and its runs end where it ends, or before
+abbrev UpTo : ℕ → Part → Type 0
+UpTo n p = p .start + p .length ≤ n
+
+-- the bytes of a row
+name-length : (r : NameRow) → length (nameRow all [] .encode r) ≡ 4 + length (r .name)
+unfolding nameRow along _⨾_ such number counted run
+name-length r = simp length-append (omega arith)
+
+object-length : (r : ObjectRow) → length (objectRow .encode r) ≡ 15 + length (r .content)
+unfolding objectRow along _⨾_ number signed counted run
+object-length r = simp length-append (omega arith)
+
+old-length : (v : ℕ) (r : MetadataRow) → leb 23 v ≡ false → length (metadataRow v [] .encode r) ≡ 6 + length (r .content)
+unfolding metadataRow along _⨾_ such nothing number counted run
+old-length v r h = rw h (simp length-append (omega arith))
+
+new-length : (v : ℕ) (r : MetadataRow) → leb 23 v ≡ true → length (metadataRow v [] .encode r) ≡ 6 + variableBytes v r + length (r .inventory)
+unfolding metadataRow along _⨾_ such nothing number listed items run inventory
+new-length v r h = rw h (simp length-append (omega arith))
+
+-- a row that was told, and its length
+row-told : {A B : Type 0} (to : A → B) (f : Form A) (s : List ℕ) → Bytes s → {b : B} {n : ℕ} → good (b, n) ≡ frontRow s (mapRead to (f .read s))
+    → (a : A) × (to a ≡ b) × (length (f .encode a) ≤ length s)
+row-told to f s w {b} {n} h =
+    let x = map-done to (f .read s) b n (sym (asked-done s (mapRead to (f .read s)) h)) in
+    (x .0, x .2, omega (arith, row-fits s to f h, f .backward s (x .0) n w (x .1) .ends))
+
+module _ (s : List ℕ) (b : Bytes s) where
+  pub name-fits : {f : NameFields} {n : ℕ} → good (f, n) ≡ nameRowOf s → UpTo (length s) (f .name)
+  name-fits h =
+      let x = row-told nameFields (nameRow all []) s b h in
+      rw (← x .1) (omega (arith, x .2, name-length (x .0)))
+
+  pub object-fits : {f : ObjectFields} {n : ℕ} → good (f, n) ≡ objectRowOf s → UpTo (length s) (f .content)
+  object-fits h =
+      let x = row-told objectFields objectRow s b h in
+      rw (← x .1) (omega (arith, x .2, object-length (x .0)))
+
+  pub metadata-fits : (v : ℕ) {f : MetadataFields} {n : ℕ} → good (f, n) ≡ metadataRowOf v s → UpTo (length s) (f .content) × UpTo (length s) (f .rows) × UpTo (length s) (f .inventory)
+  metadata-fits v h =
+      let x = row-told (metadataFields v) (metadataRow v []) s b (version-was v s h) in
+      rw (← x .1) (go (x .0) (leb 23 v) refl (x .2))
+    where
+      go : (r : MetadataRow) (c : Bool) → leb 23 v ≡ c → length (metadataRow v [] .encode r) ≤ length s
+          → UpTo (length s) (metadataFields v r .content) × UpTo (length s) (metadataFields v r .rows) × UpTo (length s) (metadataFields v r .inventory)
+      go r true e k = rw e (omega arith, omega (arith, new-length v r e), omega (arith, new-length v r e))
+      go r false e k = rw e (omega (arith, old-length v r e), omega arith, omega arith)

@@ -1,0 +1,30 @@
+use borrow.Author.Needs.{needs}
+use mathlib.Core.Path.{ap, sym, _∙_}
+use denote.Ref.{now}
+use Rattle.mapblock.specs.RowQuestions.{runOf}
+use Rattle.mapblock.specs.AskedRows.{toldNameRow}
+use Rattle.mapblock.specs.declared.names.NameFields.{NameFields}
+use Rattle.mapblock.proofs.AskedParts.{empty-run, no-name, name-fits}
+use Rattle.mapblock.proofs.row_questions.name_of.Statement.{statement}
+use Rattle.mapblock.proofs.row_questions.name_of.Tie as tie
+
+name-row-of-requires : tie.Need-name-row-of-requires
+name-row-of-requires c κs = search needs
+
+enum-known-row : tie.Need-enum-known-row
+enum-known-row c = search needs
+
+cut-requires : tie.Need-cut-requires
+cut-requires c κs = search needs
+
+slice-aggregate-result : tie.Need-slice-aggregate-result
+slice-aggregate-result c = search needs
+
+returns : tie.Need-returns
+returns c = c .cut .ensures ∙ ap (runOf (λ (f : NameFields). f .name) (now (c .before .before .before .before .before .before .args .part))) (sym (ap toldNameRow (c .before .before .row .given .1)) ∙ c .before .before .before .before .name-row-of .ensures)
+
+returns-2 : tie.Need-returns-2
+returns-2 c = let r = c .before .before .name-row-of in empty-run (now (c .before .before .before .before .args .part)) (λ (f : NameFields). f .name) (toldNameRow (r .result)) (r .ensures) (no-name (r .result) (c .before .match .keys2))
+
+pub name-of-spec : {M : Type 1} → statement M
+name-of-spec = tie.close (tie.spec name-row-of-requires enum-known-row cut-requires slice-aggregate-result returns returns-2)

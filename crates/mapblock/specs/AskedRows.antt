@@ -1,0 +1,37 @@
+-- What the answers to row questions say.
+use Prim.Native.Nat.{ℕ}
+use Rattle.wire.specs.Answer.{Answer, good, refusal, plain, versionOutside, noSuch}
+use Rattle.mapblock.specs.Numbers.{number}
+use Rattle.mapblock.specs.declared.names.NameFields.{NameFields}
+use Rattle.mapblock.specs.declared.metadata.MetadataFields.{MetadataFields}
+use Rattle.mapblock.specs.declared.objects.ObjectFields.{ObjectFields}
+use Rattle.mapblock.specs.declared.timers.TimerFields.{TimerFields}
+use Rattle.mapblock.specs.declared.row_questions.NameRowAnswer.{NameRowAnswer}
+use Rattle.mapblock.specs.declared.row_questions.NameRowAnswer.the-variants as name
+use Rattle.mapblock.specs.declared.row_questions.MetadataRowAnswer.{MetadataRowAnswer}
+use Rattle.mapblock.specs.declared.row_questions.MetadataRowAnswer.the-variants as metadata
+use Rattle.mapblock.specs.declared.row_questions.ObjectRowAnswer.{ObjectRowAnswer}
+use Rattle.mapblock.specs.declared.row_questions.ObjectRowAnswer.the-variants as object
+use Rattle.mapblock.specs.declared.row_questions.TimerRowAnswer.{TimerRowAnswer}
+use Rattle.mapblock.specs.declared.row_questions.TimerRowAnswer.the-variants as timer
+
+abbrev pub toldNameRow : NameRowAnswer → Answer (NameFields × ℕ)
+toldNameRow (name.Row r n) = good (r, n)
+toldNameRow name.NoSuchRow = plain noSuch
+toldNameRow (name.Refused f p) = refusal (number f) 0 p
+
+abbrev pub toldMetadataRow : MetadataRowAnswer → Answer (MetadataFields × ℕ)
+toldMetadataRow (metadata.Row r n) = good (r, n)
+toldMetadataRow metadata.BadVersion = plain versionOutside
+toldMetadataRow metadata.NoSuchRow = plain noSuch
+toldMetadataRow (metadata.Refused f p) = refusal (number f) 0 p
+
+abbrev pub toldObjectRow : ObjectRowAnswer → Answer (ObjectFields × ℕ)
+toldObjectRow (object.Row r n) = good (r, n)
+toldObjectRow object.NoSuchRow = plain noSuch
+toldObjectRow (object.Refused f p) = refusal (number f) 0 p
+
+abbrev pub toldTimerRow : TimerRowAnswer → Answer (TimerFields × ℕ)
+toldTimerRow (timer.Row r n) = good (r, n)
+toldTimerRow timer.NoSuchRow = plain noSuch
+toldTimerRow (timer.Refused f p) = refusal (number f) 0 p

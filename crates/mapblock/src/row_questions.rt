@@ -1,0 +1,191 @@
+// Rows from the front of a section: the numbers of the front row and where its runs stand, each run as a part of what was given, and the
+// rows behind it handed on as what remains. A call that hands back a part hands back an empty one when refused; its number and offset are
+// asked by the row's own question.
+use crate::fault::Fault;
+use crate::head::cut;
+use crate::metadata::MetadataFields;
+use crate::metadata::MetadataRead;
+use crate::metadata::metadata_row;
+use crate::names::NameFields;
+use crate::names::NameRead;
+use crate::names::name_row;
+use crate::objects::ObjectFields;
+use crate::objects::ObjectRead;
+use crate::objects::object_row;
+use crate::timers::TimerFields;
+use crate::timers::TimerRead;
+use crate::timers::timer_row;
+ghost use mathlib.Core.Path.{_≡_};
+ghost use lib.ListN.{length};
+ghost use Rattle.mapblock.specs.RowQuestions.{nameRowOf, metadataRowOf, objectRowOf, timerRowOf, runOf, rowsBehind};
+ghost use Rattle.mapblock.specs.AskedRows.{toldNameRow, toldMetadataRow, toldObjectRow, toldTimerRow};
+
+// ---- names
+pub enum NameRowAnswer {
+    // The row and its length.
+    Row(NameFields, usize),
+    NoSuchRow,
+    Refused(Fault, usize),
+}
+
+pub fn name_row_of(part: &[u8]) -> NameRowAnswer
+    ensures { λ r. ⌜ toldNameRow r ≡ nameRowOf (now (part .entry)) ⌝ }
+{
+    if part.len() == 0 {
+        return NameRowAnswer::NoSuchRow;
+    }
+    match name_row(part) {
+        NameRead::Row(row, n) => NameRowAnswer::Row(row, n),
+        NameRead::Refused(f, p) => NameRowAnswer::Refused(f, p),
+    }
+}
+
+// The name in the front row.
+pub fn name_of(part: &[u8]) -> &[u8]
+    ensures { λ r. ⌜ now r ≡ runOf (λ (f : NameFields). f .name) (now (part .entry)) (nameRowOf (now (part .entry))) ⌝ }
+{
+    match name_row_of(part) {
+        NameRowAnswer::Row(row, _) => cut(part, row.name),
+        _ => &part[..0],
+    }
+}
+
+pub fn behind_name_row(part: &[u8]) -> &[u8]
+    ensures { λ r. ⌜ now r ≡ rowsBehind (now (part .entry)) (nameRowOf (now (part .entry))) ⌝ }
+{
+    match name_row_of(part) {
+        NameRowAnswer::Row(_, n) => &part[n..],
+        _ => &part[..0],
+    }
+}
+
+// ---- metadata
+pub enum MetadataRowAnswer {
+    Row(MetadataFields, usize),
+    BadVersion,
+    NoSuchRow,
+    Refused(Fault, usize),
+}
+
+pub fn metadata_row_of(version: u8, part: &[u8]) -> MetadataRowAnswer
+    ensures { λ r. ⌜ toldMetadataRow r ≡ metadataRowOf version (now (part .entry)) ⌝ }
+{
+    if version < 22 {
+        return MetadataRowAnswer::BadVersion;
+    }
+    if 29 < version {
+        return MetadataRowAnswer::BadVersion;
+    }
+    if part.len() == 0 {
+        return MetadataRowAnswer::NoSuchRow;
+    }
+    match metadata_row(version, part) {
+        MetadataRead::Row(row, n) => MetadataRowAnswer::Row(row, n),
+        MetadataRead::Refused(f, p) => MetadataRowAnswer::Refused(f, p),
+    }
+}
+
+// The content in the front row; from version 23 on it is empty.
+pub fn metadata_content_of(version: u8, part: &[u8]) -> &[u8]
+    ensures { λ r. ⌜ now r ≡ runOf (λ (f : MetadataFields). f .content) (now (part .entry)) (metadataRowOf version (now (part .entry))) ⌝ }
+{
+    match metadata_row_of(version, part) {
+        MetadataRowAnswer::Row(row, _) => cut(part, row.content),
+        _ => &part[..0],
+    }
+}
+
+// The variables in the front row; in version 22 they are empty.
+pub fn metadata_variables_of(version: u8, part: &[u8]) -> &[u8]
+    ensures { λ r. ⌜ now r ≡ runOf (λ (f : MetadataFields). f .rows) (now (part .entry)) (metadataRowOf version (now (part .entry))) ⌝ }
+{
+    match metadata_row_of(version, part) {
+        MetadataRowAnswer::Row(row, _) => cut(part, row.rows),
+        _ => &part[..0],
+    }
+}
+
+// The inventory in the front row; in version 22 it is empty.
+pub fn metadata_inventory_of(version: u8, part: &[u8]) -> &[u8]
+    ensures { λ r. ⌜ now r ≡ runOf (λ (f : MetadataFields). f .inventory) (now (part .entry)) (metadataRowOf version (now (part .entry))) ⌝ }
+{
+    match metadata_row_of(version, part) {
+        MetadataRowAnswer::Row(row, _) => cut(part, row.inventory),
+        _ => &part[..0],
+    }
+}
+
+pub fn behind_metadata_row(version: u8, part: &[u8]) -> &[u8]
+    ensures { λ r. ⌜ now r ≡ rowsBehind (now (part .entry)) (metadataRowOf version (now (part .entry))) ⌝ }
+{
+    match metadata_row_of(version, part) {
+        MetadataRowAnswer::Row(_, n) => &part[n..],
+        _ => &part[..0],
+    }
+}
+
+// ---- static objects
+pub enum ObjectRowAnswer {
+    Row(ObjectFields, usize),
+    NoSuchRow,
+    Refused(Fault, usize),
+}
+
+pub fn object_row_of(part: &[u8]) -> ObjectRowAnswer
+    ensures { λ r. ⌜ toldObjectRow r ≡ objectRowOf (now (part .entry)) ⌝ }
+{
+    if part.len() == 0 {
+        return ObjectRowAnswer::NoSuchRow;
+    }
+    match object_row(part) {
+        ObjectRead::Row(row, n) => ObjectRowAnswer::Row(row, n),
+        ObjectRead::Refused(f, p) => ObjectRowAnswer::Refused(f, p),
+    }
+}
+
+// The content in the front row.
+pub fn object_content_of(part: &[u8]) -> &[u8]
+    ensures { λ r. ⌜ now r ≡ runOf (λ (f : ObjectFields). f .content) (now (part .entry)) (objectRowOf (now (part .entry))) ⌝ }
+{
+    match object_row_of(part) {
+        ObjectRowAnswer::Row(row, _) => cut(part, row.content),
+        _ => &part[..0],
+    }
+}
+
+pub fn behind_object_row(part: &[u8]) -> &[u8]
+    ensures { λ r. ⌜ now r ≡ rowsBehind (now (part .entry)) (objectRowOf (now (part .entry))) ⌝ }
+{
+    match object_row_of(part) {
+        ObjectRowAnswer::Row(_, n) => &part[n..],
+        _ => &part[..0],
+    }
+}
+
+// ---- timers
+pub enum TimerRowAnswer {
+    Row(TimerFields, usize),
+    NoSuchRow,
+    Refused(Fault, usize),
+}
+
+pub fn timer_row_of(part: &[u8]) -> TimerRowAnswer
+    ensures { λ r. ⌜ toldTimerRow r ≡ timerRowOf (now (part .entry)) ⌝ }
+{
+    if part.len() == 0 {
+        return TimerRowAnswer::NoSuchRow;
+    }
+    match timer_row(part) {
+        TimerRead::Row(row) => TimerRowAnswer::Row(row, 10),
+        TimerRead::Refused(f, p) => TimerRowAnswer::Refused(f, p),
+    }
+}
+
+pub fn behind_timer_row(part: &[u8]) -> &[u8]
+    ensures { λ r. ⌜ now r ≡ rowsBehind (now (part .entry)) (timerRowOf (now (part .entry))) ⌝ }
+{
+    match timer_row_of(part) {
+        TimerRowAnswer::Row(_, n) => &part[n..],
+        _ => &part[..0],
+    }
+}
