@@ -45,6 +45,12 @@ typedef struct { int32_t x0, y0, z0, x1, y1, z1; } anow_lot;
 /* Seconds: from is inside, until is not. In a good span from is not above until. */
 typedef struct { uint32_t from, until; } anow_span;
 
+/* Lighting is 65,535 under version 27, the timer byte 0 except in 24. */
+typedef struct { uint8_t version, flags; uint16_t lighting; uint32_t timestamp; uint8_t timer_byte; } anow_head;
+/* A block's head, and where the rows of its lists stand in the bytes that were given. */
+typedef struct { anow_answer answer; anow_head head; anow_part names, metadata, objects, timers; } anow_block;
+typedef struct { anow_answer answer; anow_part name; } anow_node;
+
 /* A row at the front of a section: answer.length is its length, and parts and offsets count from the part's first byte. The rows behind it
  * start at that length. */
 typedef struct { anow_answer answer; uint32_t id; anow_part name; } anow_name_row;
@@ -72,6 +78,13 @@ anow_inside anow_span_has(anow_span span, uint32_t second);
 
 /* How many of the low twelve lighting bits are zero. */
 uint32_t anow_light_count(uint16_t lighting);
+/* Reads an unpacked block into three lists of 4,096 each, and tells its head and its sections; a refusal leaves the lists as they were.
+ * Refused: 12 for a list not of 4,096, then 1 to 8. */
+anow_block anow_read(const uint8_t *block, size_t length, uint16_t *param0, size_t length0, uint8_t *param1, size_t length1, uint8_t *param2, size_t length2);
+/* The same without the lists. Refused: 1 to 8. */
+anow_block anow_sections(const uint8_t *block, size_t length);
+/* Where the name of the node at an index, 256*z + 16*y + x, stands in the block. Refused: 1 to 8, then 16 for an index above 4095. */
+anow_node anow_node_name(const uint8_t *block, size_t length, uint64_t index);
 /* The front row of a part, judged alone. Refused: 16 for an empty part, then 1. */
 anow_name_row anow_row_name(const uint8_t *part, size_t length);
 /* Refused: 2, 16, then 1, 3 or 4. */
