@@ -1,13 +1,13 @@
 -- Row questions: the answer by what the reader says of the front row, and the parts that are handed back.
-use Prim.Native.Nat.{ℕ, _+_, _-_, _<_, _≤_}
+use Prim.Native.Nat.{ℕ, _+_, _-_, _≤_}
 use mathlib.Core.Path.{_≡_, refl, ap, sym, _∙_}
 use mathlib.Core.Logic.{⊎-elim}
 use mathlib.Core.List.{List, [], _∷_}
-use mathlib.Core.Bool.{Bool, true, false, _&&_}
+use mathlib.Core.Bool.{Bool, true, false}
 use native.Mathlib.Omega.{arith}
 use lib.Dec.{leb, eqb}
 use lib.ListN.{length, take, drop, length-append}
-use borrow.Author.Tests.{eq-eqb, ne-eqb, le-leb, lt-leb}
+use borrow.Author.Tests.{eq-eqb, ne-eqb}
 use denote.Enum.Declared.{tagOf}
 use types.Run.{OneOf}
 use Rattle.wire.specs.Choice.{pick}
@@ -19,7 +19,7 @@ use Rattle.wire.specs.Formats.{number, signed, counted, listed}
 use Rattle.wire.specs.Answer.{Answer, good, refusal, plain, versionOutside, noSuch, no-good}
 use Rattle.mapblock.specs.Inventory.{Form, inventory}
 use Rattle.mapblock.specs.Data.{NameRow, MetadataRow, ObjectRow}
-use Rattle.mapblock.specs.Layout.{all, nameRow, metadataRow, objectRow}
+use Rattle.mapblock.specs.Layout.{isVersion, all, nameRow, metadataRow, objectRow}
 use Rattle.mapblock.specs.Rows.{nameFields, metadataFields, objectFields, variableBytes}
 use Rattle.mapblock.specs.Numbers.{answerOf}
 use Rattle.mapblock.specs.RowQuestions.{frontRow, nameRowOf, metadataRowOf, objectRowOf, runOf, rowsBehind}
@@ -64,17 +64,14 @@ module _ {A : Type 0} (s : List ℕ) where
 
 -- of metadata the version is judged first
 module _ (v : ℕ) (s : List ℕ) where
-  pub version-below : v < 22 → plain versionOutside ≡ metadataRowOf v s
-  version-below h = rw (lt-leb 22 v h)
+  pub version-other : isVersion v ≡ false → plain versionOutside ≡ metadataRowOf v s
+  version-other h = rw h
 
-  pub version-above : 22 ≤ v → 29 < v → plain versionOutside ≡ metadataRowOf v s
-  version-above h k = rw (le-leb 22 v h, lt-leb v 29 k)
-
-  pub version-good : {x : Answer (MetadataFields × ℕ)} → 22 ≤ v → v ≤ 29 → x ≡ frontRow s (mapRead (metadataFields v) (metadataRow v [] .read s)) → x ≡ metadataRowOf v s
-  version-good h k e = rw (le-leb 22 v h, le-leb v 29 k) e
+  pub version-good : {x : Answer (MetadataFields × ℕ)} → isVersion v ≡ true → x ≡ frontRow s (mapRead (metadataFields v) (metadataRow v [] .read s)) → x ≡ metadataRowOf v s
+  version-good h e = rw h e
 
   pub version-was : {f : MetadataFields} {n : ℕ} → good (f, n) ≡ metadataRowOf v s → good (f, n) ≡ frontRow s (mapRead (metadataFields v) (metadataRow v [] .read s))
-  version-was {f} {n} h = go (leb 22 v && leb v 29) h
+  version-was {f} {n} h = go (isVersion v) h
     where
       go : (b : Bool) → good (f, n) ≡ pick b (frontRow s (mapRead (metadataFields v) (metadataRow v [] .read s))) (plain versionOutside)
           → good (f, n) ≡ frontRow s (mapRead (metadataFields v) (metadataRow v [] .read s))

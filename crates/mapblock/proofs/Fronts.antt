@@ -1,22 +1,19 @@
 -- The front of a block, step by step.
 use Prim.Native.Nat.{ℕ, _+_, _<_, _≤_}
 use mathlib.Core.Path.{_≡_, refl, ap, ap₂, sym, _∙_}
-use mathlib.Core.Logic.{inr}
 use mathlib.Core.List.{List}
-use mathlib.Core.Bool.{Bool}
+use mathlib.Core.Bool.{Bool, false, true}
 use native.Mathlib.Nat.{zero-add, add-assoc}
 use native.Mathlib.Omega.{arith}
-use lib.Dec.{leb}
 use lib.ListN.{length, drop, length-append, length-drop}
 use lib.Seq.{drop-drop}
 use borrow.Author.Tests.{le-leb, lt-leb}
-use Rattle.wire.specs.Choice.{and-no}
 use Rattle.wire.specs.Bytes.{Bytes, bytes-drop}
 use Rattle.wire.specs.Read.{Read, done, refused, mapRead, reach, map-done, map-refused}
 use Rattle.wire.specs.Format.{such, nothing, _⨾_, along, ends-in}
 use Rattle.mapblock.specs.Inventory.{Form}
 use Rattle.mapblock.specs.Data.{Opening, Saved, Nodes, unsaved}
-use Rattle.mapblock.specs.Layout.{unused, width, opening, saved, nodes, front}
+use Rattle.mapblock.specs.Layout.{isVersion, unused, width, opening, saved, nodes, front}
 use Rattle.mapblock.specs.Params.{listsOf}
 use Rattle.mapblock.specs.Scan.{openingIs, FrontIs, FrontTold}
 use Rattle.mapblock.specs.Table.{freeIn, unmarked, frontRows, NamesMarked, SavedMarked}
@@ -40,31 +37,27 @@ module _ (s : List ℕ) where
   opening-ends h = rw h
 
   module _ {v : ℕ} (h : num 1 .read s ≡ done v 1) where
-    pub opening-before : v < 22 → opening .read s ≡ refused fault.Version 0
+    pub opening-other : isVersion v ≡ false → opening .read s ≡ refused fault.Version 0
     unfolding opening along _⨾_ such
-    opening-before l = rw (h, lt-leb 22 v l)
+    opening-other l = rw (h, l)
 
-    pub opening-above : 29 < v → opening .read s ≡ refused fault.Version 0
-    unfolding opening along _⨾_ such
-    opening-above l = rw (h, and-no (leb 22 v) (leb v 29) (inr (lt-leb v 29 l)))
-
-    module _ (a : 22 ≤ v) (b : v ≤ 29) where
+    module _ (a : isVersion v ≡ true) where
       pub opening-no-flags : {e : Fault} {p : ℕ} → num 1 .read (drop 1 s) ≡ refused e p → opening .read s ≡ refused e (1 + p)
       unfolding opening along _⨾_ such
-      opening-no-flags k = rw (h, le-leb 22 v a, le-leb v 29 b, k)
+      opening-no-flags k = rw (h, a, k)
 
       module _ {flags : ℕ} (k : num 1 .read (drop 1 s) ≡ done flags 1) where
         pub opening-unlit : v < 27 → opening .read s ≡ done (opened v flags 65535) 2
         unfolding opening along _⨾_ such nothing
-        opening-unlit l = rw (h, le-leb 22 v a, le-leb v 29 b, k, lt-leb 27 v l)
+        opening-unlit l = rw (h, a, k, lt-leb 27 v l)
 
         pub opening-no-light : {e : Fault} {p : ℕ} → 27 ≤ v → num 2 .read (drop 2 s) ≡ refused e p → opening .read s ≡ refused e (1 + (1 + p))
         unfolding opening along _⨾_ such
-        opening-no-light l g = rw (h, le-leb 22 v a, le-leb v 29 b, k, le-leb 27 v l, drop-drop 1 1 s, g)
+        opening-no-light l g = rw (h, a, k, le-leb 27 v l, drop-drop 1 1 s, g)
 
         pub opening-lit : {x : ℕ} → 27 ≤ v → num 2 .read (drop 2 s) ≡ done x 2 → opening .read s ≡ done (opened v flags x) 4
         unfolding opening along _⨾_ such
-        opening-lit l g = rw (h, le-leb 22 v a, le-leb v 29 b, k, le-leb 27 v l, drop-drop 1 1 s, g)
+        opening-lit l g = rw (h, a, k, le-leb 27 v l, drop-drop 1 1 s, g)
 
 pub opening-length : (o : Opening) → 27 ≤ o .version → length (opening .encode o) ≡ 4
 unfolding opening along _⨾_ such

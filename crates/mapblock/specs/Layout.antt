@@ -106,9 +106,12 @@ unfoldable pub lateTimers : ℕ → Form Timers
 lateTimers v = only (since 25 v) untimed (into timersParts (nothing 0 ▹ fixed 1 10 fault.TimerRowLength (listed 2 timerRow)))
 
 -- ---- the eight steps
+abbrev pub isVersion : ℕ → Bool
+isVersion v = leb 22 v && leb v 29
+
 unfoldable pub opening : Form Opening
 opening = into openingParts
-    (such (λ v. leb 22 v && leb v 29) fault.Version u8 ⨾ λ v.  -- 1. version
+    (such isVersion fault.Version u8 ⨾ λ v.  -- 1. version
     u8  --    flags
     ▹ only (since 27 v) 65535 u16)  --    lighting
 

@@ -1,13 +1,12 @@
 -- Rows from the front of a part: document 01, 'Reading, looking, writing' and 'Order'. The front row is judged alone, so never 5, 6 or 8.
 use Prim.Native.Nat.{ℕ}
 use mathlib.Core.List.{List, []}
-use mathlib.Core.Bool.{_&&_}
-use lib.Dec.{leb, eqb}
+use lib.Dec.{eqb}
 use lib.ListN.{length, drop}
 use Rattle.wire.specs.Choice.{pick}
 use Rattle.wire.specs.Read.{Read, mapRead}
 use Rattle.wire.specs.Answer.{Answer, good, refusal, plain, versionOutside, noSuch}
-use Rattle.mapblock.specs.Layout.{all, nameRow, metadataRow, objectRow, timerRow}
+use Rattle.mapblock.specs.Layout.{all, isVersion, nameRow, metadataRow, objectRow, timerRow}
 use Rattle.mapblock.specs.Numbers.{answerOf}
 use Rattle.mapblock.specs.Rows.{nameFields, metadataFields, objectFields, timerFields}
 use Rattle.mapblock.specs.Sections.{within}
@@ -27,7 +26,7 @@ nameRowOf s = frontRow s (mapRead nameFields (nameRow all [] .read s))
 
 -- 2 comes first
 abbrev pub metadataRowOf : ℕ → List ℕ → Answer (MetadataFields × ℕ)
-metadataRowOf v s = pick (leb 22 v && leb v 29) (frontRow s (mapRead (metadataFields v) (metadataRow v [] .read s))) (plain versionOutside)
+metadataRowOf v s = pick (isVersion v) (frontRow s (mapRead (metadataFields v) (metadataRow v [] .read s))) (plain versionOutside)
 
 abbrev pub objectRowOf : List ℕ → Answer (ObjectFields × ℕ)
 objectRowOf s = frontRow s (mapRead objectFields (objectRow .read s))

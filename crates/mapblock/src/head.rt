@@ -1,5 +1,6 @@
 // What a block's reader tells beside the lists: the head, and where things stand in the block. They cross to a host as they are.
 ghost use mathlib.Core.Path.{_≡_};
+ghost use Rattle.mapblock.specs.Layout.{isVersion};
 ghost use Rattle.mapblock.specs.Sections.{within};
 
 #[repr(C)]
@@ -48,4 +49,11 @@ pub fn cut(s: &[u8], part: Part) -> &[u8]
         return &s[start..];
     }
     &s[start..start + n]
+}
+
+// Whether a version is one of 22 to 29.
+pub fn is_version(version: u8) -> bool
+    ensures { λ r. ⌜ r ≡ isVersion version ⌝ }
+{
+    (22 <= version) & (version <= 29)
 }

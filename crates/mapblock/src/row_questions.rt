@@ -3,6 +3,7 @@
 // asked by the row's own question.
 use crate::fault::Fault;
 use crate::head::cut;
+use crate::head::is_version;
 use crate::metadata::MetadataFields;
 use crate::metadata::MetadataRead;
 use crate::metadata::metadata_row;
@@ -70,10 +71,7 @@ pub enum MetadataRowAnswer {
 pub fn metadata_row_of(version: u8, part: &[u8]) -> MetadataRowAnswer
     ensures { λ r. ⌜ toldMetadataRow r ≡ metadataRowOf version (now (part .entry)) ⌝ }
 {
-    if version < 22 {
-        return MetadataRowAnswer::BadVersion;
-    }
-    if 29 < version {
+    if !is_version(version) {
         return MetadataRowAnswer::BadVersion;
     }
     if part.len() == 0 {

@@ -4,6 +4,7 @@ use crate::fault::Reach;
 use crate::head::Head;
 use crate::head::Part;
 use crate::head::Sections;
+use crate::head::is_version;
 use crate::lists::EarlyRead;
 use crate::lists::early_timers;
 use crate::lists::late_timers;
@@ -53,10 +54,7 @@ fn opening(s: &[u8]) -> OpeningRead
     let U8::Value(version) = u8_at(s, 0) else {
         return OpeningRead::Refused(Fault::Ends, 0);
     };
-    if version < 22 {
-        return OpeningRead::Refused(Fault::Version, 0);
-    }
-    if 29 < version {
+    if !is_version(version) {
         return OpeningRead::Refused(Fault::Version, 0);
     }
     let U8::Value(flags) = u8_at(s, 1) else {

@@ -4,7 +4,7 @@ use denote.Ref.{now}
 use Rattle.mapblock.specs.RowQuestions.{runOf}
 use Rattle.mapblock.specs.AskedRows.{toldMetadataRow}
 use Rattle.mapblock.specs.declared.metadata.MetadataFields.{MetadataFields}
-use Rattle.mapblock.proofs.AskedParts.{empty-run, no-metadata, metadata-fits}
+use Rattle.mapblock.proofs.AskedParts.{empty-run, no-metadata}
 use Rattle.mapblock.proofs.row_questions.metadata_content_of.Statement.{statement}
 use Rattle.mapblock.proofs.row_questions.metadata_content_of.Tie as tie
 

@@ -4,7 +4,7 @@ use denote.Ref.{now}
 use Rattle.mapblock.specs.RowQuestions.{runOf}
 use Rattle.mapblock.specs.AskedRows.{toldNameRow}
 use Rattle.mapblock.specs.declared.names.NameFields.{NameFields}
-use Rattle.mapblock.proofs.AskedParts.{empty-run, no-name, name-fits}
+use Rattle.mapblock.proofs.AskedParts.{empty-run, no-name}
 use Rattle.mapblock.proofs.row_questions.name_of.Statement.{statement}
 use Rattle.mapblock.proofs.row_questions.name_of.Tie as tie
 

@@ -4,7 +4,7 @@ use denote.Ref.{now}
 use Rattle.mapblock.specs.RowQuestions.{runOf}
 use Rattle.mapblock.specs.AskedRows.{toldObjectRow}
 use Rattle.mapblock.specs.declared.objects.ObjectFields.{ObjectFields}
-use Rattle.mapblock.proofs.AskedParts.{empty-run, no-object, object-fits}
+use Rattle.mapblock.proofs.AskedParts.{empty-run, no-object}
 use Rattle.mapblock.proofs.row_questions.object_content_of.Statement.{statement}
 use Rattle.mapblock.proofs.row_questions.object_content_of.Tie as tie
 
