@@ -1,6 +1,8 @@
+-- Fields and formats: what every other proof cites.
 pub mod Leaves
 pub mod Readings
 pub mod Fixed
+-- Rows, lists and node data.
 pub mod Lines
 pub mod Entries
 pub mod Zeros
@@ -12,16 +14,19 @@ pub mod SavedLists
 pub mod MetadataRows
 pub mod OtherRows
 pub mod RowLists
+-- The scan.
 pub mod Fronts
 pub mod Verdicts
 pub mod Uptos
+pub mod SoFar
+pub mod Endings
+pub mod Rests
+-- Well formed, and taken.
 pub mod Keyed
 pub mod GoodRows
 pub mod ValidOk
 pub mod Taken
-pub mod SoFar
-pub mod Endings
-pub mod Rests
+-- Sections, rows and names.
 pub mod SectionsThere
 pub mod BlockAnswers
 pub mod NodeNames

@@ -1,4 +1,5 @@
 -- The block layout of document 01, straight down its eight steps, in the language of wire's Formats.
+-- `free` are the ids that may be mapped: `all` in a block of its own. A caller who lends a table of marks may hold some back.
 use Prim.Native.Nat.{ℕ}
 use mathlib.Core.List.{List, [], _∷_}
 use mathlib.Core.Bool.{Bool, true, false, not, _&&_}
@@ -70,7 +71,7 @@ timerRow seen = into timerParts
     ▹ s32 ▹ s32)  -- timeout, elapsed
 
 -- ---- lists
--- timestamp and names; `free` are the ids that may be mapped, which are all in a block of its own
+-- timestamp and names
 unfoldable pub saved : (ℕ → Bool) → Form Saved
 saved free = into savedParts
     (u32  -- timestamp

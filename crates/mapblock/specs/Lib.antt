@@ -1,18 +1,21 @@
+-- The layout, the block and the verdict; well formed in plain words; what holds of them.
 pub mod Data
 pub mod Inventory
 pub mod Layout
 pub mod Block
-pub mod Rows
+pub mod Valid
+pub mod Theorems
+-- What the operations answer.
+pub mod Numbers
+pub mod Light
 pub mod Sections
+pub mod Rows
+pub mod Questions
+pub mod RowQuestions
+pub mod AskedRows
+-- What the functions of this crate promise each other.
 pub mod Table
 pub mod Told
 pub mod Kinds
 pub mod Params
-pub mod Light
 pub mod Scan
-pub mod Numbers
-pub mod RowQuestions
-pub mod AskedRows
-pub mod Questions
-pub mod Valid
-pub mod Theorems
