@@ -335,6 +335,7 @@ fn behind_front(s: &[u8], w: FrontFields, ids: &mut [u8; 65536]) -> Judged
             if w.version < 29 {
                 return names_behind(s, w, m, ids);
             }
+            // Timestamp and names stand between the four bytes of step 1 and the two widths; their rows behind seven bytes.
             let names = rows_of(4, 7, w.lists - 6);
             let found = so_far(w, m, w.timestamp, names);
             ending(s, found, end + m.metadata + m.early + m.objects, ids)
