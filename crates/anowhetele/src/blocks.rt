@@ -6,6 +6,7 @@ use crate::answer::refused;
 use crate::numbers::NO_SUCH;
 use crate::numbers::PARTS_MISFIT;
 use mapblock::head::Head;
+use mapblock::head::NO_SECTIONS;
 use mapblock::head::NOWHERE;
 use mapblock::head::Part;
 use mapblock::head::Sections;
@@ -42,12 +43,7 @@ fn no_block(answer: AnowAnswer) -> AnowBlock
             timestamp: 0,
             timer: 0,
         },
-        sections: Sections {
-            names: NOWHERE,
-            metadata: NOWHERE,
-            objects: NOWHERE,
-            timers: NOWHERE,
-        },
+        sections: NO_SECTIONS,
     }
 }
 

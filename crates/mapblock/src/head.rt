@@ -36,6 +36,14 @@ pub struct Sections {
     pub timers: Part,
 }
 
+// Of a block that is refused.
+pub const NO_SECTIONS: Sections = Sections {
+    names: NOWHERE,
+    metadata: NOWHERE,
+    objects: NOWHERE,
+    timers: NOWHERE,
+};
+
 // The bytes of a part; of one that reaches past the end, those that are there.
 pub fn cut(s: &[u8], part: Part) -> &[u8]
     ensures { λ r. ⌜ now r ≡ within (now (s .entry)) part ⌝ }

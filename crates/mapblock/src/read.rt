@@ -1,7 +1,7 @@
 // The reader, and the sections of a block.
 use crate::fault::Fault;
 use crate::head::Head;
-use crate::head::NOWHERE;
+use crate::head::NO_SECTIONS;
 use crate::head::Sections;
 use crate::head::cut;
 use crate::nodes::NODES;
@@ -143,12 +143,7 @@ fn parts(block: &[u8]) -> Sections
 {
     match sections(block) {
         SectionsAnswer::Block(_, found) => found,
-        SectionsAnswer::Refused(_, _) => Sections {
-            names: NOWHERE,
-            metadata: NOWHERE,
-            objects: NOWHERE,
-            timers: NOWHERE,
-        },
+        SectionsAnswer::Refused(_, _) => NO_SECTIONS,
     }
 }
 
