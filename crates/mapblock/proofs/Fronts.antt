@@ -15,7 +15,7 @@ use Rattle.mapblock.specs.Inventory.{Form}
 use Rattle.mapblock.specs.Data.{Opening, Saved, Nodes, unsaved}
 use Rattle.mapblock.specs.Layout.{isVersion, unused, width, opening, saved, nodes, front}
 use Rattle.mapblock.specs.Params.{listsOf}
-use Rattle.mapblock.specs.Scan.{openingIs, FrontIs, FrontTold}
+use Rattle.mapblock.specs.Scan.{openingOn, openingIs, FrontIs, FrontTold}
 use Rattle.mapblock.specs.Table.{freeIn, unmarked, frontRows, NamesMarked, SavedMarked}
 use Rattle.mapblock.specs.Told.{ended, shownSaved}
 use Rattle.mapblock.specs.declared.fault.Fault.{Fault}
@@ -28,9 +28,6 @@ use Rattle.mapblock.proofs.Entries.{nodes-done}
 use Rattle.mapblock.proofs.ListLengths.{num-length, saved-length, saved-rows, saved-front}
 
 -- ---- step 1
-abbrev opened : ℕ → ℕ → ℕ → Opening
-opened v flags lighting = record { version = v; flags = flags; lighting = lighting }
-
 module _ (s : List ℕ) where
   pub opening-ends : {e : Fault} {p : ℕ} → num 1 .read s ≡ refused e p → opening .read s ≡ refused e p
   unfolding opening along _⨾_ such
@@ -47,7 +44,7 @@ module _ (s : List ℕ) where
       opening-no-flags k = rw (h, a, k)
 
       module _ {flags : ℕ} (k : num 1 .read (drop 1 s) ≡ done flags 1) where
-        pub opening-unlit : v < 27 → opening .read s ≡ done (opened v flags 65535) 2
+        pub opening-unlit : v < 27 → opening .read s ≡ done (openingOn v flags 65535) 2
         unfolding opening along _⨾_ such nothing
         opening-unlit l = rw (h, a, k, lt-leb 27 v l)
 
@@ -55,7 +52,7 @@ module _ (s : List ℕ) where
         unfolding opening along _⨾_ such
         opening-no-light l g = rw (h, a, k, le-leb 27 v l, drop-drop 1 1 s, g)
 
-        pub opening-lit : {x : ℕ} → 27 ≤ v → num 2 .read (drop 2 s) ≡ done x 2 → opening .read s ≡ done (opened v flags x) 4
+        pub opening-lit : {x : ℕ} → 27 ≤ v → num 2 .read (drop 2 s) ≡ done x 2 → opening .read s ≡ done (openingOn v flags x) 4
         unfolding opening along _⨾_ such
         opening-lit l g = rw (h, a, k, le-leb 27 v l, drop-drop 1 1 s, g)
 

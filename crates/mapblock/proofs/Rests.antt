@@ -12,7 +12,7 @@ use Rattle.mapblock.specs.Data.{Saved}
 use Rattle.mapblock.specs.Layout.{saved, front}
 use Rattle.mapblock.specs.Block.{verdict}
 use Rattle.mapblock.specs.Rows.{part}
-use Rattle.mapblock.specs.Sections.{found}
+use Rattle.mapblock.specs.Sections.{InReach, found}
 use Rattle.mapblock.specs.Scan.{FrontIs, MiddleIs, middle, Sized, soFar, Upto}
 use Rattle.mapblock.specs.Table.{freeIn, unmarked, frontRows, NamesMarked, SavedMarked}
 use Rattle.mapblock.specs.Told.{shownSaved}
@@ -40,7 +40,7 @@ module _ (t u s : List ℕ) (w : FrontFields) (F : FrontIs t u s w) where
     abbrev at : ℕ
     at = w .end + m .metadata + m .early + m .objects
 
-    pub sized : length s < 18446744073709551616 → Sized w m
+    pub sized : InReach (length s) → Sized w m
     sized l = record {
       metadata = omega (arith, M .first, metadata-rows-length (w .version) (M .x .0));
       early = early-fits t u s w F m M b;

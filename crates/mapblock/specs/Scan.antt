@@ -1,5 +1,5 @@
 -- What the scan knows on its way: its own promises, between its functions.
-use Prim.Native.Nat.{ℕ, _+_, _-_, _*_, _<_, _≤_}
+use Prim.Native.Nat.{ℕ, _+_, _-_, _*_, _≤_}
 use mathlib.Core.Path.{_≡_}
 use mathlib.Core.List.{List}
 use mathlib.Core.Bool.{Bool}
@@ -14,7 +14,7 @@ use Rattle.mapblock.specs.Layout.{since, all, width, unmapped, opening, 
 use Rattle.mapblock.specs.Block.{block}
 use Rattle.mapblock.specs.Params.{listsOf}
 use Rattle.mapblock.specs.Rows.{part}
-use Rattle.mapblock.specs.Sections.{found}
+use Rattle.mapblock.specs.Sections.{InReach, found}
 use Rattle.mapblock.specs.Table.{freeIn, Tabled, frontRows, NamesMarked}
 use Rattle.mapblock.specs.declared.fault.Fault.{Fault}
 use Rattle.mapblock.specs.declared.head.Part.{Part}
@@ -32,8 +32,11 @@ use Rattle.mapblock.specs.declared.scan.Judged.{Judged}
 use Rattle.mapblock.specs.declared.scan.Judged.the-variants as judgeds
 
 -- ---- step 1
+abbrev pub openingOn : ℕ → ℕ → ℕ → Opening
+openingOn v flags lighting = record { version = v; flags = flags; lighting = lighting }
+
 abbrev pub openingIs : OpeningFields → Opening
-openingIs o = record { version = o .version; flags = o .flags; lighting = o .lighting }
+openingIs o = openingOn (o .version) (o .flags) (o .lighting)
 
 abbrev pub toldOpening : OpeningRead → Read Fault Opening
 toldOpening (openings.Fields o n) = done (openingIs o) n
@@ -48,7 +51,7 @@ savedLength b x = pick b (length (saved all .encode (x .1 .0))) 0
 pub record FrontIs (t u s : List ℕ) (w : FrontFields) : Type 0 where
   pub x : Front
   pub reads : front (freeIn t) .read s ≡ done x (w .end)
-  pub opened : x .0 ≡ record { version = w .version; flags = w .flags; lighting = w .lighting }
+  pub opened : x .0 ≡ openingOn (w .version) (w .flags) (w .lighting)
   pub time : x .1 .0 .timestamp ≡ w .timestamp
   pub count : length (x .1 .0 .names) ≡ w .count
   pub at : w .lists ≡ length (opening .encode (x .0)) + savedLength (since 29 (w .version)) x + 2
@@ -105,7 +108,7 @@ pub record Sized (w : FrontFields) (m : MiddleFields) : Type 0 where
   pub metadata : metadataHead (w .version) ≤ m .metadata
   pub early : earlyHead m ≤ m .early
   pub objects : 3 ≤ m .objects
-  pub fits : w .end + m .metadata + m .early + m .objects < 18446744073709551616
+  pub fits : InReach (w .end + m .metadata + m .early + m .objects)
 
 -- with the late timers, which are the n bytes from a place on
 abbrev pub withLate : Found → ℕ → ℕ → Found

@@ -1,6 +1,6 @@
 -- Where things stand in a block: document 01, 'Reading, looking, writing'. A section is the run of a list's rows without count; the rows stand
 -- at the end of their list. A part is told by its start and its length in the caller's block.
-use Prim.Native.Nat.{ℕ, _+_, _-_}
+use Prim.Native.Nat.{ℕ, _+_, _-_, _<_}
 use mathlib.Core.List.{List, []}
 use lib.ListN.{length, take, drop}
 use Rattle.wire.specs.Choice.{pick}
@@ -12,6 +12,10 @@ use Rattle.mapblock.specs.Rows.{part}
 use Rattle.mapblock.specs.declared.head.Part.{Part}
 use Rattle.mapblock.specs.declared.head.Sections.{Sections}
 use Rattle.mapblock.specs.declared.scan.Found.{Found}
+
+-- a place that the machine can hold
+abbrev pub InReach : ℕ → Type 0
+InReach n = n < 18446744073709551616
 
 -- n bytes of rows that end at a place
 abbrev pub rowsTo : ℕ → ℕ → Part

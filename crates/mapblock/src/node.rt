@@ -13,11 +13,12 @@ ghost use mathlib.Core.List.{List};
 ghost use Prim.Native.Nat.{_+_, _<_};
 ghost use lib.ListN.{length};
 ghost use Rattle.mapblock.specs.Data.{NameRow};
+ghost use Rattle.mapblock.specs.Sections.{InReach};
 ghost use Rattle.mapblock.specs.Questions.{NameRun, spotOf, nodeOf, nodeNameOf, toldNode};
 
 // Where the name of an id stands in the block; `names` are whole rows, and `start` is their place.
 fn find(names: &[u8], start: usize, id: usize) -> Part
-    requires { ⌜ start + length (now names) < 18446744073709551616 ⌝ }
+    requires { ⌜ InReach (start + length (now names)) ⌝ }
     ensures { λ r. ⌜ ((l : List NameRow) → NameRun (now (names .entry)) l → r ≡ spotOf l start id) ⌝ }
 {
     let mut rest = names;

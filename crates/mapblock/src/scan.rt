@@ -31,9 +31,9 @@ ghost use Rattle.wire.specs.Read.{done, mapRead};
 ghost use Rattle.mapblock.specs.Layout.{opening};
 ghost use Rattle.mapblock.specs.Block.{verdict};
 ghost use Rattle.mapblock.specs.Rows.{part};
-ghost use Rattle.mapblock.specs.Sections.{found};
+ghost use Rattle.mapblock.specs.Sections.{InReach, found};
 ghost use Rattle.mapblock.specs.Table.{freeIn};
-ghost use Rattle.mapblock.specs.Scan.{openingIs, toldOpening, FrontTold, FrontIs, MiddleTold, MiddleIs, metadataHead, earlyHead, Sized, soFar, withLate, Upto, toldScan};
+ghost use Rattle.mapblock.specs.Scan.{openingOn, openingIs, toldOpening, FrontTold, FrontIs, MiddleTold, MiddleIs, metadataHead, earlyHead, Sized, soFar, withLate, Upto, toldScan};
 
 // ---- the front: head, the names of version 29, node data
 pub struct OpeningFields {
@@ -46,6 +46,17 @@ pub struct OpeningFields {
 pub enum OpeningRead {
     Fields(OpeningFields, usize),
     Refused(Fault, usize),
+}
+
+fn opened(version: u8, flags: u8, lighting: u16, end: usize) -> OpeningRead
+    ensures { λ r. ⌜ toldOpening r ≡ done (openingOn version flags lighting) end ⌝ }
+{
+    let fields = OpeningFields {
+        version,
+        flags,
+        lighting,
+    };
+    OpeningRead::Fields(fields, end)
 }
 
 fn opening(s: &[u8]) -> OpeningRead
@@ -61,26 +72,11 @@ fn opening(s: &[u8]) -> OpeningRead
         return OpeningRead::Refused(Fault::Ends, 1);
     };
     if version < 27 {
-        let lighting = 65535;
-        return OpeningRead::Fields(
-            OpeningFields {
-                version,
-                flags,
-                lighting,
-            },
-            2,
-        );
+        return opened(version, flags, 65535, 2);
     }
     match u16_at(s, 2) {
         U16::Ends => OpeningRead::Refused(Fault::Ends, 2),
-        U16::Value(lighting) => OpeningRead::Fields(
-            OpeningFields {
-                version,
-                flags,
-                lighting,
-            },
-            4,
-        ),
+        U16::Value(lighting) => opened(version, flags, lighting, 4),
     }
 }
 
@@ -209,7 +205,7 @@ pub enum Judged {
 
 // The rows of a list: they stand behind its head.
 fn rows_of(at: usize, head: usize, length: usize) -> Part
-    requires { ⌜ (head ≤ length) × (at + length < 18446744073709551616) ⌝ }
+    requires { ⌜ (head ≤ length) × InReach (at + length) ⌝ }
     ensures { λ r. ⌜ r ≡ part (at + head) (length - head) ⌝ }
 {
     Part {
@@ -258,7 +254,7 @@ fn so_far(w: FrontFields, m: MiddleFields, timestamp: u32, names: Part) -> Found
 
 // The same with the late timers, which are the n bytes from a place on.
 fn with_late(w: Found, at: usize, n: usize) -> Found
-    requires { ⌜ (25 ≤ w .head .version → 3 ≤ n) × (at + n < 18446744073709551616) ⌝ }
+    requires { ⌜ (25 ≤ w .head .version → 3 ≤ n) × InReach (at + n) ⌝ }
     ensures { λ r. ⌜ r ≡ withLate w at n ⌝ }
 {
     let head = w.head;

@@ -52,8 +52,11 @@ enum-told-2 c = search needs
 returns-3 : tie.Need-returns-3
 returns-3 c = sym (opening-no-flags _ (version-is (c .before .before .before .before .before .before)) (version-good (c .before .before .before)) (by-number 1 _ toldU8 (c .before .before .u8-at2 .ensures) (c .enum-told2 .given .1)))
 
+opened-requires : tie.Need-opened-requires
+opened-requires c κs = search needs
+
 returns-4 : tie.Need-returns-4
-returns-4 c = sym (opening-unlit _ (version-is (c .before .before .before .before .before .before .before .before)) (version-good (c .before .before .before .before .before)) (flags-is (c .before .before)) (c .if2 .taken))
+returns-4 c = c .opened .ensures ∙ sym (opening-unlit _ (version-is (c .before .before .before .before .before .before .before .before .before)) (version-good (c .before .before .before .before .before .before)) (flags-is (c .before .before .before)) (c .before .if2 .taken))
 
 u16-at-requires : tie.Need-u16-at-requires
 u16-at-requires c κs = search needs
@@ -64,11 +67,16 @@ enum-told-3 c = search needs
 enum-known-lighting : tie.Need-enum-known-lighting
 enum-known-lighting c = search needs
 
+opened-requires-2 : tie.Need-opened-requires-2
+opened-requires-2 c κs = search needs
+
 returns-5 : tie.Need-returns-5
-returns-5 c = sym (opening-no-light _ (version-is (c .before .before .before .before .before .before .before .before .before .before .before)) (version-good (c .before .before .before .before .before .before .before .before)) (flags-is (c .before .before .before .before .before)) (c .before .before .before .if2 .left) (by-number 2 _ toldU16 (c .before .before .u16-at .ensures) (c .enum-told3 .given .1)))
+returns-5 c =     sym (opening-no-light _ (version-is (c .before .before .before .before .before .before .before .before .before .before .before)) (version-good (c .before .before .before .before .before .before .before .before)) (flags-is (c .before .before .before .before .before)) (c .before .before .before .if2 .left) (by-number 2 _ toldU16 (c .before .before .u16-at .ensures) (c .enum-told3 .given .1)))
 
 returns-6 : tie.Need-returns-6
-returns-6 c = sym (opening-lit _ (version-is (c .before .before .before .before .before .before .before .before .before .before .before .before)) (version-good (c .before .before .before .before .before .before .before .before .before)) (flags-is (c .before .before .before .before .before .before)) (c .before .before .before .before .if2 .left) (by-number 2 _ toldU16 (c .before .before .before .u16-at .ensures) (c .before .lighting .given .1)))
+returns-6 c =
+    c .opened2 .ensures
+    ∙ sym (opening-lit _ (version-is (c .before .before .before .before .before .before .before .before .before .before .before .before .before)) (version-good (c .before .before .before .before .before .before .before .before .before .before)) (flags-is (c .before .before .before .before .before .before .before)) (c .before .before .before .before .before .if2 .left) (by-number 2 _ toldU16 (c .before .before .before .before .u16-at .ensures) (c .before .before .lighting .given .1)))
 
 pub opening-spec : {M : Type 1} → statement M
 opening-spec =
@@ -84,9 +92,11 @@ opening-spec =
     enum-known-flags
     enum-told-2
     returns-3
+    opened-requires
     returns-4
     u16-at-requires
     enum-told-3
     enum-known-lighting
+    opened-requires-2
     returns-5
     returns-6)
