@@ -71,7 +71,7 @@ opened-requires-2 : tie.Need-opened-requires-2
 opened-requires-2 c κs = search needs
 
 returns-5 : tie.Need-returns-5
-returns-5 c =     sym (opening-no-light _ (version-is (c .before .before .before .before .before .before .before .before .before .before .before)) (version-good (c .before .before .before .before .before .before .before .before)) (flags-is (c .before .before .before .before .before)) (c .before .before .before .if2 .left) (by-number 2 _ toldU16 (c .before .before .u16-at .ensures) (c .enum-told3 .given .1)))
+returns-5 c = sym (opening-no-light _ (version-is (c .before .before .before .before .before .before .before .before .before .before .before)) (version-good (c .before .before .before .before .before .before .before .before)) (flags-is (c .before .before .before .before .before)) (c .before .before .before .if2 .left) (by-number 2 _ toldU16 (c .before .before .u16-at .ensures) (c .enum-told3 .given .1)))
 
 returns-6 : tie.Need-returns-6
 returns-6 c =
