@@ -2,7 +2,7 @@
 use Prim.Native.Nat.{ℕ, zero, suc, _+_, _-_, _*_, _≤_}
 use mathlib.Core.Path.{_≡_, refl, ap, sym, subst, subst⁻¹, fun-ext, _∙_}
 use mathlib.Core.List.{List, append-nil}
-use mathlib.Core.Bool.{Bool, true, false, _&&_}
+use mathlib.Core.Bool.{Bool, true, false}
 use native.Mathlib.Omega.{arith}
 use lib.Dec.{eqb}
 use lib.ListN.{length, getD, take, drop, replicate, drop-of-length-le}
@@ -20,7 +20,7 @@ use Rattle.mapblock.specs.Rows.{nowhere}
 use Rattle.mapblock.specs.Sections.{found, within}
 use Rattle.mapblock.specs.Table.{freeIn}
 use Rattle.mapblock.specs.Numbers.{number}
-use Rattle.mapblock.specs.Questions.{blockAnswer, blockOf, shown, sectionsOf, readOf, partsOf, sectionOf}
+use Rattle.mapblock.specs.Questions.{areWhole, blockAnswer, blockOf, shown, sectionsOf, readOf, partsOf, sectionOf}
 use Rattle.mapblock.specs.declared.fault.Fault.{Fault}
 use Rattle.mapblock.specs.declared.head.Head.{Head}
 use Rattle.mapblock.specs.declared.head.Part.{Part}
@@ -104,9 +104,6 @@ module _ (s : List ℕ) where
       go (refusal n r o) = ap (within s) e
 
 -- ---- the reader; a, b and c are the lengths of the lists lent
-abbrev pub areWhole : ℕ → ℕ → ℕ → Bool
-areWhole a b c = eqb a 4096 && (eqb b 4096 && eqb c 4096)
-
 pub whole-are : {a b c : ℕ} → areWhole a b c ≡ true → (a ≡ 4096) × (b ≡ 4096) × (c ≡ 4096)
 whole-are {a} {b} {c} h =
     let x = three-yes (eqb a 4096) (eqb b 4096) (eqb c 4096) h in

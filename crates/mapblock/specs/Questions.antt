@@ -1,7 +1,7 @@
 -- The reader, and the questions asked of a whole block: document 01, 'Reading, looking, writing' and 'Order'.
 use Prim.Native.Nat.{ℕ, _+_}
 use mathlib.Core.List.{List, [], _∷_}
-use mathlib.Core.Bool.{_&&_}
+use mathlib.Core.Bool.{Bool, _&&_}
 use mathlib.Core.Path.{_≡_}
 use lib.Dec.{leb, eqb}
 use lib.ListN.{length}
@@ -42,9 +42,13 @@ shown b = (b .head, sections b)
 abbrev pub sectionsOf : List ℕ → Answer (Head × Sections)
 sectionsOf s = mapAnswer shown (blockOf s)
 
+-- each of three lists lent is of 4,096
+abbrev pub areWhole : ℕ → ℕ → ℕ → Bool
+areWhole a b c = eqb a 4096 && (eqb b 4096 && eqb c 4096)
+
 -- The reader: 12 where a list lent is not of 4,096, and then the block. The lists hold what `lent` says of its param0, param1 and param2.
 abbrev pub readOf : List ℕ → ℕ → ℕ → ℕ → Answer Block
-readOf s a b c = pick (eqb a 4096 && (eqb b 4096 && eqb c 4096)) (blockOf s) (plain partsMisfit)
+readOf s a b c = pick (areWhole a b c) (blockOf s) (plain partsMisfit)
 
 -- where the sections are; nowhere when refused
 abbrev pub partsOf : Answer (Head × Sections) → Sections

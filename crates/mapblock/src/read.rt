@@ -10,9 +10,7 @@ use crate::scan::Judged;
 use crate::scan::scan;
 use wire::store::put_bytes;
 ghost use mathlib.Core.Path.{_≡_};
-ghost use mathlib.Core.Bool.{_&&_};
 ghost use Prim.Native.Nat.{_+_, _*_, _≤_};
-ghost use lib.Dec.{eqb};
 ghost use lib.ListN.{length, drop};
 ghost use Rattle.wire.specs.Read.{mapRead};
 ghost use Rattle.wire.specs.Answer.{lent, mapAnswer};
@@ -22,7 +20,7 @@ ghost use Rattle.mapblock.specs.Block.{verdict};
 ghost use Rattle.mapblock.specs.Params.{entries};
 ghost use Rattle.mapblock.specs.Sections.{found};
 ghost use Rattle.mapblock.specs.Scan.{toldScan};
-ghost use Rattle.mapblock.specs.Questions.{shown, sectionsOf, readOf, sectionOf, partsOf, toldRead, toldSections};
+ghost use Rattle.mapblock.specs.Questions.{shown, areWhole, sectionsOf, readOf, sectionOf, partsOf, toldRead, toldSections};
 
 // Judges a block by itself: all ids are free.
 pub(crate) fn judge(block: &[u8]) -> Judged
@@ -42,7 +40,7 @@ pub enum ReadAnswer {
 
 // Whether each of three lists has an entry for every node.
 fn are_whole(a: usize, b: usize, c: usize) -> bool
-    ensures { λ r. ⌜ r ≡ (eqb a 4096 && (eqb b 4096 && eqb c 4096)) ⌝ }
+    ensures { λ r. ⌜ r ≡ areWhole a b c ⌝ }
 {
     if a != NODES {
         return false;

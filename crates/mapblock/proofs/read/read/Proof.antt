@@ -8,9 +8,9 @@ use denote.Ref.{now}
 use Rattle.wire.specs.Lists.{rest-is}
 use Rattle.wire.specs.Answer.{Answer}
 use Rattle.mapblock.specs.Data.{Nodes, Block}
-use Rattle.mapblock.specs.Questions.{blockOf, readOf}
+use Rattle.mapblock.specs.Questions.{areWhole, blockOf, readOf}
 use Rattle.mapblock.specs.Scan.{toldScan}
-use Rattle.mapblock.proofs.BlockAnswers.{TakenAs, taken-as, block-refused, areWhole, whole-are, lists-kept, read-misfit, read-block, read-told, list-filled}
+use Rattle.mapblock.proofs.BlockAnswers.{TakenAs, taken-as, block-refused, whole-are, lists-kept, read-misfit, read-block, read-told, list-filled}
 use Rattle.mapblock.proofs.read.read.Statement.{statement}
 use Rattle.mapblock.proofs.read.read.Tie as tie
 
