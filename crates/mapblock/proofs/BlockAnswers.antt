@@ -35,8 +35,11 @@ zeros-at (suc n) zero = refl
 zeros-at (suc n) (suc i) = zeros-at n i
 
 -- a clear table frees all
+pub clear-all : (n : ℕ) → freeIn (replicate n 0) ≡ all
+clear-all n = fun-ext (λ i. eq-eqb (getD (replicate n 0) i 0) 0 (zeros-at n i))
+
 pub clear-table : (n : ℕ) (s : List ℕ) {r : Read Fault Found} → r ≡ mapRead found (verdict (freeIn (replicate n 0)) s) → r ≡ mapRead found (verdict all s)
-clear-table n s h = h ∙ ap (λ (free : ℕ → Bool). mapRead found (verdict free s)) (fun-ext (λ i. eq-eqb (getD (replicate n 0) i 0) 0 (zeros-at n i)))
+clear-table n s h = h ∙ ap (λ (free : ℕ → Bool). mapRead found (verdict free s)) (clear-all n)
 
 pub block-refused : (s : List ℕ) {f : Fault} {p : ℕ} → refused f p ≡ mapRead found (verdict all s) → blockOf s ≡ refusal (number f) 0 p
 unfolding blockOf

@@ -118,7 +118,7 @@ module _ (t s : List ℕ) {o : OpeningFields} {at : ℕ} (h : opening .read s �
         at = rw (lt-leb 29 (o .version) l) (omega (arith, opening .backward s (openingIs o) at b h .ends));
         nodes = y .2 ∙ ap (listsOf (width (o .version))) (drop-drop 2 at s);
         ends = omega (arith, y .0);
-        marked = record { tabled = record { size = z; tells = λ i f. refl }; undone = refl };
+        marked = record { is = refl; tabled = record { size = z; tells = λ i f. refl }; undone = refl };
         rows = refl;
       }
 

@@ -17,7 +17,7 @@ use Rattle.wire.proofs.Items.{after, items-start, items-on, items-refused, item
 use Rattle.mapblock.specs.Data.{NameRow}
 use Rattle.mapblock.specs.Layout.{without, unused, unmapped, nameRow}
 use Rattle.mapblock.specs.Rows.{nameFields}
-use Rattle.mapblock.specs.Table.{freeIn, Tabled, unmarked, frontRows, RowsMarked}
+use Rattle.mapblock.specs.Table.{freeIn, Tabled, marked, unmarked, frontRows, RowsMarked}
 use Rattle.mapblock.specs.Told.{ended}
 use Rattle.mapblock.specs.declared.fault.Fault.{Fault}
 use Rattle.mapblock.specs.declared.names.NameFields.{NameFields}
@@ -40,6 +40,10 @@ unused-last key free (b ∷ l) a n = rw (unused-last key free l a n) (swap (eqb 
 unmarked-last : (t : List ℕ) (l : List NameRow) (r : NameRow) → unmarked t (l ++ r ∷ []) ≡ set (unmarked t l) (r .id) 0
 unmarked-last t [] r = refl
 unmarked-last t (x ∷ l) r = unmarked-last (set t (x .id) 0) l r
+
+marked-last : (t : List ℕ) (l : List NameRow) (r : NameRow) → marked t (l ++ r ∷ []) ≡ set (marked t l) (r .id) 1
+marked-last t [] r = refl
+marked-last t (x ∷ l) r = marked-last (set t (x .id) 1) l r
 
 -- ---- a mark that is set and taken off again
 zero-set : (l : List ℕ) (i j : ℕ) → getD l i 0 ≡ 0 → getD (set l j 0) i 0 ≡ 0
@@ -74,6 +78,7 @@ pub record Named (t₀ s : List ℕ) (count : ℕ) (t rest : List ℕ) (at left 
   pub seen : List NameRow
   pub reads : after pre at (readItems (nameRow (freeIn t₀)) left seen rest) ≡ items (nameRow (freeIn t₀)) count .read s
   pub tabled : Tabled 65536 (unmapped (freeIn t₀) seen) t
+  pub is : t ≡ marked t₀ pre
   pub undone : unmarked t pre ≡ t₀
   pub same : (id : ℕ) → unmapped (freeIn t₀) pre id ≡ unmapped (freeIn t₀) seen id
   pub fronts : (m : ℕ) → frontRows (count - left + m) s ≡ pre ++ frontRows m rest
@@ -87,6 +92,7 @@ named-start t₀ s count h = record {
   seen = [];
   reads = items-start (nameRow (freeIn t₀)) count s;
   tabled = record { size = h; tells = λ i l. refl };
+  is = refl;
   undone = refl;
   same = λ id. refl;
   fronts = λ m. let z : count - count + m ≡ m = omega arith in ap (λ (k : ℕ). frontRows k s) z;
@@ -117,7 +123,7 @@ module _ {t₀ s : List ℕ} {count : ℕ} {t rest : List ℕ} {at left : ℕ} (
       let z : left ≡ 0 = omega arith in
       let e : items (nameRow (freeIn t₀)) count .read s ≡ done (w .pre) at = sym (w .reads) ∙ items-end (nameRow (freeIn t₀)) left (w .pre) (w .seen) at rest z in
       let tab : Tabled 65536 (unmapped (freeIn t₀) (w .pre)) t = record { size = w .tabled .size; tells = λ i l. w .same i ∙ w .tabled .tells i l } in
-      rw e (refl, record { tabled = tab; undone = w .undone })
+      rw e (refl, record { is = w .is; tabled = tab; undone = w .undone })
 
   module _ (h : 0 < left) where
     pub named-refused : {e : Fault} {p : ℕ} {u : List ℕ} → refused e p ≡ mapRead nameFields rowThere → u ≡ t₀
@@ -143,6 +149,7 @@ module _ {t₀ s : List ℕ} {count : ℕ} {t rest : List ℕ} {at left : ℕ} (
           seen = a ∷ w .seen;
           reads = sym (items-on (nameRow (freeIn t₀)) left (w .pre) (w .seen) at rest h (x .1)) ∙ w .reads;
           tabled = marked-one 65536 (unmapped (freeIn t₀) (w .seen)) t (a .id) m (w .tabled);
+          is = ap (λ (l : List ℕ). set l (a .id) 1) (w .is) ∙ sym (marked-last t₀ (w .pre) a);
           undone = undo-one t t₀ (w .pre) a z (w .undone);
           same = λ id. unused-last (λ (r : NameRow). r .id) (freeIn t₀) (w .pre) a id ∙ ap (λ (b : Bool). pick (eqb id (a .id)) false b) (w .same id);
           fronts = λ m.

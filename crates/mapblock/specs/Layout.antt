@@ -40,24 +40,34 @@ newPosition key seen = such (unused key all seen) fault.PositionTwice position
 abbrev pub unmapped : (ℕ → Bool) → List NameRow → ℕ → Bool
 unmapped = unused (λ (r : NameRow). r .id)
 
-unfoldable pub nameRow : (ℕ → Bool) → List NameRow → Form NameRow
-nameRow free seen = into nameParts
-    (such (unmapped free seen) fault.IdTwice u16  -- id
+-- A row is laid out over the fields that its list judges: an id, a position, the private byte of a variable.
+abbrev pub nameRowBy : Form ℕ → Form NameRow
+nameRowBy id = into nameParts
+    (id
     ▹ counted 2)  -- name
 
-unfoldable pub variable : ℕ → Form Variable
-variable v = into variableParts
+unfoldable pub nameRow : (ℕ → Bool) → List NameRow → Form NameRow
+nameRow free seen = nameRowBy (such (unmapped free seen) fault.IdTwice u16)
+
+abbrev pub variableBy : Form ℕ → ℕ → Form Variable
+variableBy hidden v = into variableParts
     (counted 2  -- key
     ▹ counted 4  -- value
-    ▹ only (since 28 v) 0 (such (λ b. leb b 1) fault.PrivateByte u8))  -- private
+    ▹ only (since 28 v) 0 hidden)  -- private
 
-unfoldable pub metadataRow : ℕ → List MetadataRow → Form MetadataRow
-metadataRow v seen = into metadataParts
-    (newPosition (λ (r : MetadataRow). r .position) seen
+unfoldable pub variable : ℕ → Form Variable
+variable v = variableBy (such (λ b. leb b 1) fault.PrivateByte u8) v
+
+abbrev pub metadataRowBy : Form ℕ → Form Variable → ℕ → Form MetadataRow
+metadataRowBy at variable v = into metadataParts
+    (at
     ▹ only (before 23 v) 0 u16  -- type
     ▹ only (before 23 v) [] (counted 2)  -- content
-    ▹ only (since 23 v) [] (listed 4 λ _. variable v)
+    ▹ only (since 23 v) [] (listed 4 λ _. variable)
     ▹ only (since 23 v) [] inventory)
+
+unfoldable pub metadataRow : ℕ → List MetadataRow → Form MetadataRow
+metadataRow v seen = metadataRowBy (newPosition (λ (r : MetadataRow). r .position) seen) (variable v) v
 
 unfoldable pub objectRow : Form ObjectRow
 objectRow = into objectParts
@@ -65,10 +75,13 @@ objectRow = into objectParts
     ▹ s32 ▹ s32 ▹ s32  -- x, y, z
     ▹ counted 2)  -- content
 
-unfoldable pub timerRow : List TimerRow → Form TimerRow
-timerRow seen = into timerParts
-    (newPosition (λ (r : TimerRow). r .position) seen
+abbrev pub timerRowBy : Form ℕ → Form TimerRow
+timerRowBy at = into timerParts
+    (at
     ▹ s32 ▹ s32)  -- timeout, elapsed
+
+unfoldable pub timerRow : List TimerRow → Form TimerRow
+timerRow seen = timerRowBy (newPosition (λ (r : TimerRow). r .position) seen)
 
 -- ---- lists
 -- timestamp and names

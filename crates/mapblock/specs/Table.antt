@@ -18,7 +18,11 @@ pub record Tabled (n : ℕ) (free : ℕ → Bool) (t : List ℕ) : Type 0 where
   pub size : length t ≡ n
   pub tells : (i : ℕ) → i < n → free i ≡ freeIn t i
 
--- the marks of the rows' ids taken off
+-- the ids of the rows marked, and their marks taken off
+abbrev pub marked : List ℕ → List NameRow → List ℕ
+marked t [] = t
+marked t (r ∷ l) = marked (set t (r .id) 1) l
+
 abbrev pub unmarked : List ℕ → List NameRow → List ℕ
 unmarked t [] = t
 unmarked t (r ∷ l) = unmarked (set t (r .id) 0) l
@@ -34,6 +38,7 @@ frontRows (suc k) s = rowThen (nameRow all [] .read s) (λ n. frontRows k (drop 
 
 -- The table u after names were read from the table t: it marks their ids beside those that t marks, and can be put back.
 pub record NamesMarked (t u : List ℕ) (names : List NameRow) : Type 0 where
+  pub is : u ≡ marked t names
   pub tabled : Tabled 65536 (unmapped (freeIn t) names) u
   pub undone : unmarked u names ≡ t
 

@@ -7,7 +7,7 @@ ghost use Rattle.mapblock.specs.Inventory.{inventory};
 ghost use Rattle.mapblock.specs.Told.{toldReach, ended};
 
 // An inventory at the front of a part: through the first line that is exactly the end line.
-pub(crate) fn inventory(s: &[u8]) -> Reach
+pub fn inventory(s: &[u8]) -> Reach
     ensures { λ r. ⌜ toldReach r ≡ ended (inventory .read (now (s .entry))) ⌝ }
 {
     let mut p: usize = 0;

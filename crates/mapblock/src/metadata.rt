@@ -42,7 +42,7 @@ pub enum MetadataRead {
 }
 
 // A variable's key and value at the front of a part.
-fn key_and_value(s: &[u8]) -> Reach
+pub fn key_and_value(s: &[u8]) -> Reach
     ensures { λ r. ⌜ toldReach r ≡ ended ((counted {ends = Fault.Ends} 2 ▹ counted 4) .read (now (s .entry))) ⌝ }
 {
     match counted16_at(s, 0) {

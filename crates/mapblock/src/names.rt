@@ -36,7 +36,7 @@ pub enum NameRead {
 }
 
 // The row at the front of a part, judged alone.
-pub(crate) fn name_row(s: &[u8]) -> NameRead
+pub fn name_row(s: &[u8]) -> NameRead
     ensures { λ r. ⌜ toldName r ≡ mapRead nameFields (nameRow all [] .read (now (s .entry))) ⌝ }
 {
     let U16::Value(id) = u16_at(s, 0) else {
@@ -98,7 +98,7 @@ pub(crate) fn sized(ids: &[u8; 65536])
 }
 
 // So many rows, whose ids are marked; on a refusal the table is as it was.
-fn name_rows(s: &[u8], count: u16, ids: &mut [u8; 65536]) -> Reach
+pub fn name_rows(s: &[u8], count: u16, ids: &mut [u8; 65536]) -> Reach
     ensures { λ r. ⌜ toldReach r ≡ ended (items (nameRow (freeIn (now (ids .entry)))) count .read (now (s .entry))) ⌝ }
     ensures { λ r. ⌜ RowsMarked (now (ids .entry)) (now (ids .exit)) (items (nameRow (freeIn (now (ids .entry)))) count .read (now (s .entry))) ⌝ }
 {

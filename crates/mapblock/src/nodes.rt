@@ -14,7 +14,7 @@ ghost use Rattle.mapblock.specs.Told.{toldReach, ended, toldStray};
 pub const NODES: usize = 4096;
 
 // The bytes of a param0.
-pub(crate) fn width(version: u8) -> usize
+pub fn width(version: u8) -> usize
     ensures { λ r. ⌜ r ≡ width version ⌝ }
 {
     if version < 24 { 1 } else { 2 }

@@ -29,7 +29,7 @@ pub enum ObjectRead {
 }
 
 // The row at the front of a part.
-pub(crate) fn object_row(s: &[u8]) -> ObjectRead
+pub fn object_row(s: &[u8]) -> ObjectRead
     ensures { λ r. ⌜ toldObject r ≡ mapRead objectFields (objectRow .read (now (s .entry))) ⌝ }
 {
     let U8::Value(kind) = u8_at(s, 0) else {

@@ -39,7 +39,7 @@ pub enum ReadAnswer {
 }
 
 // Whether each of three lists has an entry for every node.
-fn are_whole(a: usize, b: usize, c: usize) -> bool
+pub fn are_whole(a: usize, b: usize, c: usize) -> bool
     ensures { λ r. ⌜ r ≡ areWhole a b c ⌝ }
 {
     if a != NODES {

@@ -58,7 +58,7 @@ fn row_after(kind: Kind, version: u8, s: &[u8], marks: &mut [u8; 4096]) -> Reach
 }
 
 // So many rows.
-fn rows(kind: Kind, version: u8, s: &[u8], count: u16) -> Reach
+pub fn rows(kind: Kind, version: u8, s: &[u8], count: u16) -> Reach
     ensures { λ r. ⌜ toldReach r ≡ ended (items (rowAfter kind version) count .read (now (s .entry))) ⌝ }
 {
     let mut marks = [0u8; 4096];

@@ -215,7 +215,7 @@ fn rows_of(at: usize, head: usize, length: usize) -> Part
 }
 
 // A metadata list's version and count.
-fn metadata_head(version: u8) -> usize
+pub fn metadata_head(version: u8) -> usize
     ensures { λ r. ⌜ r ≡ metadataHead version ⌝ }
 {
     if version < 23 { 4 } else { 3 }

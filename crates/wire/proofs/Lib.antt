@@ -2,6 +2,7 @@
 pub mod EveryFormat
 pub mod Steps
 pub mod Items
+pub mod Looser
 pub mod Laid
 -- The leaves' own loops and numbers.
 pub mod Numbers

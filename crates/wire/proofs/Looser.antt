@@ -1,0 +1,233 @@
+-- A format with tests, and the same without: the looser one takes all that the stricter one takes, and where the stricter one alone refuses
+-- it is not for want of bytes. So what the stricter one says of bytes that the looser one takes stays, whatever follows.
+use Prim.Native.Nat.{ℕ, zero, suc, _+_}
+use mathlib.Core.Path.{_≡_, refl, ap, sym, _∙_}
+use mathlib.Core.Logic.{_⊎_, inl, inr}
+use mathlib.Core.List.{List, [], _∷_, _++_, append-assoc, append-nil}
+use mathlib.Core.Bool.{Bool, true, false}
+use native.Mathlib.Omega.{arith}
+use lib.ListN.{length, drop, length-append}
+use lib.Seq.{drop-append-seam}
+use Rattle.wire.specs.Choice.{pick, or-so}
+use Rattle.wire.specs.Bytes.{Bytes}
+use Rattle.wire.specs.Read.{Read, done, refused, bind, mapRead, onward, never, same-refusal, bind-done, map-done, map-refused, onward-done, onward-refused, pick-done}
+use Rattle.wire.specs.Format.{Format, tested, such, _⨾_, next, pair, along, items, readItems, encodeItems, local}
+use Rattle.wire.specs.Formats.{number, listed}
+
+pub record Looser {E : Type 0} {ends : E} {A : Type 0} (strict loose : Format E ends A) : Type 0 where
+  pub same : (a : A) → strict .encode a ≡ loose .encode a
+  pub takes : (s : List ℕ) (a : A) (n : ℕ) → strict .read s ≡ done a n → loose .read s ≡ done a n
+  pub refuses : (s : List ℕ) (e : E) (p : ℕ) → strict .read s ≡ refused e p → (loose .read s ≡ refused e p) ⊎ (e ≡ ends → ⊥)
+
+-- ---- of each way to make a format
+pub looser-self : {E : Type 0} {ends : E} {A : Type 0} (f : Format E ends A) → Looser f f
+looser-self f = record { same = λ a. refl; takes = λ s a n h. h; refuses = λ s e p h. inl h }
+
+-- a test is dropped
+module _ {E : Type 0} {ends : E} {A : Type 0} (test : A → Bool) (e : E) (f : Format E ends A) (other : e ≡ ends → ⊥) where
+  such-refused : (s : List ℕ) (k : E) (p : ℕ) (r : Read E A) → f .read s ≡ r → bind r (tested test e) ≡ refused k p → (f .read s ≡ refused k p) ⊎ (k ≡ ends → ⊥)
+  such-refused s k p (done a n) h g = go (test a) g
+    where
+      go : (b : Bool) → pick b (done a n) (refused e 0) ≡ refused k p → (f .read s ≡ refused k p) ⊎ (k ≡ ends → ⊥)
+      go true z = never (sym z)
+      go false z = inr (λ w. let x : e ≡ k = cc in other (x ∙ w))
+  such-refused s k p (refused k₁ p₁) h g = inl (h ∙ same-refusal g)
+
+  pub looser-such : Looser (such test e f) f
+  unfolding such
+  looser-such = record {
+    same = λ a. refl;
+    takes = λ s a n h.
+        let x = bind-done (f .read s) (tested test e) a n h in
+        x .2 ∙ pick-done (test (x .0)) (done (x .0) (x .1)) e 0 a n (x .3) .1;
+    refuses = λ s k p h. such-refused s k p (f .read s) refl h;
+  }
+
+-- one after another
+pub looser-trans : {E : Type 0} {ends : E} {A : Type 0} {f g h : Format E ends A} → Looser f g → Looser g h → Looser f h
+looser-trans {E} {ends} {A} {f} {g} {h} l m = record {
+  same = λ a. l .same a ∙ m .same a;
+  takes = λ s a n k. m .takes s a n (l .takes s a n k);
+  refuses = λ s e p k. go s e p (l .refuses s e p k);
+}
+  where
+    go : (s : List ℕ) (e : E) (p : ℕ) → (g .read s ≡ refused e p) ⊎ (e ≡ ends → ⊥) → (h .read s ≡ refused e p) ⊎ (e ≡ ends → ⊥)
+    go s e p (inl z) = m .refuses s e p z
+    go s e p (inr z) = inr z
+
+module _ {E : Type 0} {ends : E} {A B : Type 0} (f g : Format E ends A) (h k : A → Format E ends B) (l : Looser f g) (m : (a : A) → Looser (h a) (k a)) where
+  then-takes : (s : List ℕ) (x : A × B) (n : ℕ) → bind (f .read s) (next h s) ≡ done x n → bind (g .read s) (next k s) ≡ done x n
+  then-takes s x n z =
+      let y = bind-done (f .read s) (next h s) x n z in
+      let w = onward-done (y .1) (pair (y .0)) (h (y .0) .read (drop (y .1) s)) x n (y .3) in
+      rw (l .takes s (y .0) (y .1) (y .2), m (y .0) .takes (drop (y .1) s) (w .0) (w .1) (w .2), w .3, w .4)
+
+  then-refuses : (s : List ℕ) (e : E) (p : ℕ) (r : Read E A) → f .read s ≡ r → bind r (next h s) ≡ refused e p → (bind (g .read s) (next k s) ≡ refused e p) ⊎ (e ≡ ends → ⊥)
+  then-refuses s e p (done a n) z w =
+      let x = onward-refused n (pair a) (h a .read (drop n s)) e p w in
+      go (x .0) (x .2) (m a .refuses (drop n s) e (x .0) (x .1))
+    where
+      go : (q : ℕ) → n + q ≡ p → (k a .read (drop n s) ≡ refused e q) ⊎ (e ≡ ends → ⊥) → (bind (g .read s) (next k s) ≡ refused e p) ⊎ (e ≡ ends → ⊥)
+      go q i (inl j) = inl (rw (l .takes s a n z, j, i))
+      go q i (inr j) = inr j
+  then-refuses s e p (refused e₁ p₁) z w = go (l .refuses s e p (z ∙ same-refusal w))
+    where
+      go : (g .read s ≡ refused e p) ⊎ (e ≡ ends → ⊥) → (bind (g .read s) (next k s) ≡ refused e p) ⊎ (e ≡ ends → ⊥)
+      go (inl j) = inl (rw j)
+      go (inr j) = inr j
+
+  pub looser-then : Looser (f ⨾ h) (g ⨾ k)
+  unfolding _⨾_
+  looser-then = record {
+    same = λ x. rw (l .same (x .0), m (x .0) .same (x .1));
+    takes = then-takes;
+    refuses = λ s e p z. then-refuses s e p (f .read s) refl z;
+  }
+
+-- the same bytes under another type
+module _ {E : Type 0} {ends : E} {A B : Type 0} (OkF OkG : B → Type 0) (to : A → B) (from : B → A) (f g : Format E ends A) (l : Looser f g)
+    (thereF : (b : B) → OkF b → f .Ok (from b) × (to (from b) ≡ b)) (backF : (a : A) → f .Ok a → OkF (to a) × (from (to a) ≡ a))
+    (thereG : (b : B) → OkG b → g .Ok (from b) × (to (from b) ≡ b)) (backG : (a : A) → g .Ok a → OkG (to a) × (from (to a) ≡ a)) where
+  along-refuses : (s : List ℕ) (e : E) (p : ℕ) → (g .read s ≡ refused e p) ⊎ (e ≡ ends → ⊥) → (mapRead to (g .read s) ≡ refused e p) ⊎ (e ≡ ends → ⊥)
+  along-refuses s e p (inl z) = inl (rw z)
+  along-refuses s e p (inr z) = inr z
+
+  pub looser-along : Looser (along OkF to from f thereF backF) (along OkG to from g thereG backG)
+  unfolding along
+  looser-along = record {
+    same = λ b. l .same (from b);
+    takes = λ s b n h. let x = map-done to (f .read s) b n h in rw (l .takes s (x .0) n (x .1), x .2);
+    refuses = λ s e p h. along-refuses s e p (l .refuses s e p (map-refused to (f .read s) e p h));
+  }
+
+pub looser-pick : {E : Type 0} {ends : E} {A : Type 0} {f g h k : Format E ends A} (b : Bool) → Looser f g → Looser h k → Looser (pick b f h) (pick b g k)
+looser-pick true l m = l
+looser-pick false l m = m
+
+-- so many items
+module _ {E : Type 0} {ends : E} {A : Type 0} (item loose : List A → Format E ends A) (l : (seen : List A) → Looser (item seen) (loose seen)) where
+  items-same : (seen a : List A) → encodeItems item seen a ≡ encodeItems loose seen a
+  items-same seen [] = refl
+  items-same seen (x ∷ a) = rw (l seen .same x, items-same (x ∷ seen) a)
+
+  -- the items behind the first
+  abbrev more : (List A → Format E ends A) → ℕ → List A → List ℕ → A → ℕ → Read E (List A)
+  more f k seen s a n = onward n (λ l. a ∷ l) (readItems f k (a ∷ seen) (drop n s))
+
+  items-takes : (k : ℕ) (seen : List A) (s : List ℕ) (a : List A) (n : ℕ) → readItems item k seen s ≡ done a n → readItems loose k seen s ≡ done a n
+  unfolding readItems
+  items-takes zero seen s a n h = h
+  items-takes (suc k) seen s a n h =
+      let y = bind-done (item seen .read s) (more item k seen s) a n h in
+      let w = onward-done (y .1) (λ l. y .0 ∷ l) (readItems item k (y .0 ∷ seen) (drop (y .1) s)) a n (y .3) in
+      rw (l seen .takes s (y .0) (y .1) (y .2), items-takes k (y .0 ∷ seen) (drop (y .1) s) (w .0) (w .1) (w .2), w .3, w .4)
+
+  items-refuses : (k : ℕ) (seen : List A) (s : List ℕ) (e : E) (p : ℕ) → readItems item k seen s ≡ refused e p → (readItems loose k seen s ≡ refused e p) ⊎ (e ≡ ends → ⊥)
+  unfolding readItems
+  items-refuses zero seen s e p h = never (sym h)
+  items-refuses (suc k) seen s e p h = go (item seen .read s) refl h (λ a n. items-refuses k (a ∷ seen) (drop n s) e)
+    where
+      out : (q n : ℕ) (a : A) → item seen .read s ≡ done a n → n + q ≡ p → (readItems loose k (a ∷ seen) (drop n s) ≡ refused e q) ⊎ (e ≡ ends → ⊥)
+          → (bind (loose seen .read s) (more loose k seen s) ≡ refused e p) ⊎ (e ≡ ends → ⊥)
+      out q n a z i (inl j) = inl (rw (l seen .takes s a n z, j, i))
+      out q n a z i (inr j) = inr j
+
+      first : (loose seen .read s ≡ refused e p) ⊎ (e ≡ ends → ⊥) → (bind (loose seen .read s) (more loose k seen s) ≡ refused e p) ⊎ (e ≡ ends → ⊥)
+      first (inl j) = inl (rw j)
+      first (inr j) = inr j
+
+      go : (r : Read E A) → item seen .read s ≡ r → bind r (more item k seen s) ≡ refused e p
+          → ((a : A) (n q : ℕ) → readItems item k (a ∷ seen) (drop n s) ≡ refused e q → (readItems loose k (a ∷ seen) (drop n s) ≡ refused e q) ⊎ (e ≡ ends → ⊥))
+          → (bind (loose seen .read s) (more loose k seen s) ≡ refused e p) ⊎ (e ≡ ends → ⊥)
+      go (done a n) z g ih =
+          let x = onward-refused n (λ l. a ∷ l) (readItems item k (a ∷ seen) (drop n s)) e p g in
+          out (x .0) n a z (x .2) (ih a n (x .0) (x .1))
+      go (refused e₁ p₁) z g ih = first (l seen .refuses s e p (z ∙ same-refusal g))
+
+  pub looser-items : (k : ℕ) → Looser (items item k) (items loose k)
+  unfolding items
+  looser-items k = record { same = items-same []; takes = items-takes k []; refuses = items-refuses k [] }
+
+  pub looser-listed : (k : ℕ) → Looser (listed k item) (listed k loose)
+  unfolding listed
+  looser-listed k = looser-along _ _ _ _ _ _ (looser-then (number k) (number k) (items item) (items loose) (looser-self (number k)) looser-items) _ _ _ _
+
+-- ---- what is said of a value's bytes, whatever follows them
+pub record Settled {E : Type 0} {ends : E} {A : Type 0} (f : Format E ends A) (a : A) : Type 0 where
+  pub stays : (t : List ℕ) → f .read (f .encode a ++ t) ≡ f .read (f .encode a)
+  pub itself : (c : A) (n : ℕ) → f .read (f .encode a) ≡ done c n → (c ≡ a) × (n ≡ length (f .encode a))
+
+module _ {E : Type 0} {ends : E} {A : Type 0} {strict loose : Format E ends A} (l : Looser strict loose) (a : A) (ok : loose .Ok a) where
+  alone : loose .read (strict .encode a) ≡ done a (length (strict .encode a))
+  alone = ap (loose .read) (l .same a ∙ sym (append-nil (loose .encode a))) ∙ loose .forward a ok [] ∙ ap (λ (s : List ℕ). done a (length s)) (sym (l .same a))
+
+  bytes : Bytes (strict .encode a)
+  bytes = rw (l .same a) (loose .bytes a ok)
+
+  stays-by : (t : List ℕ) (r : Read E A) → strict .read (strict .encode a) ≡ r → strict .read (strict .encode a ++ t) ≡ r
+  stays-by t (done c n) h = local strict (strict .encode a) t c n bytes h
+  stays-by t (refused e p) h = go (l .refuses (strict .encode a) e p h) (strict .firm (strict .encode a) t e p bytes h)
+    where
+      go : (loose .read (strict .encode a) ≡ refused e p) ⊎ (e ≡ ends → ⊥) → (e ≡ ends) ⊎ (strict .read (strict .encode a ++ t) ≡ refused e p)
+          → strict .read (strict .encode a ++ t) ≡ refused e p
+      go (inl z) w = never (sym z ∙ alone)
+      go (inr z) (inl w) = absurd (z w)
+      go (inr z) (inr w) = w
+
+  pub settled : Settled strict a
+  settled = record {
+    stays = λ t. stays-by t (strict .read (strict .encode a)) refl;
+    itself = λ c n h.
+        let e : done c n ≡ done a (length (strict .encode a)) = sym (l .takes (strict .encode a) c n h) ∙ alone in
+        ((cc), (cc));
+  }
+
+  -- nothing is missing in its bytes
+  pub settled-whole : (p : ℕ) → strict .read (strict .encode a) ≡ refused ends p → ⊥
+  settled-whole p h = go (l .refuses (strict .encode a) ends p h)
+    where
+      go : (loose .read (strict .encode a) ≡ refused ends p) ⊎ (ends ≡ ends → ⊥) → ⊥
+      go (inl z) = never (sym z ∙ alone)
+      go (inr z) = z refl
+
+pub settled-ok : {E : Type 0} {ends : E} {A : Type 0} (f : Format E ends A) (a : A) → f .Ok a → Settled f a
+settled-ok f a ok = settled (looser-self f) a ok
+
+-- what is said of two values, one behind the other: n bytes are the first's
+abbrev pub followed : {E A B C : Type 0} → Read E A → ℕ → (B → C) → Read E B → Read E C
+followed (done a m) n to r = onward n to r
+followed (refused e p) n to r = refused e p
+
+module _ {E : Type 0} {ends : E} {A B : Type 0} (f : Format E ends A) (g : A → Format E ends B) (a : A) (b : B) (w : Settled f a) where
+  behind-by : (t : List ℕ) (r : Read E A) → f .read (f .encode a) ≡ r
+      → bind r (next g (f .encode a ++ t)) ≡ followed r (length (f .encode a)) (pair a) (g a .read t)
+  behind-by t (done c n) h =
+      let k = w .itself c n h in
+      rw (k .0, k .1, drop-append-seam)
+  behind-by t (refused e p) h = refl
+
+  behind : (t : List ℕ) → (f ⨾ g) .read (f .encode a ++ t) ≡ followed (f .read (f .encode a)) (length (f .encode a)) (pair a) (g a .read t)
+  unfolding _⨾_
+  behind t = rw (w .stays t) (behind-by t (f .read (f .encode a)) refl)
+
+  pub said-then : (f ⨾ g) .read ((f ⨾ g) .encode (pair a b)) ≡ followed (f .read (f .encode a)) (length (f .encode a)) (pair a) (g a .read (g a .encode b))
+  unfolding _⨾_
+  said-then = behind (g a .encode b)
+
+  module _ (v : Settled (g a) b) where
+    itself-by : (r : Read E A) → f .read (f .encode a) ≡ r → (c : A × B) (n : ℕ) → followed r (length (f .encode a)) (pair a) (g a .read (g a .encode b)) ≡ done c n
+        → (c ≡ pair a b) × (n ≡ length (f .encode a) + length (g a .encode b))
+    itself-by (done x m) h c n z =
+        let y = onward-done (length (f .encode a)) (pair a) (g a .read (g a .encode b)) c n z in
+        let k = v .itself (y .0) (y .1) (y .2) in
+        (sym (y .3) ∙ ap (pair a) (k .0), sym (y .4) ∙ ap (λ (i : ℕ). length (f .encode a) + i) (k .1))
+    itself-by (refused e p) h c n z = never z
+
+    pub settled-then : Settled (f ⨾ g) (pair a b)
+    unfolding _⨾_
+    settled-then = record {
+      stays = λ t.
+          ap ((f ⨾ g) .read) (append-assoc (f .encode a) (g a .encode b) t) ∙ behind (g a .encode b ++ t)
+          ∙ ap (followed (f .read (f .encode a)) (length (f .encode a)) (pair a)) (v .stays t) ∙ sym (behind (g a .encode b));
+      itself = λ c n h. rw length-append (itself-by (f .read (f .encode a)) refl c n (sym (behind (g a .encode b)) ∙ h));
+    }

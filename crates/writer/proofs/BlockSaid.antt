@@ -1,0 +1,232 @@
+-- What is said of a block's bytes, from what is said of its lists.
+use Prim.Native.Nat.{ℕ, zero, suc, _+_, _*_, _^_, _<_, _≤_}
+use mathlib.Core.Path.{_≡_, refl, ap, sym, _∙_}
+use mathlib.Core.Option.{Option, some, none}
+use mathlib.Core.List.{List, [], append-nil}
+use mathlib.Core.Bool.{Bool, true, false}
+use native.Mathlib.Nat.{add-assoc}
+use native.Mathlib.Omega.{arith}
+use lib.Dec.{leb, eqb, lit<}
+use lib.ListN.{length, length-append}
+use borrow.Author.Tests.{eqb-true, eq-eqb, le-leb, lt-leb, leb-true, leb-false}
+use Rattle.wire.specs.Choice.{pick, and-yes}
+use Rattle.wire.specs.Bytes.{Bytes}
+use Rattle.wire.specs.Read.{Read, done, refused, onward, never, onward-done}
+use Rattle.wire.specs.Format.{nothing, such, _⨾_, along, pair, encodeItems}
+use Rattle.wire.specs.Formats.{_▹_, number, listed, behind, fixed, only, u16}
+use Rattle.wire.proofs.EveryFormat.{every-format}
+use Rattle.wire.proofs.Looser.{Settled, settled, settled-ok, looser-self}
+use Rattle.mapblock.specs.Inventory.{Form}
+use Rattle.mapblock.specs.Data.{NameRow, MetadataRow, ObjectRow, TimerRow, Saved, Timers, Nodes, Block, unsaved, untimed}
+use Rattle.mapblock.specs.Layout.{since, before, all, width, unmapped, isVersion, opening, saved, nodes, metadata, earlyTimers, objects, objectRow, lateTimers, front, rest, steps}
+use Rattle.mapblock.specs.Block.{block, piecesOf, openingOf, savedOf, contentId, idAt, stray, strayFrom, param0At, verdict}
+use Rattle.mapblock.specs.Sections.{found}
+use Rattle.mapblock.specs.Table.{freeIn, Tabled}
+use Rattle.mapblock.specs.Told.{ended}
+use Rattle.mapblock.specs.declared.fault.Fault.{Fault}
+use Rattle.mapblock.specs.declared.fault.Fault.the-variants as fault
+use Rattle.mapblock.specs.declared.head.Head.{Head}
+use Rattle.mapblock.proofs.Readings.{ended-map, ended-done, ended-refused}
+use Rattle.mapblock.proofs.ListLengths.{num-length, objects-rows-length}
+use Rattle.mapblock.proofs.Entries.{width-range, nodes-done}
+use Rattle.mapblock.proofs.GoodRows.{either, since-ok}
+use Rattle.mapblock.proofs.Fronts.{opening-length}
+use Rattle.mapblock.proofs.Verdicts.{verdict-refused, verdict-stray, verdict-done}
+use Rattle.writer.specs.Frames.{nameFrame, metadataFrame, timerFrame}
+use Rattle.writer.specs.Parts.{carries, timed}
+use Rattle.writer.specs.Sections.{Rows}
+use Rattle.writer.specs.Said.{said, openingOn, savedOn, savedFront, savedBehind, timersEarly, timersLate, openingLength, listsLength, SavedSaid, FrontSaid, ending, EndingSaid, RestSaid, strayAmong}
+use Rattle.writer.proofs.Framed.{savedFrame, saved-looser, metadataListFrame, metadata-list-looser, earlyFrame, early-looser}
+use Rattle.writer.proofs.RowsSaid.{rows-ok, rows-bytes, saved-ok}
+use Rattle.writer.proofs.Says.{onward-none, onward-thrice, said-ok, says-refused, says-length, says-on}
+
+-- ---- behind the static objects
+module _ (h : Head) (l : List NameRow) (k : List TimerRow) where
+  pub ending-late : {t : List ℕ} {r : Read Fault (Unit {0})} → 29 ≤ h .version → r ≡ said (lateTimers (h .version)) (timersLate h k) → EndingSaid t t h l k r
+  unfolding nothing
+  ending-late {t} {r} g e = record {
+    says = λ free _.
+        rw (le-leb 29 (h .version) g)
+        (sym (onward-none r) ∙ says-on (nothing unsaved) (λ _. lateTimers (h .version)) unsaved (timersLate h k) (settled-ok (nothing unsaved) unsaved refl) refl e);
+    marks = λ n f _. absurd (omega arith);
+    kept = λ _. refl;
+  }
+
+  module _ {t : List ℕ} (g : h .version < 29) (w : Settled (saved (freeIn t)) (savedOn h l)) where
+    pub ending-refused : {u : List ℕ} {e : Fault} {p : ℕ} {z : Read Fault (Unit {0})} → SavedSaid t u (savedOn h l) z → z ≡ refused e p → EndingSaid t u h l k (refused e p)
+    ending-refused x i = record {
+      says = λ free same. rw (same g, lt-leb 29 (h .version) g) (says-refused (saved (freeIn t)) (λ _. lateTimers (h .version)) (savedOn h l) (timersLate h k) w (sym i ∙ x .says));
+      marks = λ n _ z. never z;
+      kept = λ f. absurd (omega arith);
+    }
+
+    pub ending-on : {u : List ℕ} {n : ℕ} {z r : Read Fault (Unit {0})} → SavedSaid t u (savedOn h l) z → z ≡ done tt n → r ≡ said (lateTimers (h .version)) (timersLate h k)
+        → EndingSaid t u h l k (onward n (λ u. u) r)
+    ending-on {u} {n} x i e = record {
+      says = λ free same. rw (same g, lt-leb 29 (h .version) g) (says-on (saved (freeIn t)) (λ _. lateTimers (h .version)) (savedOn h l) (timersLate h k) w (sym i ∙ x .says) e);
+      marks = λ _ _ _. x .marks n i;
+      kept = λ f. absurd (omega arith);
+    }
+
+-- ---- what follows the node data
+metadata-ok : (v : ℕ) {s : List ℕ} {count : ℕ} {m : List MetadataRow} → Bytes s → Rows (metadataFrame v) s count m → metadataListFrame v .Ok m
+unfolding behind along _⨾_ such number
+metadata-ok v b w = ((few (since 23 v) (since 28 v), eq-eqb (pick (since 28 v) 2 1) (pick (since 28 v) 2 1) refl), rows-ok (metadataFrame v) b w)
+  where
+    few : (c d : Bool) → pick d 2 1 < 256 ^ pick c 1 2
+    few true true = lit< tt
+    few true false = lit< tt
+    few false true = lit< tt
+    few false false = lit< tt
+
+pub metadata-settled : (v : ℕ) {s : List ℕ} {count : ℕ} {m : List MetadataRow} → Bytes s → Rows (metadataFrame v) s count m → Settled (metadata v) m
+metadata-settled v b w = settled (metadata-list-looser v) _ (metadata-ok v b w)
+
+pub saved-settled : (free : ℕ → Bool) {s : List ℕ} {count : ℕ} (x : Saved) → Bytes s → x .timestamp < 4294967296 → Rows nameFrame s count (x .names) → Settled (saved free) x
+saved-settled free x b h w = settled (saved-looser free) x (saved-ok x b h w)
+
+objects-ok : {s : List ℕ} {count : ℕ} {o : List ObjectRow} → Bytes s → Rows objectRow s count o → objects .Ok o
+unfolding objects behind along _⨾_ such number
+objects-ok b w = ((lit< tt, refl), rows-ok objectRow b w)
+
+pub objects-said : {s : List ℕ} {count : ℕ} {o : List ObjectRow} → Bytes s → Rows objectRow s count o → Settled objects o × (done tt (3 + length s) ≡ said objects o)
+objects-said {s} {count} {o} b w =
+    let ok = objects-ok b w in
+    let e : length (objects .encode o) ≡ 3 + length s = objects-rows-length o ∙ ap (λ (x : List ℕ). 3 + length x) (sym (rows-bytes objectRow b w (λ _. objectRow) (λ _. looser-self objectRow))) in
+    (settled-ok objects o ok, sym (said-ok objects o ok ∙ ap (done tt) e))
+
+module _ (h : Head) (l : List NameRow) (m : List MetadataRow) (o : List ObjectRow) (k : List TimerRow) (sm : Settled (metadata (h .version)) m) where
+  abbrev v : ℕ
+  v = h .version
+
+  abbrev early : Timers
+  early = timersEarly h k
+
+  abbrev end : Saved × Timers
+  end = (savedBehind h l, timersLate h k)
+
+  pub rest-no-metadata : {t : List ℕ} {e : Fault} {p : ℕ} → refused e p ≡ said (metadata v) m → RestSaid t t h l m o k (refused e p)
+  unfolding rest
+  rest-no-metadata z = record {
+    says = λ free _. says-refused (metadata v) (λ _. earlyTimers v ▹ objects ▹ ending free v) m (early, (o, end)) sm z;
+    marks = λ n _ y. never y;
+    kept = λ _. refl;
+  }
+
+  module _ {a : ℕ} (x : done tt a ≡ said (metadata v) m) (se : Settled (earlyTimers v) early) where
+    pub rest-no-early : {t : List ℕ} {e : Fault} {p : ℕ} → refused e p ≡ said (earlyTimers v) early → RestSaid t t h l m o k (refused e (a + p))
+    unfolding rest
+    rest-no-early z = record {
+      says = λ free _.
+          says-on (metadata v) (λ _. earlyTimers v ▹ objects ▹ ending free v) m (early, (o, end)) sm x
+          (says-refused (earlyTimers v) (λ _. objects ▹ ending free v) early (o, end) se z);
+      marks = λ n _ y. never y;
+      kept = λ _. refl;
+    }
+
+    module _ {d c : ℕ} (y : done tt d ≡ said (earlyTimers v) early) (so : Settled objects o × (done tt c ≡ said objects o)) where
+      pub rest-on : {t u : List ℕ} {at : ℕ} {z r : Read Fault (Unit {0})} → at ≡ a + d + c → EndingSaid t u h l k z → z ≡ r → RestSaid t u h l m o k (onward at (λ u. u) r)
+      unfolding rest
+      rest-on {t} {u} {at} {z} {r} e w i = record {
+        says = λ free same.
+            ap (λ (n : ℕ). onward n (λ u. u) r) e ∙ onward-thrice a d c r
+            ∙ says-on (metadata v) (λ _. earlyTimers v ▹ objects ▹ ending free v) m (early, (o, end)) sm x
+            (says-on (earlyTimers v) (λ _. objects ▹ ending free v) early (o, end) se y
+            (says-on objects (λ _. ending free v) o end (so .0) (so .1) (sym i ∙ w .says free same)));
+        marks = λ n g f. let q = onward-done at (λ u. u) r tt n f in w .marks (q .1) g (i ∙ q .2);
+        kept = w .kept;
+      }
+
+-- ---- up to the end of the node data
+pub opening-ok : (h : Head) → h .version < 256 → h .flags < 256 → h .lighting < 65536 → isVersion (h .version) ≡ true → carries h ≡ true → opening .Ok (openingOn h)
+unfolding opening along _⨾_ such number
+opening-ok h a b c i f =
+    let unlit : h .version < 27 → h .lighting ≡ 65535 = λ k. eqb-true (h .lighting) 65535 (rw (lt-leb 27 (h .version) k) at (and-yes (pick (since 27 (h .version)) true (eqb (h .lighting) 65535)) _ f .0)) in
+    ((a, i), (b, since-ok u16 65535 (h .lighting) 27 (h .version) .1 ((λ _. c), unlit)))
+
+opening-short : (h : Head) → h .version < 27 → length (opening .encode (openingOn h)) ≡ 2
+unfolding opening along _⨾_ such nothing
+opening-short h k = rw (lt-leb 27 (h .version) k, length-append, length-append, num-length 1 (h .version), num-length 1 (h .flags))
+
+opening-long : (h : Head) → length (opening .encode (openingOn h)) ≡ openingLength (h .version)
+opening-long h = either 27 (h .version) (λ k. rw (le-leb 27 (h .version) k) (opening-length (openingOn h) k)) (λ k. rw (lt-leb 27 (h .version) k) (opening-short h k))
+
+nodes-said : (v : ℕ) (n : Nodes) → nodes v .Ok n → done tt (2 + listsLength v) ≡ said (nodes v) n
+nodes-said v n ok = sym (said-ok (nodes v) n ok ∙ ap (done tt) (nodes-done v (nodes v .encode n) (every-format (nodes v) .reads-back n ok) .0))
+
+module _ (h : Head) (l : List NameRow) (n : Nodes) (ok : opening .Ok (openingOn h)) (nk : nodes (h .version) .Ok n) where
+  abbrev behindOpening : (ℕ → Bool) → Form (Saved × Nodes)
+  behindOpening free = only (since 29 (h .version)) unsaved (saved free) ▹ nodes (h .version)
+
+  -- k bytes of step 1
+  front-by : (free : ℕ → Bool) {k : ℕ} (r : Read Fault (Unit {0})) → k ≡ openingLength (h .version) → r ≡ said (behindOpening free) (savedFront h l, n)
+      → onward k (λ u. u) r ≡ said (front free) (openingOn h, (savedFront h l, n))
+  unfolding front
+  front-by free r e z =
+      ap (λ (i : ℕ). onward i (λ u. u) r) (e ∙ sym (opening-long h))
+      ∙ says-on opening (λ o. only (since 29 (o .version)) unsaved (saved free) ▹ nodes (o .version)) (openingOn h) (savedFront h l, n) (settled-ok opening (openingOn h) ok) (sym (said-ok opening (openingOn h) ok)) z
+
+  module _ {k d : ℕ} (e : k ≡ openingLength (h .version)) (f : d ≡ listsLength (h .version)) where
+    lists-said : done tt (2 + d) ≡ said (nodes (h .version)) n
+    lists-said = ap (λ (i : ℕ). done tt (2 + i)) f ∙ nodes-said (h .version) n nk
+
+    pub front-plain : {t : List ℕ} → h .version < 29 → FrontSaid t t h l n (done tt (k + (2 + d)))
+    unfolding nothing
+    front-plain {t} g = record {
+      says = front-by (freeIn t) (done tt (2 + d)) e (rw (lt-leb 29 (h .version) g)
+          (sym (onward-none (done tt (2 + d))) ∙ says-on (nothing unsaved) (λ _. nodes (h .version)) unsaved n (settled-ok (nothing unsaved) unsaved refl) refl lists-said));
+      marks = λ _ f _. absurd (omega arith);
+      kept = λ _. refl;
+    }
+
+    module _ {t u : List ℕ} (g : 29 ≤ h .version) (w : Settled (saved (freeIn t)) (savedOn h l)) {z : Read Fault (Unit {0})} (x : SavedSaid t u (savedOn h l) z) where
+      pub front-refused : {i : Fault} {p : ℕ} → z ≡ refused i p → FrontSaid t u h l n (refused i (k + p))
+      front-refused {i} {p} y = record {
+        says = front-by (freeIn t) (refused i p) e (rw (le-leb 29 (h .version) g) (says-refused (saved (freeIn t)) (λ _. nodes (h .version)) (savedOn h l) n w (sym y ∙ x .says)));
+        marks = λ _ _ o. never o;
+        kept = λ o. absurd (omega arith);
+      }
+
+      pub front-named : {m : ℕ} → z ≡ done tt m → FrontSaid t u h l n (done tt (k + m + (2 + d)))
+      front-named {m} y = record {
+        says =
+            ap (done tt) (add-assoc k m (2 + d))
+            ∙ front-by (freeIn t) (done tt (m + (2 + d))) e (rw (le-leb 29 (h .version) g) (says-on (saved (freeIn t)) (λ _. nodes (h .version)) (savedOn h l) n w (sym y ∙ x .says) lists-said));
+        marks = λ _ _ _. x .marks m y;
+        kept = λ o. absurd (omega arith);
+      }
+
+-- ---- the whole
+module _ (b : Block) (w : Settled (block all) b) where
+  abbrev bytes : List ℕ
+  bytes = block all .encode b
+
+  pub block-said : said (steps all) (piecesOf b) ≡ said (block all) b
+  unfolding block along
+  block-said = sym (ended-map _ (steps all .read (steps all .encode (piecesOf b))))
+
+  pub said-refused : {e : Fault} {p : ℕ} → refused e p ≡ said (block all) b → refused e p ≡ ended (verdict all bytes)
+  said-refused h = ap ended (verdict-refused all bytes (ended-refused (block all .read bytes) h)) ∙ ended-map found (verdict all bytes)
+
+  module _ {n : ℕ} (h : done tt n ≡ said (block all) b) where
+    whole : (block all .read bytes ≡ done b n) × (n ≡ length bytes)
+    whole =
+        let x = ended-done (block all .read bytes) h in
+        let y = w .itself (x .0) n (x .1) in
+        (x .1 ∙ ap (λ (c : Block). done c n) (y .0), y .1)
+
+    pub said-stray : {i : ℕ} → stray all b ≡ some i → refused fault.IdUnmapped (param0At b i) ≡ ended (verdict all bytes)
+    said-stray k = ap ended (verdict-stray all bytes (whole .0) (whole .1) k) ∙ ended-map found (verdict all bytes)
+
+    pub said-done : stray all b ≡ none → done tt n ≡ ended (verdict all bytes)
+    said-done k = ap ended (verdict-done all bytes (whole .0) (whole .1) k) ∙ ended-map found (verdict all bytes)
+
+-- ---- lengths that fit
+pub opening-few : (v : ℕ) → openingLength v ≤ 4
+opening-few v = either 27 v (λ k. rw (le-leb 27 v k) (omega arith)) (λ k. rw (lt-leb 27 v k) (omega arith))
+
+pub lists-few : (v : ℕ) → listsLength v ≤ 16384
+lists-few v = omega (arith, width-range v .1)
+
+pub same-end : {k n m : ℕ} → _≡_ {A = Read Fault (Unit {0})} (done tt k) (done tt n) → m ≤ k → m ≤ n
+same-end {k} {n} e f = let z : k ≡ n = cc in omega arith

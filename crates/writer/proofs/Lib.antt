@@ -1,0 +1,23 @@
+-- Rows by their framing.
+pub mod RowsIn
+pub mod FrameLengths
+pub mod RowCounts
+pub mod Framed
+pub mod Fits
+pub mod Fitting
+-- What the reader says of bytes that are not written yet.
+pub mod Says
+pub mod RowsSaid
+pub mod TimersSaid
+pub mod BlockSaid
+pub mod Strays
+-- The block that parts make, and the reader's verdict on it.
+pub mod MadeBlock
+pub mod Judged
+pub mod RoundTrip
+-- Its bytes.
+pub mod Puts
+pub mod Entries
+pub mod PutPieces
+pub mod Encoded
+pub mod Written

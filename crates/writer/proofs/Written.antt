@@ -1,0 +1,156 @@
+-- What the writer answers, test by test.
+use Prim.Native.Nat.{ℕ, _+_, _<_, _≤_}
+use mathlib.Core.Path.{_≡_, refl, ap, sym, _∙_}
+use mathlib.Core.Option.{Option, some, none, Option·map, Option·none-ne-some, map-eq-some-iff}
+use mathlib.Core.List.{List, [], _++_}
+use mathlib.Core.Bool.{Bool, true, false}
+use native.Mathlib.Nat.{zero-add}
+use native.Mathlib.Omega.{arith}
+use lib.Dec.{leb}
+use lib.ListN.{length, take, drop}
+use borrow.Author.Tests.{le-leb, lt-leb}
+use Rattle.wire.specs.Choice.{pick}
+use Rattle.wire.specs.Read.{Read, done, refused}
+use Rattle.wire.specs.Store.{laid}
+use Rattle.wire.specs.Answer.{Answer, good, refusal, plain, mapAnswer, lent, versionOutside, noRoom, partsMisfit}
+use Rattle.wire.proofs.Looser.{looser-self}
+use Rattle.mapblock.specs.Data.{NameRow, MetadataRow, ObjectRow, TimerRow, Block}
+use Rattle.mapblock.specs.Layout.{all, isVersion, nameRow, metadataRow, objectRow, timerRow}
+use Rattle.mapblock.specs.Block.{block, verdict}
+use Rattle.mapblock.specs.Numbers.{number}
+use Rattle.mapblock.specs.Told.{ended}
+use Rattle.mapblock.specs.declared.fault.Fault.{Fault}
+use Rattle.mapblock.proofs.Readings.{ended-done, ended-refused}
+use Rattle.mapblock.proofs.Taken.{taken}
+use Rattle.writer.specs.Frames.{nameFrame, metadataFrame, timerFrame}
+use Rattle.writer.specs.Parts.{Parts, fits, made, rowsMade, blockMade}
+use Rattle.writer.specs.Pieces.{blockBytes}
+use Rattle.writer.specs.Sections.{Rows, countsOf, countsIn}
+use Rattle.writer.specs.Said.{Small}
+use Rattle.writer.specs.Theorems.{Held}
+use Rattle.writer.specs.Write.{judgedBytes, writtenBlock, writeOf}
+use Rattle.writer.specs.declared.counts.Counts.{Counts}
+use Rattle.writer.proofs.Encoded.{encoded}
+use Rattle.writer.proofs.Framed.{name-looser, metadata-looser, timer-looser}
+use Rattle.writer.proofs.RowCounts.{counts-made}
+use Rattle.writer.proofs.RowsSaid.{rows-bytes, names-small, objects-small, timers-small}
+use Rattle.writer.proofs.MadeBlock.{MadeOf, made-of, of-made, block-bytes}
+
+-- ---- an answer, and what the buffer holds then
+abbrev pub Answers : Parts → List ℕ → Answer ℕ → List ℕ → Type 0
+Answers p out a after = (a ≡ mapAnswer length (writeOf p (length out))) × (after ≡ lent (writeOf p (length out)) out)
+
+answers-by : (p : Parts) (out : List ℕ) (w : Answer (List ℕ)) → writeOf p (length out) ≡ w → Answers p out (mapAnswer length w) (lent w out)
+answers-by p out w e = rw e (refl, refl)
+
+module _ (p : Parts) (out : List ℕ) where
+  pub bad-version : isVersion (p .head .version) ≡ false → Answers p out (plain versionOutside) out
+  unfolding writeOf
+  bad-version h = answers-by p out (plain versionOutside) (rw h)
+
+  module _ (v : isVersion (p .head .version) ≡ true) where
+    made-none : blockMade p ≡ none → Answers p out (plain partsMisfit) out
+    unfolding writeOf
+    made-none h = answers-by p out (plain partsMisfit) (rw (v, h))
+
+    pub misfit : fits p ≡ false → Answers p out (plain partsMisfit) out
+    unfolding blockMade
+    misfit h = made-none (rw h)
+
+    module _ (f : fits p ≡ true) where
+      pub ragged : none ≡ countsIn (p .head .version) (p .names) (p .metadata) (p .objects) (p .timers) → Answers p out (plain partsMisfit) out
+      unfolding blockMade
+      ragged h = made-none (rw f (go (rowsMade p) (h ∙ counts-made p)))
+        where
+          go : (o : Option Block) → none ≡ Option·map countsOf o → o ≡ none
+          go none e = refl
+          go (some b) e = absurd (Option·none-ne-some (countsOf b) e)
+
+-- ---- the block that is made, by its counts
+module _ (p : Parts) (c : Counts) (f : fits p ≡ true) (h : some c ≡ countsIn (p .head .version) (p .names) (p .metadata) (p .objects) (p .timers)) where
+  counted : (b : Block) × (rowsMade p ≡ some b) × (countsOf b ≡ c)
+  counted = map-eq-some-iff countsOf (rowsMade p) .0 (sym (h ∙ counts-made p))
+
+  pub blockIs : Block
+  blockIs = counted .0
+
+  made-is : blockMade p ≡ some blockIs
+  unfolding blockMade blockIs
+  made-is = rw f (counted .1)
+
+  parts-are : MadeOf p blockIs
+  parts-are = made-of p blockIs made-is
+
+  count-is : countsOf blockIs ≡ c
+  unfolding blockIs
+  count-is = counted .2
+
+  pub record Judgeable : Type 0 where
+    pub names : Rows nameFrame (p .names) (c .names) (blockIs .names)
+    pub metadata : Rows (metadataFrame (p .head .version)) (p .metadata) (c .metadata) (blockIs .metadata)
+    pub objects : Rows objectRow (p .objects) (c .objects) (blockIs .objects)
+    pub timers : Rows timerFrame (p .timers) (c .timers) (blockIs .timers)
+
+  pub judgeable : Judgeable
+  judgeable = let m = parts-are in record {
+    names = record { are = m .names .are; many = ap (λ (c : Counts). c .names) count-is };
+    metadata = record { are = m .metadata .are; many = ap (λ (c : Counts). c .metadata) count-is };
+    objects = record { are = m .objects .are; many = ap (λ (c : Counts). c .objects) count-is };
+    timers = record { are = m .timers .are; many = ap (λ (c : Counts). c .timers) count-is };
+  }
+
+  module _ (held : Held p) where
+    pub small : Small (p .names) × (Small (p .objects) × Small (p .timers))
+    small = let j = judgeable in (names-small (held .names) (j .names), (objects-small (held .objects) (j .objects), timers-small (held .timers) (j .timers)))
+
+    -- the bytes that are laid
+    bytes-are : block all .encode blockIs ≡ blockBytes (p .head) c (p .param0) (p .param1) (p .param2) (p .names) (p .metadata) (p .objects) (p .timers)
+    bytes-are =
+        let j = judgeable in
+        let b = blockIs in
+        ap (block all .encode) (sym (parts-are .same))
+        ∙ encoded p c (b .names) (b .metadata) (b .objects) (b .timers) (held .param1) (held .param2) (j .names .many) (j .metadata .many) (j .objects .many) (j .timers .many)
+        ∙ rw (
+          ← rows-bytes nameFrame (held .names) (j .names) (nameRow all) (name-looser all),
+          ← rows-bytes (metadataFrame (p .head .version)) (held .metadata) (j .metadata) (metadataRow (p .head .version)) (metadata-looser (p .head .version)),
+          ← rows-bytes objectRow (held .objects) (j .objects) (λ _. objectRow) (λ _. looser-self objectRow),
+          ← rows-bytes timerFrame (held .timers) (j .timers) timerRow timer-looser,
+        )
+
+    module _ (v : isVersion (p .head .version) ≡ true) (out : List ℕ) where
+      abbrev said : Read Fault (Unit {0})
+      said = ended (verdict all (block all .encode (made p (blockIs .names) (blockIs .metadata) (blockIs .objects) (blockIs .timers))))
+
+      said-is : said ≡ ended (verdict all (block all .encode blockIs))
+      said-is = ap (λ (b : Block). ended (verdict all (block all .encode b))) (parts-are .same)
+
+      written-by : writeOf p (length out) ≡ judgedBytes (length out) (block all .encode blockIs) (verdict all (block all .encode blockIs))
+      unfolding writeOf
+      written-by = rw (v, made-is)
+
+      pub refuses : {e : Fault} {q : ℕ} → refused e q ≡ said → Answers p out (refusal (number e) 0 q) out
+      refuses {e} {q} i = answers-by p out (refusal (number e) 0 q) (written-by ∙ ap (judgedBytes (length out) (block all .encode blockIs)) (ended-refused (verdict all (block all .encode blockIs)) (i ∙ said-is)))
+
+      module _ {n : ℕ} (i : done tt n ≡ said) where
+        taken-as : (b : Block) × (verdict all (block all .encode blockIs) ≡ done b n)
+        taken-as = ended-done (verdict all (block all .encode blockIs)) (i ∙ said-is)
+
+        long : n ≡ length (block all .encode blockIs)
+        long = taken (block all .encode blockIs) (taken-as .0) n (block-bytes p blockIs held v parts-are) .0 (taken-as .1) .2
+
+        by-room : writeOf p (length out) ≡ pick (leb (length (block all .encode blockIs)) (length out)) (good (block all .encode blockIs)) (plain noRoom)
+        by-room = written-by ∙ ap (judgedBytes (length out) (block all .encode blockIs)) (taken-as .1)
+
+        pub no-room : length out < n → Answers p out (plain noRoom) out
+        no-room h = answers-by p out (plain noRoom) (by-room ∙ rw (lt-leb (length (block all .encode blockIs)) (length out) (omega (arith, long))))
+
+        module _ (g : n ≤ length out) where
+          pub room : length (blockBytes (p .head) c (p .param0) (p .param1) (p .param2) (p .names) (p .metadata) (p .objects) (p .timers)) ≤ length out
+          room = omega (arith, long, ap length bytes-are)
+
+          pub writes : {after : List ℕ} → after ≡ laid 0 (blockBytes (p .head) c (p .param0) (p .param1) (p .param2) (p .names) (p .metadata) (p .objects) (p .timers)) out → Answers p out (good n) after
+          writes {after} e =
+              let s = block all .encode blockIs in
+              let w : writeOf p (length out) ≡ good s = by-room ∙ rw (le-leb (length s) (length out) (omega (arith, long))) in
+              let x = answers-by p out (good s) w in
+              (ap good long ∙ x .0, e ∙ ap (λ (b : List ℕ). laid 0 b out) (sym bytes-are) ∙ rw zero-add (x .1))

@@ -1,0 +1,38 @@
+use borrow.Author.Needs.{needs}
+use Rattle.writer.proofs.judge.early_says.Statement.{statement}
+use Rattle.writer.proofs.judge.early_says.Tie as tie
+use Rattle.writer.proofs.judge.early_says.Reads as reads
+use Rattle.writer.proofs.judge.early_says.Lts as lts
+use Rattle.writer.proofs.judge.timers_of_24_say.Reads as timers-of-24-say-reads
+use Rattle.wire.specs.Bytes.{Bytes}
+use Rattle.wire.specs.Read.{reach}
+use Rattle.mapblock.specs.Told.{toldReach}
+use native.Mathlib.Omega.{arith}
+use denote.Ref.{now}
+use mathlib.Core.Path.{_≡_, ap, sym, _∙_}
+use Rattle.writer.proofs.TimersSaid.{early-of-24, early-of-23, early-other}
+
+-- src/judge.rt:87:9
+timers-of-24-say-requires : tie.Need-timers-of-24-say-requires
+timers-of-24-say-requires c κs = search needs
+
+-- src/judge.rt:87:9
+returns : tie.Need-returns
+returns c =
+    let b : Bytes (now (c .before .before .before .before .args .timers)) = λ i. c .before .before .before .shared-slice-known .given i .fits in
+    ((λ l w k t. early-of-24 (c .before .before .before .before .args .head) b w k (search needs) (c .timers-of-24-say .ensures .0 l w)), c .timers-of-24-say .ensures .1)
+
+-- src/judge.rt:90:9
+returns-2 : tie.Need-returns-2
+returns-2 c =
+    let b : Bytes (now (c .before .before .before .before .before .args .timers)) = λ i. c .before .before .before .before .shared-slice-known .given i .fits in
+    ((λ l w k t. early-of-23 (c .before .before .before .before .before .args .head) b w k t (search needs)), omega arith)
+
+-- src/judge.rt:82:1
+returns-3 : tie.Need-returns-3
+returns-3 c =
+    let b : Bytes (now (c .before .before .before .before .before .args .timers)) = λ i. c .before .before .before .before .shared-slice-known .given i .fits in
+    ((λ l w k t. early-other (c .before .before .before .before .before .args .head) b w k t (c .before .before .if1 .left) (c .if2 .left)), omega arith)
+
+pub early-says-spec : {M : Type 1} → statement M
+early-says-spec = tie.close (tie.spec timers-of-24-say-requires returns returns-2 returns-3)

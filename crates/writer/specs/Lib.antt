@@ -1,0 +1,9 @@
+-- What the writer takes and answers, and what holds of it.
+pub mod Frames
+pub mod Parts
+pub mod Write
+pub mod Theorems
+-- What the functions of this crate promise each other.
+pub mod Sections
+pub mod Said
+pub mod Pieces

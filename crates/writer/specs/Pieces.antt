@@ -1,0 +1,71 @@
+-- The bytes of a block as the code lays them, from the sections' bytes and the number of their rows.
+use Prim.Native.Nat.{ℕ, _+_}
+use mathlib.Core.List.{List, [], _++_}
+use mathlib.Core.Path.{_≡_}
+use lib.Dec.{eqb}
+use lib.ListN.{length}
+use Rattle.wire.specs.Choice.{pick}
+use Rattle.wire.specs.Bytes.{spell}
+use Rattle.wire.specs.Store.{laid}
+use Rattle.wire.specs.Format.{encodeItems}
+use Rattle.wire.specs.Formats.{number}
+use Rattle.mapblock.specs.Layout.{since, before, width}
+use Rattle.mapblock.specs.declared.head.Head.{Head}
+use Rattle.mapblock.specs.declared.fault.Fault.the-variants as fault
+use Rattle.writer.specs.declared.counts.Counts.{Counts}
+
+abbrev pub openingBytes : Head → List ℕ
+openingBytes h = spell 1 (h .version) ++ (spell 1 (h .flags) ++ pick (since 27 (h .version)) (spell 2 (h .lighting)) [])
+
+-- a count, and the rows
+abbrev pub listBytes : ℕ → List ℕ → List ℕ
+listBytes count rows = spell 2 count ++ rows
+
+abbrev pub savedBytes : ℕ → ℕ → List ℕ → List ℕ
+savedBytes time count rows = spell 4 time ++ (spell 1 0 ++ listBytes count rows)
+
+-- entries of w bytes each
+abbrev pub entryBytes : ℕ → List ℕ → List ℕ
+entryBytes w l = encodeItems (λ _. number {ends = fault.Ends} w) [] l
+
+abbrev pub nodesBytes : ℕ → List ℕ → List ℕ → List ℕ → List ℕ
+nodesBytes v param0 param1 param2 = spell 1 (width v) ++ (spell 1 2 ++ (entryBytes (width v) param0 ++ (param1 ++ param2)))
+
+abbrev pub metadataBytes : ℕ → ℕ → List ℕ → List ℕ
+metadataBytes v count rows = spell (pick (since 23 v) 1 2) (pick (since 28 v) 2 1) ++ listBytes count rows
+
+abbrev pub earlyBytes : ℕ → ℕ → ℕ → List ℕ → List ℕ
+earlyBytes v timer count rows =
+    pick (eqb v 24) (spell 1 timer ++ pick (eqb timer 1) (listBytes count rows) [])
+    (pick (eqb v 23) (spell 1 0) [])
+
+abbrev pub objectsBytes : ℕ → List ℕ → List ℕ
+objectsBytes count rows = spell 1 0 ++ listBytes count rows
+
+abbrev pub lateBytes : ℕ → ℕ → List ℕ → List ℕ
+lateBytes v count rows = pick (since 25 v) (spell 1 10 ++ listBytes count rows) []
+
+-- steps 1 to 4; names stand in front in version 29
+abbrev pub frontBytes : Head → ℕ → List ℕ → List ℕ → List ℕ → List ℕ → List ℕ
+frontBytes h count names param0 param1 param2 =
+    openingBytes h
+    ++ (pick (since 29 (h .version)) (savedBytes (h .timestamp) count names) []
+    ++ nodesBytes (h .version) param0 param1 param2)
+
+-- steps 5 to 8
+abbrev pub restBytes : Head → Counts → List ℕ → List ℕ → List ℕ → List ℕ → List ℕ
+restBytes h c names metadata objects timers =
+    metadataBytes (h .version) (c .metadata) metadata
+    ++ (earlyBytes (h .version) (h .timer) (c .timers) timers
+    ++ (objectsBytes (c .objects) objects
+    ++ (pick (before 29 (h .version)) (savedBytes (h .timestamp) (c .names) names) []
+    ++ lateBytes (h .version) (c .timers) timers)))
+
+unfoldable pub blockBytes : Head → Counts → List ℕ → List ℕ → List ℕ → List ℕ → List ℕ → List ℕ → List ℕ → List ℕ
+blockBytes h c param0 param1 param2 names metadata objects timers =
+    frontBytes h (c .names) names param0 param1 param2 ++ restBytes h c names metadata objects timers
+
+-- bytes laid into a buffer at a place, and where they end
+pub record PutAt (at : ℕ) (bytes before after : List ℕ) (end : ℕ) : Type 0 where
+  pub ends : end ≡ at + length bytes
+  pub lays : after ≡ laid at bytes before

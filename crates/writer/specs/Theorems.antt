@@ -1,0 +1,77 @@
+-- The round trip: demand 2, "what was read writes back to the same bytes, and what was written reads back to the same parts".
+-- proofs/RoundTrip.antt proves it.
+use Prim.Native.Nat.{ℕ, _<_, _≤_}
+use mathlib.Core.Path.{_≡_}
+use mathlib.Core.List.{List, _++_}
+use lib.ListN.{length, getD, take, drop}
+use Rattle.wire.specs.Bytes.{Bytes}
+use Rattle.wire.specs.Read.{done}
+use Rattle.wire.specs.Answer.{Answer, good, refusal, mapAnswer, lent}
+use Rattle.mapblock.specs.Data.{Block}
+use Rattle.mapblock.specs.Layout.{all}
+use Rattle.mapblock.specs.Block.{verdict}
+use Rattle.mapblock.specs.Valid.{U8, U16, U32}
+use Rattle.mapblock.specs.Sections.{sections, within}
+use Rattle.writer.specs.Parts.{Parts, partsOf}
+use Rattle.writer.specs.Write.{writeOf}
+
+-- what the reader hands out of the bytes s, which it takes with the block b: head, lists, and sections as parts of s
+abbrev pub handedOut : List ℕ → Block → Parts
+handedOut s b =
+    partsOf (b .head) (b .nodes .param0) (b .nodes .param1) (b .nodes .param2)
+    (within s (sections b .names)) (within s (sections b .metadata)) (within s (sections b .objects)) (within s (sections b .timers))
+
+-- what the types of a call hold
+pub record Held (p : Parts) : Type 0 where
+  pub version : U8 (p .head .version)
+  pub flags : U8 (p .head .flags)
+  pub lighting : U16 (p .head .lighting)
+  pub timestamp : U32 (p .head .timestamp)
+  pub timer : U8 (p .head .timer)
+  pub param0 : (i : ℕ) → U16 (getD (p .param0) i 0)
+  pub param1 : Bytes (p .param1)
+  pub param2 : Bytes (p .param2)
+  pub names : Bytes (p .names)
+  pub metadata : Bytes (p .metadata)
+  pub objects : Bytes (p .objects)
+  pub timers : Bytes (p .timers)
+
+-- what a writer answers, and what the buffer lent holds then
+abbrev pub Writer : Type 0
+Writer = Parts → List ℕ → Answer ℕ × List ℕ
+
+-- the one that the contract of `write` cites
+abbrev pub written : Writer
+written p out = (mapAnswer length (writeOf p (length out)), lent (writeOf p (length out)) out)
+
+-- What was read writes back to the same bytes, in any room that holds them.
+abbrev pub WritesBackBy : Writer → Type 0
+WritesBackBy w = (s : List ℕ) (b : Block) (n : ℕ) → Bytes s → verdict all s ≡ done b n → (out : List ℕ) → length s ≤ length out
+    → (w (handedOut s b) out .0 ≡ good (length s)) × (w (handedOut s b) out .1 ≡ s ++ drop (length s) out)
+
+-- bytes that the reader takes, with the parts p
+pub record ReadAs (s : List ℕ) (p : Parts) : Type 0 where
+  pub b : Block
+  pub taken : verdict all s ≡ done b (length s)
+  pub parts : handedOut s b ≡ p
+
+-- What was written, n bytes at the front of the buffer, reads back to the same parts; the rest of the buffer is as it was.
+abbrev pub ReadsBackBy : Writer → Type 0
+ReadsBackBy w = (p : Parts) (out : List ℕ) (n : ℕ) → Held p → w p out .0 ≡ good n
+    → (n ≤ length out) × ReadAs (take n (w p out .1)) p × (drop n (w p out .1) ≡ drop n out)
+
+abbrev pub RoundTrip : Type 0
+RoundTrip = WritesBackBy written × ReadsBackBy written
+
+-- ---- what may not slip through: document 01, the section of that name
+-- a writer that does nothing
+abbrev pub DoesNothing : Writer → Type 0
+DoesNothing w = (p : Parts) (out : List ℕ) → w p out .1 ≡ out
+
+-- a writer that refuses everything
+abbrev pub RefusesAll : Writer → Type 0
+RefusesAll w = (p : Parts) (out : List ℕ) → (n : ℕ) × (r : ℕ) × (o : ℕ) × (w p out .0 ≡ refusal n r o)
+
+-- A writer that writes back what was read is neither.
+abbrev pub ShutOut : Type 0
+ShutOut = (w : Writer) → WritesBackBy w → (DoesNothing w → ⊥) × (RefusesAll w → ⊥)

@@ -1,0 +1,76 @@
+// Parts that fit, but for the rows of the sections.
+use mapblock::head::Head;
+use mapblock::read::are_whole;
+ghost use mathlib.Core.Path.{_≡_};
+ghost use mathlib.Core.List.{[]};
+ghost use Rattle.writer.specs.Parts.{carries, allBelow, narrow, timed, partsOf, fits};
+
+// Whether the head has no value that its version does not carry.
+fn carries(head: Head) -> bool
+    ensures { λ r. ⌜ r ≡ carries head ⌝ }
+{
+    if head.version < 27 {
+        if head.lighting != 65535 {
+            return false;
+        }
+    }
+    if head.version == 24 {
+        return true;
+    }
+    head.timer == 0
+}
+
+// Whether all entries are bytes.
+fn all_bytes(entries: &[u16]) -> bool
+    ensures { λ r. ⌜ r ≡ allBelow 256 (now (entries .entry)) ⌝ }
+{
+    let mut i: usize = 0;
+    while i < entries.len() {
+        if 255 < entries[i] {
+            return false;
+        }
+        i += 1;
+    }
+    true
+}
+
+// Whether param0 has the version's width.
+fn narrow(version: u8, param0: &[u16]) -> bool
+    ensures { λ r. ⌜ r ≡ narrow version (now (param0 .entry)) ⌝ }
+{
+    if 24 <= version {
+        return true;
+    }
+    all_bytes(param0)
+}
+
+// Whether timers may stand in the block, or there are none.
+fn timed(head: Head, timers: &[u8]) -> bool
+    ensures { λ r. ⌜ r ≡ timed head (now (timers .entry)) ⌝ }
+{
+    if 25 <= head.version {
+        return true;
+    }
+    if head.version == 24 {
+        if head.timer == 1 {
+            return true;
+        }
+    }
+    timers.len() == 0
+}
+
+// Whether head, lists and timers fit together.
+pub fn fit(head: Head, param0: &[u16], param1: &[u8], param2: &[u8], timers: &[u8]) -> bool
+    ensures { λ r. ⌜ r ≡ fits (partsOf head (now (param0 .entry)) (now (param1 .entry)) (now (param2 .entry)) [] [] [] (now (timers .entry))) ⌝ }
+{
+    if !are_whole(param0.len(), param1.len(), param2.len()) {
+        return false;
+    }
+    if !carries(head) {
+        return false;
+    }
+    if !narrow(head.version, param0) {
+        return false;
+    }
+    timed(head, timers)
+}
