@@ -1,5 +1,6 @@
 -- What a host is handed of an answer: the number, the record and the offset, which are 0 on 0, and the length of the result, which is 0 on a refusal.
 use Prim.Native.Nat.{ℕ}
+use Rattle.wire.specs.Answer.{Answer, good, refusal}
 use Rattle.anowhetele.specs.declared.answer.AnowAnswer.{AnowAnswer}
 
 abbrev pub doneWith : ℕ → AnowAnswer
@@ -7,3 +8,8 @@ doneWith n = record { number = 0; index = 0; offset = 0; length = n }
 
 abbrev pub refusedWith : ℕ → ℕ → ℕ → AnowAnswer
 refusedWith n r o = record { number = n; index = r; offset = o; length = 0 }
+
+-- of a call that tells a length alone
+abbrev pub handed : Answer ℕ → AnowAnswer
+handed (good n) = doneWith n
+handed (refusal n r o) = refusedWith n r o

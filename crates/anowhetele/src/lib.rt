@@ -5,3 +5,4 @@ pub mod light;
 pub mod numbers;
 pub mod places;
 pub mod rows;
+pub mod writing;

@@ -7,6 +7,8 @@ pub const OUT_OF_RANGE: u32 = 9;
 
 pub const BAD_PART: u32 = 10;
 
+pub const NO_ROOM: u32 = 11;
+
 pub const PARTS_MISFIT: u32 = 12;
 
 pub const NO_SUCH: u32 = 16;

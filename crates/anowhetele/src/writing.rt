@@ -1,0 +1,51 @@
+// The writer.
+use crate::answer::AnowAnswer;
+use crate::answer::done;
+use crate::answer::plain;
+use crate::answer::refused;
+use crate::numbers::NO_ROOM;
+use crate::numbers::PARTS_MISFIT;
+use crate::numbers::VERSION_OUTSIDE;
+use mapblock::head::Head;
+use writer::write::WriteAnswer;
+use writer::write::write;
+ghost use mathlib.Core.Path.{_≡_};
+ghost use lib.ListN.{length};
+ghost use Rattle.wire.specs.Answer.{lent, mapAnswer};
+ghost use Rattle.writer.specs.Parts.{partsOf};
+ghost use Rattle.writer.specs.Write.{writeOf};
+ghost use Rattle.anowhetele.specs.Answers.{handed};
+
+#[no_mangle]
+pub extern "C" fn anow_write(
+    head: Head,
+    param0: &[u16],
+    param1: &[u8],
+    param2: &[u8],
+    names: &[u8],
+    metadata: &[u8],
+    objects: &[u8],
+    timers: &[u8],
+    out: &mut [u8],
+) -> AnowAnswer
+    ensures { λ r. ⌜ r ≡ handed (mapAnswer length (writeOf (partsOf head (now (param0 .entry)) (now (param1 .entry)) (now (param2 .entry)) (now (names .entry)) (now (metadata .entry)) (now (objects .entry)) (now (timers .entry))) (length (now (out .entry))))) ⌝ }
+    ensures { λ _. ⌜ now (out .exit) ≡ lent (writeOf (partsOf head (now (param0 .entry)) (now (param1 .entry)) (now (param2 .entry)) (now (names .entry)) (now (metadata .entry)) (now (objects .entry)) (now (timers .entry))) (length (now (out .entry)))) (now (out .entry)) ⌝ }
+{
+    match write(
+        head,
+        param0,
+        param1,
+        param2,
+        names,
+        metadata,
+        objects,
+        timers,
+        out,
+    ) {
+        WriteAnswer::Written(n) => done(n),
+        WriteAnswer::BadVersion => plain(VERSION_OUTSIDE),
+        WriteAnswer::Misfit => plain(PARTS_MISFIT),
+        WriteAnswer::Refused(f, p) => refused(f, p),
+        WriteAnswer::NoRoom => plain(NO_ROOM),
+    }
+}
