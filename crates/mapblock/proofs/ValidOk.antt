@@ -143,7 +143,7 @@ entries-ok w l = (
   (λ g. entries-back w 4096 [] l (g .size) (g .each)),
 )
 
-nodes-ok : (v : ℕ) (n : Nodes) → nodes v .Ok n ↔ NodesGood v n
+pub nodes-ok : (v : ℕ) (n : Nodes) → nodes v .Ok n ↔ NodesGood v n
 unfolding nodes params along _⨾_
 nodes-ok v n = (there, back)
   where
@@ -199,7 +199,7 @@ saved-ok x =
     ((λ h. (h .0, rows .0 (list .0 (h .1)))), λ h. (h .0, list .1 (rows .1 (h .1))))
 
 -- they stand in front or behind
-slot-ok : {A : Type 0} (f : Form A) (a₀ a : A) (c : Bool) → (only c a₀ f .Ok (pick c a a₀) × only (not c) a₀ f .Ok (pick c a₀ a)) ↔ f .Ok a
+pub slot-ok : {A : Type 0} (f : Form A) (a₀ a : A) (c : Bool) → (only c a₀ f .Ok (pick c a a₀) × only (not c) a₀ f .Ok (pick c a₀ a)) ↔ f .Ok a
 unfolding nothing
 slot-ok f a₀ a true = ((λ h. h .0), λ h. (h, refl))
 slot-ok f a₀ a false = ((λ h. h .1), λ h. (refl, h))
@@ -211,7 +211,7 @@ objects-ok l =
     let rows = each-ok ObjectGood objectRow object-ok 2 l in
     ((λ h. let x = rows .0 (list .0 h) in record { count = x .0; each = x .1 }), λ g. list .1 (rows .1 (g .count, g .each)))
 
-list-version : (c d : Bool) → pick c 2 1 < 256 ^ pick d 1 2
+pub list-version : (c d : Bool) → pick c 2 1 < 256 ^ pick d 1 2
 list-version true true = lit< tt
 list-version true false = lit< tt
 list-version false true = lit< tt

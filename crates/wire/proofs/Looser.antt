@@ -5,14 +5,14 @@ use mathlib.Core.Path.{_≡_, refl, ap, sym, _∙_}
 use mathlib.Core.Logic.{_⊎_, inl, inr}
 use mathlib.Core.List.{List, [], _∷_, _++_, append-assoc, append-nil}
 use mathlib.Core.Bool.{Bool, true, false}
-use native.Mathlib.Omega.{arith}
 use lib.ListN.{length, drop, length-append}
 use lib.Seq.{drop-append-seam}
-use Rattle.wire.specs.Choice.{pick, or-so}
+use Rattle.wire.specs.Choice.{pick}
 use Rattle.wire.specs.Bytes.{Bytes}
 use Rattle.wire.specs.Read.{Read, done, refused, bind, mapRead, onward, never, same-refusal, bind-done, map-done, map-refused, onward-done, onward-refused, pick-done}
 use Rattle.wire.specs.Format.{Format, tested, such, _⨾_, next, pair, along, items, readItems, encodeItems, local}
 use Rattle.wire.specs.Formats.{number, listed}
+use Rattle.wire.proofs.EveryFormat.{every-format}
 
 pub record Looser {E : Type 0} {ends : E} {A : Type 0} (strict loose : Format E ends A) : Type 0 where
   pub same : (a : A) → strict .encode a ≡ loose .encode a
@@ -152,6 +152,10 @@ module _ {E : Type 0} {ends : E} {A : Type 0} (item loose : List A → Format E 
   unfolding listed
   looser-listed k = looser-along _ _ _ _ _ _ (looser-then (number k) (number k) (items item) (items loose) (looser-self (number k)) looser-items) _ _ _ _
 
+-- what the stricter one can write, the looser one can
+pub looser-ok : {E : Type 0} {ends : E} {A : Type 0} {f g : Format E ends A} → Looser f g → (a : A) → f .Ok a → g .Ok a
+looser-ok {f = f} {g = g} l a ok = g .backward (f .encode a) a _ (f .bytes a ok) (l .takes (f .encode a) a _ (every-format f .reads-back a ok)) .ok
+
 -- ---- what is said of a value's bytes, whatever follows them
 pub record Settled {E : Type 0} {ends : E} {A : Type 0} (f : Format E ends A) (a : A) : Type 0 where
   pub stays : (t : List ℕ) → f .read (f .encode a ++ t) ≡ f .read (f .encode a)
@@ -213,21 +217,3 @@ module _ {E : Type 0} {ends : E} {A B : Type 0} (f : Format E ends A) (g : A →
   pub said-then : (f ⨾ g) .read ((f ⨾ g) .encode (pair a b)) ≡ followed (f .read (f .encode a)) (length (f .encode a)) (pair a) (g a .read (g a .encode b))
   unfolding _⨾_
   said-then = behind (g a .encode b)
-
-  module _ (v : Settled (g a) b) where
-    itself-by : (r : Read E A) → f .read (f .encode a) ≡ r → (c : A × B) (n : ℕ) → followed r (length (f .encode a)) (pair a) (g a .read (g a .encode b)) ≡ done c n
-        → (c ≡ pair a b) × (n ≡ length (f .encode a) + length (g a .encode b))
-    itself-by (done x m) h c n z =
-        let y = onward-done (length (f .encode a)) (pair a) (g a .read (g a .encode b)) c n z in
-        let k = v .itself (y .0) (y .1) (y .2) in
-        (sym (y .3) ∙ ap (pair a) (k .0), sym (y .4) ∙ ap (λ (i : ℕ). length (f .encode a) + i) (k .1))
-    itself-by (refused e p) h c n z = never z
-
-    pub settled-then : Settled (f ⨾ g) (pair a b)
-    unfolding _⨾_
-    settled-then = record {
-      stays = λ t.
-          ap ((f ⨾ g) .read) (append-assoc (f .encode a) (g a .encode b) t) ∙ behind (g a .encode b ++ t)
-          ∙ ap (followed (f .read (f .encode a)) (length (f .encode a)) (pair a)) (v .stays t) ∙ sym (behind (g a .encode b));
-      itself = λ c n h. rw length-append (itself-by (f .read (f .encode a)) refl c n (sym (behind (g a .encode b)) ∙ h));
-    }

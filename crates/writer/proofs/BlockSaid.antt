@@ -1,27 +1,27 @@
 -- What is said of a block's bytes, from what is said of its lists.
-use Prim.Native.Nat.{ℕ, zero, suc, _+_, _*_, _^_, _<_, _≤_}
+use Prim.Native.Nat.{ℕ, _+_, _^_, _<_, _≤_}
 use mathlib.Core.Path.{_≡_, refl, ap, sym, _∙_}
-use mathlib.Core.Option.{Option, some, none}
-use mathlib.Core.List.{List, [], append-nil}
+use mathlib.Core.Option.{some, none}
+use mathlib.Core.List.{List}
 use mathlib.Core.Bool.{Bool, true, false}
 use native.Mathlib.Nat.{add-assoc}
 use native.Mathlib.Omega.{arith}
-use lib.Dec.{leb, eqb, lit<}
+use lib.Dec.{eqb, lit<}
 use lib.ListN.{length, length-append}
-use borrow.Author.Tests.{eqb-true, eq-eqb, le-leb, lt-leb, leb-true, leb-false}
+use borrow.Author.Tests.{eqb-true, eq-eqb, le-leb, lt-leb}
 use Rattle.wire.specs.Choice.{pick, and-yes}
 use Rattle.wire.specs.Bytes.{Bytes}
 use Rattle.wire.specs.Read.{Read, done, refused, onward, never, onward-done}
-use Rattle.wire.specs.Format.{nothing, such, _⨾_, along, pair, encodeItems}
-use Rattle.wire.specs.Formats.{_▹_, number, listed, behind, fixed, only, u16}
+use Rattle.wire.specs.Format.{nothing, such, _⨾_, along}
+use Rattle.wire.specs.Formats.{_▹_, number, listed, only, u16}
 use Rattle.wire.proofs.EveryFormat.{every-format}
 use Rattle.wire.proofs.Looser.{Settled, settled, settled-ok, looser-self}
 use Rattle.mapblock.specs.Inventory.{Form}
-use Rattle.mapblock.specs.Data.{NameRow, MetadataRow, ObjectRow, TimerRow, Saved, Timers, Nodes, Block, unsaved, untimed}
-use Rattle.mapblock.specs.Layout.{since, before, all, width, unmapped, isVersion, opening, saved, nodes, metadata, earlyTimers, objects, objectRow, lateTimers, front, rest, steps}
-use Rattle.mapblock.specs.Block.{block, piecesOf, openingOf, savedOf, contentId, idAt, stray, strayFrom, param0At, verdict}
+use Rattle.mapblock.specs.Data.{NameRow, MetadataRow, ObjectRow, TimerRow, Saved, Timers, Nodes, Block, unsaved}
+use Rattle.mapblock.specs.Layout.{since, all, isVersion, opening, saved, nodes, metadata, earlyTimers, objects, objectRow, lateTimers, front, rest, steps}
+use Rattle.mapblock.specs.Block.{block, piecesOf, stray, param0At, verdict}
 use Rattle.mapblock.specs.Sections.{found}
-use Rattle.mapblock.specs.Table.{freeIn, Tabled}
+use Rattle.mapblock.specs.Table.{freeIn}
 use Rattle.mapblock.specs.Told.{ended}
 use Rattle.mapblock.specs.declared.fault.Fault.{Fault}
 use Rattle.mapblock.specs.declared.fault.Fault.the-variants as fault
@@ -29,16 +29,18 @@ use Rattle.mapblock.specs.declared.head.Head.{Head}
 use Rattle.mapblock.proofs.Readings.{ended-map, ended-done, ended-refused}
 use Rattle.mapblock.proofs.ListLengths.{num-length, objects-rows-length}
 use Rattle.mapblock.proofs.Entries.{width-range, nodes-done}
-use Rattle.mapblock.proofs.GoodRows.{either, since-ok}
+use Rattle.mapblock.proofs.GoodRows.{either, since-ok, fixed-ok}
+use Rattle.mapblock.proofs.ValidOk.{list-version}
 use Rattle.mapblock.proofs.Fronts.{opening-length}
 use Rattle.mapblock.proofs.Verdicts.{verdict-refused, verdict-stray, verdict-done}
-use Rattle.writer.specs.Frames.{nameFrame, metadataFrame, timerFrame}
-use Rattle.writer.specs.Parts.{carries, timed}
+use Rattle.writer.specs.Frames.{nameFrame, metadataFrame}
+use Rattle.writer.specs.Parts.{carries}
 use Rattle.writer.specs.Sections.{Rows}
-use Rattle.writer.specs.Said.{said, openingOn, savedOn, savedFront, savedBehind, timersEarly, timersLate, openingLength, listsLength, SavedSaid, FrontSaid, ending, EndingSaid, RestSaid, strayAmong}
-use Rattle.writer.proofs.Framed.{savedFrame, saved-looser, metadataListFrame, metadata-list-looser, earlyFrame, early-looser}
+use Rattle.writer.specs.Said.{said, openingOn, savedOn, savedFront, savedBehind, timersEarly, timersLate, openingLength, listsLength, SavedSaid, FrontSaid, ending, EndingSaid, RestSaid}
+use Rattle.writer.proofs.Fitting.{unlit}
+use Rattle.writer.proofs.Framed.{saved-looser, metadataListFrame, metadata-list-looser}
 use Rattle.writer.proofs.RowsSaid.{rows-ok, rows-bytes, saved-ok}
-use Rattle.writer.proofs.Says.{onward-none, onward-thrice, said-ok, says-refused, says-length, says-on}
+use Rattle.writer.proofs.Says.{onward-none, onward-thrice, said-ok, says-refused, says-on}
 
 -- ---- behind the static objects
 module _ (h : Head) (l : List NameRow) (k : List TimerRow) where
@@ -69,15 +71,8 @@ module _ (h : Head) (l : List NameRow) (k : List TimerRow) where
     }
 
 -- ---- what follows the node data
-metadata-ok : (v : ℕ) {s : List ℕ} {count : ℕ} {m : List MetadataRow} → Bytes s → Rows (metadataFrame v) s count m → metadataListFrame v .Ok m
-unfolding behind along _⨾_ such number
-metadata-ok v b w = ((few (since 23 v) (since 28 v), eq-eqb (pick (since 28 v) 2 1) (pick (since 28 v) 2 1) refl), rows-ok (metadataFrame v) b w)
-  where
-    few : (c d : Bool) → pick d 2 1 < 256 ^ pick c 1 2
-    few true true = lit< tt
-    few true false = lit< tt
-    few false true = lit< tt
-    few false false = lit< tt
+pub metadata-ok : (v : ℕ) {s : List ℕ} {count : ℕ} {m : List MetadataRow} → Bytes s → Rows (metadataFrame v) s count m → metadataListFrame v .Ok m
+metadata-ok v {m = m} b w = fixed-ok _ _ fault.MetadataVersion (listed 2 λ _. metadataFrame v) m (list-version (since 28 v) (since 23 v)) .1 (rows-ok (metadataFrame v) b w)
 
 pub metadata-settled : (v : ℕ) {s : List ℕ} {count : ℕ} {m : List MetadataRow} → Bytes s → Rows (metadataFrame v) s count m → Settled (metadata v) m
 metadata-settled v b w = settled (metadata-list-looser v) _ (metadata-ok v b w)
@@ -85,9 +80,9 @@ metadata-settled v b w = settled (metadata-list-looser v) _ (metadata-ok v b w)
 pub saved-settled : (free : ℕ → Bool) {s : List ℕ} {count : ℕ} (x : Saved) → Bytes s → x .timestamp < 4294967296 → Rows nameFrame s count (x .names) → Settled (saved free) x
 saved-settled free x b h w = settled (saved-looser free) x (saved-ok x b h w)
 
-objects-ok : {s : List ℕ} {count : ℕ} {o : List ObjectRow} → Bytes s → Rows objectRow s count o → objects .Ok o
-unfolding objects behind along _⨾_ such number
-objects-ok b w = ((lit< tt, refl), rows-ok objectRow b w)
+pub objects-ok : {s : List ℕ} {count : ℕ} {o : List ObjectRow} → Bytes s → Rows objectRow s count o → objects .Ok o
+unfolding objects
+objects-ok {o = o} b w = fixed-ok 1 0 fault.ObjectVersion (listed 2 λ _. objectRow) o (lit< tt) .1 (rows-ok objectRow b w)
 
 pub objects-said : {s : List ℕ} {count : ℕ} {o : List ObjectRow} → Bytes s → Rows objectRow s count o → Settled objects o × (done tt (3 + length s) ≡ said objects o)
 objects-said {s} {count} {o} b w =
@@ -140,9 +135,7 @@ module _ (h : Head) (l : List NameRow) (m : List MetadataRow) (o : List ObjectRo
 -- ---- up to the end of the node data
 pub opening-ok : (h : Head) → h .version < 256 → h .flags < 256 → h .lighting < 65536 → isVersion (h .version) ≡ true → carries h ≡ true → opening .Ok (openingOn h)
 unfolding opening along _⨾_ such number
-opening-ok h a b c i f =
-    let unlit : h .version < 27 → h .lighting ≡ 65535 = λ k. eqb-true (h .lighting) 65535 (rw (lt-leb 27 (h .version) k) at (and-yes (pick (since 27 (h .version)) true (eqb (h .lighting) 65535)) _ f .0)) in
-    ((a, i), (b, since-ok u16 65535 (h .lighting) 27 (h .version) .1 ((λ _. c), unlit)))
+opening-ok h a b c i f = ((a, i), (b, since-ok u16 65535 (h .lighting) 27 (h .version) .1 ((λ _. c), unlit h f)))
 
 opening-short : (h : Head) → h .version < 27 → length (opening .encode (openingOn h)) ≡ 2
 unfolding opening along _⨾_ such nothing

@@ -50,29 +50,56 @@ unfolding allBelow
 below-back m [] h = refl
 below-back m (x ∷ l) h = yes-and (lt-ltb x m (h zero (omega arith))) (below-back m l (λ i k. h (suc i) (omega arith)))
 
--- ---- timers: those of 24 may hold rows with a timer byte of 1, and later ones may
+-- ---- the tests of `fits`
 module _ (h : Head) where
+  module _ (c : carries h ≡ true) where
+    carried : (pick (since 27 (h .version)) true (eqb (h .lighting) 65535) ≡ true) × (pick (eqb (h .version) 24) true (eqb (h .timer) 0) ≡ true)
+    carried = and-yes (pick (since 27 (h .version)) true (eqb (h .lighting) 65535)) (pick (eqb (h .version) 24) true (eqb (h .timer) 0)) c
+
+    -- under 27 there is no lighting
+    pub unlit : h .version < 27 → h .lighting ≡ 65535
+    unlit k = eqb-true (h .lighting) 65535 (pick-then (since 27 (h .version)) (eqb (h .lighting) 65535) (carried .0) (lt-leb 27 (h .version) k))
+
+    -- outside 24 the timer byte is 0
+    pub no-timer : (h .version ≡ 24 → ⊥) → h .timer ≡ 0
+    no-timer k = eqb-true (h .timer) 0 (pick-then (eqb (h .version) 24) (eqb (h .timer) 0) (carried .1) (ne-eqb (h .version) 24 k))
+
   abbrev mayHold : Bool
   mayHold = since 25 (h .version) || (eqb (h .version) 24 && eqb (h .timer) 1)
 
-  none-before : h .version < 24 → mayHold ≡ false
-  none-before k = rw (lt-leb 25 (h .version) (omega arith), ne-eqb (h .version) 24 (λ e. omega arith))
+  none-held : h .version < 25 → (h .version ≡ 24 → h .timer ≡ 1 → ⊥) → mayHold ≡ false
+  none-held k n = rw (lt-leb 25 (h .version) k) (none (eqb (h .version) 24) refl (eqb (h .timer) 1) refl)
+    where
+      none : (x : Bool) → eqb (h .version) 24 ≡ x → (y : Bool) → eqb (h .timer) 1 ≡ y → (x && y) ≡ false
+      none true e true f = absurd (n (eqb-true (h .version) 24 e) (eqb-true (h .timer) 1 f))
+      none true e false f = refl
+      none false e y f = refl
 
-  none-of-24 : h .version ≡ 24 → (h .timer ≡ 1 → ⊥) → mayHold ≡ false
-  none-of-24 e k = rw (lt-leb 25 (h .version) (omega arith), eq-eqb (h .version) 24 e, ne-eqb (h .timer) 1 k)
-
-  none-held : mayHold ≡ false → (h .version < 25) × (h .version ≡ 24 → h .timer ≡ 1 → ⊥)
-  none-held e =
-      let x = or-no (since 25 (h .version)) (eqb (h .version) 24 && eqb (h .timer) 1) e in
-      (leb-false 25 (h .version) (x .0), λ i j. no-false (rw (eq-eqb (h .version) 24 i, eq-eqb (h .timer) 1 j) at (x .1)))
+  -- before 25 there are timers only in 24 with the byte 1
+  pub no-timers : (timers : List ℕ) → timed h timers ≡ true → h .version < 25 → (h .version ≡ 24 → h .timer ≡ 1 → ⊥) → length timers ≡ 0
+  no-timers timers t k n = eqb-true (length timers) 0 (pick-then mayHold (eqb (length timers) 0) t (none-held k n))
 
   timed-back : (timers : List ℕ) → (h .version < 24 → length timers ≡ 0) → (h .version ≡ 24 → (h .timer ≡ 1 → ⊥) → length timers ≡ 0) → timed h timers ≡ true
   timed-back timers before of-24 = then-pick mayHold (eqb (length timers) 0) λ e.
-      let x = none-held e in
-      let is : 24 ≤ h .version → h .version ≡ 24 = λ k. omega (arith, x .0) in
-      eq-eqb (length timers) 0 (either 24 (h .version) (λ k. of-24 (is k) (x .1 (is k))) before)
+      let x = or-no (since 25 (h .version)) (eqb (h .version) 24 && eqb (h .timer) 1) e in
+      let low = leb-false 25 (h .version) (x .0) in
+      eq-eqb (length timers) 0 (either 24 (h .version)
+      (λ k. of-24 (omega arith) (λ t. no-false (let z : h .version ≡ 24 = omega arith in rw (eq-eqb (h .version) 24 z, eq-eqb (h .timer) 1 t) at (x .1))))
+      before)
 
--- ---- the tests of `fits`
+module _ (p : Parts) (f : fits p ≡ true) where
+  parted : (areWhole (length (p .param0)) (length (p .param1)) (length (p .param2)) ≡ true) × (carries (p .head) ≡ true) × ((narrow (p .head .version) (p .param0) && timed (p .head) (p .timers)) ≡ true)
+  parted = three-yes (areWhole (length (p .param0)) (length (p .param1)) (length (p .param2))) (carries (p .head)) (narrow (p .head .version) (p .param0) && timed (p .head) (p .timers)) f
+
+  pub fits-carries : carries (p .head) ≡ true
+  fits-carries = parted .1
+
+  pub fits-narrow : narrow (p .head .version) (p .param0) ≡ true
+  fits-narrow = and-yes (narrow (p .head .version) (p .param0)) (timed (p .head) (p .timers)) (parted .2) .0
+
+  pub fits-timed : timed (p .head) (p .timers) ≡ true
+  fits-timed = and-yes (narrow (p .head .version) (p .param0)) (timed (p .head) (p .timers)) (parted .2) .1
+
 pub fits-plain : (p : Parts) → (fits p ≡ true) ↔ Fitting p
 fits-plain p = (there, back)
   where
@@ -81,20 +108,17 @@ fits-plain p = (there, back)
 
     there : fits p ≡ true → Fitting p
     there h =
-        let x = three-yes (areWhole (length (p .param0)) (length (p .param1)) (length (p .param2))) (carries (p .head)) (narrow v (p .param0) && timed (p .head) (p .timers)) h in
-        let y = three-yes (eqb (length (p .param0)) 4096) (eqb (length (p .param1)) 4096) (eqb (length (p .param2)) 4096) (x .0) in
-        let c = and-yes (pick (since 27 v) true (eqb (p .head .lighting) 65535)) (pick (eqb v 24) true (eqb (p .head .timer) 0)) (x .1) in
-        let n = and-yes (narrow v (p .param0)) (timed (p .head) (p .timers)) (x .2) in
-        let none : mayHold (p .head) ≡ false → length (p .timers) ≡ 0 = λ e. eqb-true (length (p .timers)) 0 (pick-then (mayHold (p .head)) (eqb (length (p .timers)) 0) (n .1) e) in
+        let y = three-yes (eqb (length (p .param0)) 4096) (eqb (length (p .param1)) 4096) (eqb (length (p .param2)) 4096) (parted p h .0) in
+        let none = no-timers (p .head) (p .timers) (fits-timed p h) in
         record {
           size0 = eqb-true (length (p .param0)) 4096 (y .0);
           size1 = eqb-true (length (p .param1)) 4096 (y .1);
           size2 = eqb-true (length (p .param2)) 4096 (y .2);
-          lighting = λ k. eqb-true (p .head .lighting) 65535 (pick-then (since 27 v) _ (c .0) (lt-leb 27 v k));
-          timer = λ k. eqb-true (p .head .timer) 0 (pick-then (eqb v 24) _ (c .1) (ne-eqb v 24 k));
-          narrow = λ k. below-there 256 (p .param0) (pick-then (since 24 v) _ (n .0) (lt-leb 24 v k));
-          before-24 = λ k. none (none-before (p .head) k);
-          of-24 = λ e k. none (none-of-24 (p .head) e k);
+          lighting = unlit (p .head) (fits-carries p h);
+          timer = no-timer (p .head) (fits-carries p h);
+          narrow = λ k. below-there 256 (p .param0) (pick-then (since 24 v) (allBelow 256 (p .param0)) (fits-narrow p h) (lt-leb 24 v k));
+          before-24 = λ k. none (omega arith) (λ e. absurd (omega arith));
+          of-24 = λ e k. none (omega arith) (λ _. k);
         }
 
     back : Fitting p → fits p ≡ true

@@ -1,8 +1,8 @@
 -- The reader's verdict on the bytes of the block that parts make, from what is said of its front, its rest and its content ids.
-use Prim.Native.Nat.{ℕ, zero, suc, _+_, _-_, _*_, _<_, _≤_}
-use mathlib.Core.Path.{_≡_, refl, ap, sym, subst, _∙_}
-use mathlib.Core.Option.{Option, some, none, Option·none-ne-some}
-use mathlib.Core.List.{List, [], _++_}
+use Prim.Native.Nat.{ℕ, zero, suc, _+_, _-_, _*_, _<_}
+use mathlib.Core.Path.{_≡_, ap, sym, subst, _∙_}
+use mathlib.Core.Option.{some, none, Option·none-ne-some}
+use mathlib.Core.List.{List, _++_}
 use mathlib.Core.Bool.{Bool, true, false}
 use native.Mathlib.Omega.{arith}
 use lib.ListN.{length, getD, length-append}
@@ -10,23 +10,22 @@ use borrow.Author.Tests.{le-leb, lt-leb}
 use Rattle.wire.specs.Choice.{pick}
 use Rattle.wire.specs.Read.{Read, done, refused, onward}
 use Rattle.wire.specs.Format.{nothing, _⨾_}
-use Rattle.wire.specs.Formats.{_▹_, only}
+use Rattle.wire.specs.Formats.{only}
 use Rattle.wire.proofs.EveryFormat.{every-format}
 use Rattle.wire.proofs.Looser.{Settled, settled}
-use Rattle.mapblock.specs.Data.{NameRow, MetadataRow, ObjectRow, TimerRow, Nodes, Block, unsaved}
+use Rattle.mapblock.specs.Data.{NameRow, MetadataRow, ObjectRow, TimerRow, Block, unsaved}
 use Rattle.mapblock.specs.Layout.{since, all, width, unmapped, isVersion, opening, saved, nodes, front, rest, steps}
 use Rattle.mapblock.specs.Block.{block, piecesOf, savedOf, frontNamesEnd, contentId, idAt, param0At, stray, verdict}
 use Rattle.mapblock.specs.Table.{freeIn, Tabled}
 use Rattle.mapblock.specs.Told.{ended}
 use Rattle.mapblock.specs.declared.fault.Fault.{Fault}
 use Rattle.mapblock.specs.declared.fault.Fault.the-variants as fault
-use Rattle.mapblock.proofs.Entries.{width-range, nodes-done}
+use Rattle.mapblock.proofs.Entries.{nodes-done}
 use Rattle.mapblock.proofs.GoodRows.{either}
-use Rattle.writer.specs.Parts.{Parts, made}
+use Rattle.writer.specs.Parts.{Parts, made, Held}
 use Rattle.writer.specs.Said.{said, listsLength, FrontSaid, RestSaid, strayAmong}
-use Rattle.writer.specs.Theorems.{Held}
 use Rattle.writer.proofs.BlockSaid.{block-said, said-refused, said-stray, said-done}
-use Rattle.writer.proofs.MadeBlock.{MadeOf, of-made, frontFrame, front-looser, pieces-ok, block-settled}
+use Rattle.writer.proofs.MadeBlock.{MadeOf, of-made, front-looser, pieces-ok, block-settled}
 use Rattle.writer.proofs.Says.{says-refused, says-length, says-on}
 use Rattle.writer.proofs.Strays.{content-new, content-low, content-high, stray-same}
 

@@ -21,15 +21,19 @@ use Rattle.mapblock.specs.Questions.{areWhole}
 use Rattle.mapblock.specs.Block.{block, blockFrom, piecesOf, built-pieces}
 use Rattle.mapblock.specs.declared.fault.Fault.the-variants as fault
 use Rattle.mapblock.proofs.Entries.{width-old, width-new, width-range}
+use Rattle.mapblock.specs.Valid.{NodesGood}
+use Rattle.mapblock.specs.declared.head.Head.{Head}
+use Rattle.mapblock.proofs.ValidOk.{nodes-ok, slot-ok}
 use Rattle.mapblock.proofs.GoodRows.{either, since-ok, fixed-ok}
 use Rattle.writer.specs.Frames.{nameFrame, metadataFrame, timerFrame, sectionRows}
-use Rattle.writer.specs.Parts.{Parts, carries, narrow, timed, fits, given, made, rowsMade, blockMade}
+use Rattle.writer.specs.Parts.{Parts, carries, narrow, timed, fits, given, made, rowsMade, blockMade, Held}
 use Rattle.writer.specs.Said.{openingOn, savedOn, savedFront, savedBehind, timersOn, timersEarly, timersLate}
 use Rattle.writer.specs.Sections.{Rows}
-use Rattle.writer.specs.Theorems.{Held}
 use Rattle.writer.proofs.Framed.{savedFrame, metadataListFrame, earlyFrame, lateFrame, looser-both, saved-looser, metadata-list-looser, early-looser, late-looser}
 use Rattle.writer.proofs.RowsSaid.{rows-ok, no-rows, saved-ok}
-use Rattle.writer.proofs.Fitting.{Fitting, fits-plain}
+use Rattle.writer.proofs.Fitting.{Fitting, fits-plain, fits-carries, fits-timed}
+use Rattle.writer.proofs.TimersSaid.{early-ok}
+use Rattle.writer.proofs.BlockSaid.{opening-ok, metadata-ok, objects-ok}
 
 -- ---- taken apart
 -- b is the block that p makes
@@ -101,97 +105,46 @@ module _ (free : ℕ → Bool) where
   unfolding steps
   steps-looser = looser-then (front free) frontFrame (λ f. rest free (f .0 .version)) (λ f. restFrame (f .0 .version)) front-looser (λ f. rest-looser (f .0 .version))
 
--- ---- the pieces of a block
-entries-ok : (w : ℕ) (seen l : List ℕ) → ((i : ℕ) → i < length l → getD l i 0 < 256 ^ w) → OkItems (λ _. number {ends = fault.Ends} w) (length l) seen l
-unfolding number along
-entries-ok w seen [] h = tt
-entries-ok w seen (a ∷ l) h = (h zero (omega arith), entries-ok w (a ∷ seen) l (λ i k. h (suc i) (omega arith)))
-
-times-ok : (w : ℕ) (l : List ℕ) → length l ≡ 4096 → ((i : ℕ) → i < length l → getD l i 0 < 256 ^ w) → times {ends = fault.Ends} 4096 (number w) .Ok l
-unfolding items
-times-ok w l e h = subst (λ (n : ℕ). OkItems (λ _. number {ends = fault.Ends} w) n [] l) e (entries-ok w [] l h)
-
--- they stand in front or behind
-slot-ok : {A : Type 0} (f : Form A) (a₀ a : A) (c : Bool) → f .Ok a → only c a₀ f .Ok (pick c a a₀) × only (not c) a₀ f .Ok (pick c a₀ a)
-unfolding nothing
-slot-ok f a₀ a true h = (h, refl)
-slot-ok f a₀ a false h = (refl, h)
-
-list-version : (c d : Bool) → pick c 2 1 < 256 ^ pick d 1 2
-list-version true true = lit< tt
-list-version true false = lit< tt
-list-version false true = lit< tt
-list-version false false = lit< tt
-
--- nothing, or version 23's byte
-untimed-ok : (c : Bool) {k : Timers} → k ≡ untimed → pick c (fixed 1 0 fault.ByteOf23 (nothing {ends = fault.Ends} untimed)) (nothing untimed) .Ok k
-unfolding nothing
-untimed-ok true e = fixed-ok 1 0 fault.ByteOf23 (nothing untimed) _ (lit< tt) .1 e
-untimed-ok false e = e
-
+-- ---- the pieces of the block can be written, but for their values
 module _ (p : Parts) (b : Block) (held : Held p) (version : isVersion (p .head .version) ≡ true) (m : MadeOf p b) where
   abbrev v : ℕ
   v = p .head .version
 
+  abbrev h : Head
+  h = p .head
+
   fit : Fitting p
   fit = m .fitting
 
-  opening-ok : opening .Ok (openingOn (p .head))
-  unfolding opening along _⨾_ such number
-  opening-ok = ((held .version, version), (held .flags, since-ok u16 65535 (p .head .lighting) 27 v .1 ((λ _. held .lighting), fit .lighting)))
+  carry : carries h ≡ true
+  carry = fits-carries p (fits-plain p .1 fit)
 
-  names-ok : only (since 29 v) unsaved savedFrame .Ok (savedFront (p .head) (b .names)) × only (before 29 v) unsaved savedFrame .Ok (savedBehind (p .head) (b .names))
-  names-ok = let x = savedOn (p .head) (b .names) in slot-ok savedFrame unsaved x (since 29 v) (saved-ok x (held .names) (held .timestamp) (m .names))
+  nodes-good : NodesGood v record { param0 = p .param0; param1 = p .param1; param2 = p .param2 }
+  nodes-good = record {
+    param0-to-23 = λ k. record { size = fit .size0; each = λ i j. fit .narrow k i (omega (arith, fit .size0)) };
+    param0-from-24 = λ k. record { size = fit .size0; each = λ i j. held .param0 i };
+    param1 = record { size = fit .size1; each = λ i j. held .param1 i };
+    param2 = record { size = fit .size2; each = λ i j. held .param2 i };
+  }
 
-  nodes-ok : nodes v .Ok record { param0 = p .param0; param1 = p .param1; param2 = p .param2 }
-  unfolding nodes params along _⨾_
-  nodes-ok =
-      let small : width v < 256 = let h = width-range v .1 in omega arith in
-      let entries : (i : ℕ) → i < length (p .param0) → getD (p .param0) i 0 < 256 ^ width v = either 24 v (λ k. rw (width-new k) (λ i _. held .param0 i)) (λ k. rw (width-old k) (fit .narrow k)) in
-      fixed-ok 1 (width v) fault.ContentWidth (fixed 1 2 fault.ParamsWidth (params v)) _ small .1
-      (fixed-ok 1 2 fault.ParamsWidth (params v) _ (lit< tt) .1
-      (times-ok (width v) (p .param0) (fit .size0) entries, (times-ok 1 (p .param1) (fit .size1) (λ i _. held .param1 i), times-ok 1 (p .param2) (fit .size2) (λ i _. held .param2 i))))
+  names-ok : only (since 29 v) unsaved savedFrame .Ok (savedFront h (b .names)) × only (before 29 v) unsaved savedFrame .Ok (savedBehind h (b .names))
+  names-ok = let x = savedOn h (b .names) in slot-ok savedFrame unsaved x (since 29 v) .1 (saved-ok x (held .names) (held .timestamp) (m .names))
 
-  metadata-ok : metadataListFrame v .Ok (b .metadata)
-  metadata-ok = fixed-ok _ _ fault.MetadataVersion (listed 2 λ _. metadataFrame v) (b .metadata) (list-version (since 28 v) (since 23 v)) .1 (rows-ok (metadataFrame v) (held .metadata) (m .metadata))
-
-  objects-ok : objects .Ok (b .objects)
-  unfolding objects
-  objects-ok = fixed-ok 1 0 fault.ObjectVersion (listed 2 λ _. objectRow) (b .objects) (lit< tt) .1 (rows-ok objectRow (held .objects) (m .objects))
-
-  no-timers : length (p .timers) ≡ 0 → b .timers ≡ []
-  no-timers = no-rows timerFrame (held .timers) (m .timers)
-
-  timers-ok : listed 2 (λ _. timerFrame) .Ok (b .timers)
-  timers-ok = rows-ok timerFrame (held .timers) (m .timers)
-
-  of-24-ok : v ≡ 24 → into timersParts (u8 {ends = fault.Ends} ⨾ λ t. only (eqb t 1) [] (listed 2 λ _. timerFrame)) .Ok (timersOn (p .head) (b .timers))
-  unfolding along _⨾_ number nothing
-  of-24-ok e = (held .timer, go (eqb (p .head .timer) 1) refl)
-    where
-      go : (c : Bool) → eqb (p .head .timer) 1 ≡ c → only {ends = fault.Ends} c [] (listed 2 λ _. timerFrame) .Ok (b .timers)
-      go true z = timers-ok
-      go false z = no-timers (fit .of-24 e (eqb-false (p .head .timer) 1 z))
-
-  before-24 : v < 24 → timersOn (p .head) (b .timers) ≡ untimed
-  before-24 h = ap₂ (λ (n : ℕ) (l : List TimerRow). record { byte = n; rows = l }) (fit .timer (λ z. absurd (omega arith))) (no-timers (fit .before-24 h))
-
-  early-ok : earlyFrame v .Ok (timersEarly (p .head) (b .timers))
-  unfolding nothing
-  early-ok = either 25 v (λ h. rw (le-leb 25 v h) refl) (λ h. rw (lt-leb 25 v h) (either 24 v (λ k. rw (le-leb 24 v k) (of-24-ok (omega arith))) (λ k. rw (lt-leb 24 v k) (untimed-ok (since 23 v) (before-24 k)))))
-
-  late-ok : lateFrame v .Ok (timersLate (p .head) (b .timers))
+  late-ok : lateFrame v .Ok (timersLate h (b .timers))
   unfolding along _⨾_ nothing
   late-ok =
-      let list = fixed-ok 1 10 fault.TimerRowLength (listed 2 λ _. timerFrame) (b .timers) (lit< tt) .1 timers-ok in
-      either 25 v (λ h. rw (le-leb 25 v h) (fit .timer (λ z. absurd (omega arith)), list)) (λ h. rw (lt-leb 25 v h) refl)
+      let list = fixed-ok 1 10 fault.TimerRowLength (listed 2 λ _. timerFrame) (b .timers) (lit< tt) .1 (rows-ok timerFrame (held .timers) (m .timers)) in
+      either 25 v (λ k. rw (le-leb 25 v k) (fit .timer (λ z. absurd (omega arith)), list)) (λ k. rw (lt-leb 25 v k) refl)
 
   -- ---- the block
   pub pieces-ok : stepsFrame .Ok (piecesOf b)
   unfolding _⨾_
   pieces-ok = subst (λ (c : Block). stepsFrame .Ok (piecesOf c)) (m .same) (
-    (opening-ok, (names-ok .0, nodes-ok)),
-    (metadata-ok, (early-ok, (objects-ok, (names-ok .1, late-ok)))),
+    (opening-ok h (held .version) (held .flags) (held .lighting) version carry, (names-ok .0, nodes-ok v _ .1 nodes-good)),
+    (
+      metadata-ok v (held .metadata) (m .metadata),
+      (early-ok h (held .timers) (m .timers) carry (held .timer) (fits-timed p (fits-plain p .1 fit)), (objects-ok (held .objects) (m .objects), (names-ok .1, late-ok))),
+    ),
   )
 
   pub pieces-settled : Settled (steps all) (piecesOf b)
@@ -227,15 +180,3 @@ module _ (p : Parts) (f : fits p ≡ true) where
     timers = record { are = w .are; many = refl };
     same = refl;
   }
-
-  parted : (areWhole (length (p .param0)) (length (p .param1)) (length (p .param2)) ≡ true) × (carries (p .head) ≡ true) × ((narrow (p .head .version) (p .param0) && timed (p .head) (p .timers)) ≡ true)
-  parted = three-yes (areWhole (length (p .param0)) (length (p .param1)) (length (p .param2))) (carries (p .head)) (narrow (p .head .version) (p .param0) && timed (p .head) (p .timers)) f
-
-  pub fits-carries : carries (p .head) ≡ true
-  fits-carries = parted .1
-
-  pub fits-narrow : narrow (p .head .version) (p .param0) ≡ true
-  fits-narrow = and-yes (narrow (p .head .version) (p .param0)) (timed (p .head) (p .timers)) (parted .2) .0
-
-  pub fits-timed : timed (p .head) (p .timers) ≡ true
-  fits-timed = and-yes (narrow (p .head .version) (p .param0)) (timed (p .head) (p .timers)) (parted .2) .1

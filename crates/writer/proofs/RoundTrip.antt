@@ -16,7 +16,7 @@ use Rattle.wire.specs.Answer.{Answer, good, refusal, plain, no-good, answered, 
 use Rattle.wire.specs.Format.{such, _⨾_, along, items, run, encodeItems}
 use Rattle.wire.specs.Formats.{number, listed}
 use Rattle.wire.proofs.EveryFormat.{every-format}
-use Rattle.wire.proofs.Looser.{Looser, looser-self, looser-items}
+use Rattle.wire.proofs.Looser.{Looser, looser-self, looser-items, looser-ok}
 use Rattle.mapblock.specs.Inventory.{Form}
 use Rattle.mapblock.specs.Data.{NameRow, MetadataRow, ObjectRow, TimerRow, Block}
 use Rattle.mapblock.specs.Layout.{all, isVersion, nameRow, metadataRow, objectRow, timerRow, opening, front, steps}
@@ -33,10 +33,10 @@ use Rattle.mapblock.proofs.SectionsThere.{sections-are-rows}
 use Rattle.mapblock.proofs.Taken.{taken, writes-back, reads-back, airAt, air-valid}
 use Rattle.mapblock.proofs.ValidOk.{valid-is-ok}
 use Rattle.writer.specs.Frames.{nameFrame, metadataFrame, timerFrame, sectionRows}
-use Rattle.writer.specs.Parts.{Parts, blockMade}
+use Rattle.writer.specs.Parts.{Parts, blockMade, Held}
 use Rattle.writer.specs.Sections.{Rows}
 use Rattle.writer.specs.Write.{judgedBytes, writtenBlock, writeOf}
-use Rattle.writer.specs.Theorems.{handedOut, Held, Writer, written, WritesBackBy, ReadAs, ReadsBackBy, RoundTrip, DoesNothing, RefusesAll, ShutOut}
+use Rattle.writer.specs.Theorems.{handedOut, Writer, written, WritesBackBy, ReadAs, ReadsBackBy, RoundTrip, DoesNothing, RefusesAll, ShutOut}
 use Rattle.writer.proofs.RowsIn.{rows-forward}
 use Rattle.writer.proofs.Framed.{name-looser, metadata-looser, timer-looser}
 use Rattle.writer.proofs.RowsSaid.{rows-bytes}
@@ -44,9 +44,6 @@ use Rattle.writer.proofs.Fitting.{Fitting}
 use Rattle.writer.proofs.MadeBlock.{MadeOf, made-of, of-made, block-bytes, block-settled}
 
 -- ---- what was read: its sections are whole rows
-looser-ok : {A : Type 0} {f g : Form A} → Looser f g → (a : A) → f .Ok a → g .Ok a
-looser-ok {f = f} {g = g} l a ok = g .backward (f .encode a) a _ (f .bytes a ok) (l .takes (f .encode a) a _ (every-format f .reads-back a ok)) .ok
-
 module _ {A : Type 0} (item : List A → Form A) (frame : Form A) (looser : (seen : List A) → Looser (item seen) frame)
     (some-byte : (a : A) → 0 < length (frame .encode a)) (l : List A) (ok : listed 2 item .Ok l) where
   rows-again : {s : List ℕ} → s ≡ encodeItems item [] l → Rows frame s (length l) l

@@ -12,7 +12,6 @@ use Rattle.mapblock.specs.Layout.{objectRow}
 use Rattle.writer.specs.Frames.{nameFrame, metadataFrame, timerFrame, rowsIn, sectionRows}
 use Rattle.writer.specs.Parts.{Parts, given, made, rowsMade}
 use Rattle.writer.specs.Sections.{countsOf, countsIn}
-use Rattle.writer.specs.declared.counts.Counts.{Counts}
 use Rattle.writer.proofs.FrameLengths.{Long, long-done, long-refused}
 use Rattle.writer.proofs.RowsIn.{rows-empty, rows-over, rows-on, rows-stop}
 

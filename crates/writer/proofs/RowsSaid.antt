@@ -6,12 +6,11 @@ use mathlib.Core.Bool.{Bool, true, false}
 use native.Mathlib.Omega.{arith}
 use lib.Dec.{lit<}
 use lib.ListN.{length, length-append}
-use borrow.Author.Tests.{lt-leb, le-leb}
 use Rattle.wire.specs.Choice.{pick}
 use Rattle.wire.specs.Bytes.{Bytes, spell, spell-length}
 use Rattle.wire.specs.Read.{Read, done, refused, onward, reach, never, onward-done}
 use Rattle.wire.specs.Format.{run, such, _⨾_, along, OkItems, encodeItems, items}
-use Rattle.wire.specs.Formats.{_▹_, u32, number, signed, counted, listed, behind, fixed, into, unsignedOf, half32}
+use Rattle.wire.specs.Formats.{_▹_, u32, number, signed, counted, listed, behind, fixed, unsignedOf, half32}
 use Rattle.wire.proofs.Looser.{Looser, Settled, settled, settled-ok, looser-items}
 use Rattle.mapblock.specs.Inventory.{Form}
 use Rattle.mapblock.specs.Data.{NameRow, MetadataRow, ObjectRow, TimerRow, Saved, savedParts}
@@ -26,7 +25,7 @@ use Rattle.writer.specs.Frames.{nameFrame, metadataFrame, timerFrame}
 use Rattle.writer.specs.Sections.{Rows}
 use Rattle.writer.specs.Said.{said, Small, SavedSaid}
 use Rattle.writer.proofs.RowsIn.{rows-made, rows-empty}
-use Rattle.writer.proofs.Framed.{name-looser, savedFrame, saved-looser, metadataListFrame, timer-looser, metadata-looser}
+use Rattle.writer.proofs.Framed.{name-looser, savedFrame, timer-looser, metadata-looser}
 use Rattle.writer.proofs.Says.{onward-on, said-into, said-fixed, said-listed, said-ok, says-on}
 
 -- ---- rows by their frames

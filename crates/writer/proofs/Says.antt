@@ -1,22 +1,21 @@
 -- What is said of the bytes of a value, from what is said of its pieces.
-use Prim.Native.Nat.{ℕ, _+_, _^_, _<_, _≤_}
+use Prim.Native.Nat.{ℕ, _+_, _^_, _<_}
 use mathlib.Core.Path.{_≡_, refl, ap, sym, _∙_}
-use mathlib.Core.List.{List, [], _∷_, _++_, append-nil}
+use mathlib.Core.List.{List, [], _++_}
 use native.Mathlib.Nat.{zero-add, add-assoc}
-use native.Mathlib.Omega.{arith}
-use lib.ListN.{length, drop, length-append}
+use lib.ListN.{length, drop}
 use lib.Seq.{drop-append-seam}
 use Rattle.wire.specs.Bytes.{spell, spell-length}
-use Rattle.wire.specs.Read.{Read, done, refused, mapRead, onward}
-use Rattle.wire.specs.Format.{nothing, such, _⨾_, along, pair, items, encodeItems, run}
+use Rattle.wire.specs.Read.{Read, done, refused, onward}
+use Rattle.wire.specs.Format.{such, _⨾_, along, pair, items, encodeItems, run}
 use Rattle.wire.specs.Formats.{Shape, number, listed, behind, fixed, into}
 use Rattle.wire.proofs.EveryFormat.{every-format}
-use Rattle.wire.proofs.Looser.{Settled, settled-ok, followed, said-then}
+use Rattle.wire.proofs.Looser.{Settled, followed, said-then}
 use Rattle.mapblock.specs.Inventory.{Form}
 use Rattle.mapblock.specs.Told.{ended}
 use Rattle.mapblock.specs.declared.fault.Fault.{Fault}
 use Rattle.mapblock.specs.declared.fault.Fault.the-variants as fault
-use Rattle.mapblock.proofs.Readings.{num, ended-map, ended-done, ended-refused, listed-done}
+use Rattle.mapblock.proofs.Readings.{num, ended-map, ended-done, listed-done}
 use Rattle.mapblock.proofs.Fixed.{fixed-on}
 use Rattle.writer.specs.Said.{said}
 

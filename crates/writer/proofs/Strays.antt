@@ -1,21 +1,17 @@
 -- Content ids from the lists, and the first node whose id is not mapped.
 use Prim.Native.Nat.{ℕ, zero, suc, _+_, _-_, _*_, _/_, _<_, _≤_}
-use mathlib.Core.Path.{_≡_, refl, ap, sym, _∙_}
-use mathlib.Core.Option.{Option, some, none}
+use mathlib.Core.Path.{_≡_, refl}
+use mathlib.Core.Option.{some, none}
 use mathlib.Core.List.{List}
-use mathlib.Core.Bool.{Bool, true, false}
-use native.Mathlib.Nat.{add-zero}
+use mathlib.Core.Bool.{true}
 use native.Mathlib.Numerals.{add-one}
 use native.Mathlib.Omega.{arith}
-use lib.Dec.{eqb, ltb}
 use lib.ListN.{length, getD}
 use borrow.Author.Tests.{eq-eqb, ne-eqb, le-leb, lt-leb, lt-ltb, le-ltb}
-use Rattle.wire.specs.Choice.{pick}
-use Rattle.mapblock.specs.Data.{NameRow, Block}
+use Rattle.mapblock.specs.Data.{Block}
 use Rattle.mapblock.specs.Layout.{all, unmapped}
 use Rattle.mapblock.specs.Block.{contentId, idAt, strayFrom}
-use Rattle.mapblock.specs.Table.{freeIn, Tabled}
-use Rattle.mapblock.proofs.GoodRows.{either}
+use Rattle.mapblock.specs.Table.{Tabled}
 use Rattle.writer.specs.Parts.{narrow}
 use Rattle.writer.specs.Said.{strayAmong}
 use Rattle.writer.proofs.Fitting.{pick-then, below-there}

@@ -1,22 +1,22 @@
 -- What is said of timers: behind the metadata up to version 24, at the end from 25.
-use Prim.Native.Nat.{ℕ, _+_, _<_, _≤_}
+use Prim.Native.Nat.{ℕ, _<_, _≤_}
 use mathlib.Core.Path.{_≡_, refl, ap, sym, _∙_}
 use mathlib.Core.List.{List, []}
-use mathlib.Core.Bool.{Bool, true, false, _&&_, _||_}
+use mathlib.Core.Bool.{Bool, true, false, _&&_}
 use native.Mathlib.Omega.{arith}
 use lib.Dec.{leb, eqb, lit<}
 use lib.ListN.{length}
-use borrow.Author.Tests.{eqb-true, eqb-false, eq-eqb, ne-eqb, le-leb, lt-leb, leb-false, leb-true}
-use Rattle.wire.specs.Choice.{pick, no-true, and-yes}
+use borrow.Author.Tests.{eqb-true, eqb-false, ne-eqb, le-leb, lt-leb, leb-false, leb-true}
+use Rattle.wire.specs.Choice.{pick, and-yes}
 use Rattle.wire.specs.Bytes.{Bytes}
 use Rattle.wire.specs.Read.{Read, done, refused, bind, onward}
 use Rattle.wire.specs.Format.{run, nothing, such, _⨾_, along, tested}
-use Rattle.wire.specs.Formats.{_▹_, u8, number, listed, behind, fixed, only, into}
+use Rattle.wire.specs.Formats.{_▹_, u8, number, listed, behind, fixed, only}
 use Rattle.wire.proofs.EveryFormat.{every-format}
 use Rattle.wire.proofs.Looser.{Settled, settled, settled-ok, looser-such}
 use Rattle.mapblock.specs.Inventory.{Form}
-use Rattle.mapblock.specs.Data.{TimerRow, Timers, untimed, timersParts}
-use Rattle.mapblock.specs.Layout.{since, before, timerRow, earlyTimers, lateTimers}
+use Rattle.mapblock.specs.Data.{TimerRow, untimed, timersParts}
+use Rattle.mapblock.specs.Layout.{since, timerRow, earlyTimers, lateTimers}
 use Rattle.mapblock.specs.Told.{ended}
 use Rattle.mapblock.specs.declared.fault.Fault.{Fault}
 use Rattle.mapblock.specs.declared.fault.Fault.the-variants as fault
@@ -26,26 +26,10 @@ use Rattle.writer.specs.Frames.{timerFrame}
 use Rattle.writer.specs.Parts.{carries, timed}
 use Rattle.writer.specs.Sections.{Rows}
 use Rattle.writer.specs.Said.{said, timersOn, timersEarly, timersLate}
+use Rattle.writer.proofs.Fitting.{no-timer, no-timers}
 use Rattle.writer.proofs.Framed.{other, earlyFrame, early-looser}
 use Rattle.writer.proofs.RowsSaid.{no-rows, rows-ok}
-use Rattle.writer.proofs.Says.{onward-none, onward-on, said-ok, said-into, said-fixed, says-refused, says-on}
-
--- ---- what fits says
--- outside 24 the timer byte is 0
-pub no-timer : (h : Head) → carries h ≡ true → (h .version ≡ 24 → ⊥) → h .timer ≡ 0
-no-timer h c n =
-    let x = and-yes (pick (since 27 (h .version)) true (eqb (h .lighting) 65535)) (pick (eqb (h .version) 24) true (eqb (h .timer) 0)) c .1 in
-    eqb-true (h .timer) 0 (rw (ne-eqb (h .version) 24 n) at x)
-
--- before 25 there are timers only in 24 with the byte 1
-pub no-timers : (h : Head) {s : List ℕ} {count : ℕ} {l : List TimerRow} → Bytes s → Rows timerFrame s count l → timed h s ≡ true → h .version < 25
-    → ((h .version ≡ 24) → (h .timer ≡ 1) → ⊥) → l ≡ []
-no-timers h {s} b w t k n = no-rows timerFrame b w (eqb-true (length s) 0 (rw (lt-leb 25 (h .version) k, none (eqb (h .version) 24) refl (eqb (h .timer) 1) refl) at t))
-  where
-    none : (x : Bool) → eqb (h .version) 24 ≡ x → (y : Bool) → eqb (h .timer) 1 ≡ y → (eqb (h .version) 24 && eqb (h .timer) 1) ≡ false
-    none true e true f = absurd (n (eqb-true (h .version) 24 e) (eqb-true (h .timer) 1 f))
-    none true e false f = rw (e, f)
-    none false e y f = rw e
+use Rattle.writer.proofs.Says.{onward-none, said-ok, said-into, said-fixed, says-refused, says-on}
 
 -- ---- version 24
 abbrev byte : Form ℕ
@@ -135,7 +119,7 @@ module _ (h : Head) {s : List ℕ} {count : ℕ} {l : List TimerRow} (b : Bytes 
     where
       go : (x : Bool) → leb 25 (h .version) ≡ x → timersEarly h l ≡ untimed
       go true e = rw e
-      go false e = rw e (untimed-on h (no-timer h c n) (no-timers h b w t (leb-false 25 (h .version) e) (λ z. absurd (n z))))
+      go false e = rw e (untimed-on h (no-timer h c n) (no-rows timerFrame b w (no-timers h s t (leb-false 25 (h .version) e) (λ z. absurd (n z)))))
 
   -- they can be written, but for their values
   pub early-ok : h .timer < 256 → timed h s ≡ true → earlyFrame (h .version) .Ok (timersEarly h l)
@@ -145,7 +129,7 @@ module _ (h : Head) {s : List ℕ} {count : ℕ} {l : List TimerRow} (b : Bytes 
       late g = rw (le-leb 25 (h .version) g) (nothing-ok untimed)
 
       of-24 : h .version ≡ 24 → earlyFrame (h .version) .Ok (timersEarly h l)
-      of-24 e = rw e (frame-24 h b w k (λ n. no-timers h b w t (omega arith) (λ _. n)))
+      of-24 e = rw e (frame-24 h b w k (λ n. no-rows timerFrame b w (no-timers h s t (omega arith) (λ _. n))))
 
   pub early-settled : h .timer < 256 → timed h s ≡ true → Settled (earlyTimers (h .version)) (timersEarly h l)
   early-settled k t = settled (early-looser (h .version)) (timersEarly h l) (early-ok k t)

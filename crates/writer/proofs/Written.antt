@@ -1,20 +1,20 @@
 -- What the writer answers, test by test.
-use Prim.Native.Nat.{ℕ, _+_, _<_, _≤_}
+use Prim.Native.Nat.{ℕ, _<_, _≤_}
 use mathlib.Core.Path.{_≡_, refl, ap, sym, _∙_}
 use mathlib.Core.Option.{Option, some, none, Option·map, Option·none-ne-some, map-eq-some-iff}
-use mathlib.Core.List.{List, [], _++_}
-use mathlib.Core.Bool.{Bool, true, false}
+use mathlib.Core.List.{List}
+use mathlib.Core.Bool.{true, false}
 use native.Mathlib.Nat.{zero-add}
 use native.Mathlib.Omega.{arith}
 use lib.Dec.{leb}
-use lib.ListN.{length, take, drop}
+use lib.ListN.{length}
 use borrow.Author.Tests.{le-leb, lt-leb}
 use Rattle.wire.specs.Choice.{pick}
 use Rattle.wire.specs.Read.{Read, done, refused}
 use Rattle.wire.specs.Store.{laid}
 use Rattle.wire.specs.Answer.{Answer, good, refusal, plain, mapAnswer, lent, versionOutside, noRoom, partsMisfit}
 use Rattle.wire.proofs.Looser.{looser-self}
-use Rattle.mapblock.specs.Data.{NameRow, MetadataRow, ObjectRow, TimerRow, Block}
+use Rattle.mapblock.specs.Data.{Block}
 use Rattle.mapblock.specs.Layout.{all, isVersion, nameRow, metadataRow, objectRow, timerRow}
 use Rattle.mapblock.specs.Block.{block, verdict}
 use Rattle.mapblock.specs.Numbers.{number}
@@ -23,18 +23,17 @@ use Rattle.mapblock.specs.declared.fault.Fault.{Fault}
 use Rattle.mapblock.proofs.Readings.{ended-done, ended-refused}
 use Rattle.mapblock.proofs.Taken.{taken}
 use Rattle.writer.specs.Frames.{nameFrame, metadataFrame, timerFrame}
-use Rattle.writer.specs.Parts.{Parts, fits, made, rowsMade, blockMade}
+use Rattle.writer.specs.Parts.{Parts, fits, made, rowsMade, blockMade, Held}
 use Rattle.writer.specs.Pieces.{blockBytes}
 use Rattle.writer.specs.Sections.{Rows, countsOf, countsIn}
 use Rattle.writer.specs.Said.{Small}
-use Rattle.writer.specs.Theorems.{Held}
-use Rattle.writer.specs.Write.{judgedBytes, writtenBlock, writeOf}
+use Rattle.writer.specs.Write.{judgedBytes, writeOf}
 use Rattle.writer.specs.declared.counts.Counts.{Counts}
 use Rattle.writer.proofs.Encoded.{encoded}
 use Rattle.writer.proofs.Framed.{name-looser, metadata-looser, timer-looser}
 use Rattle.writer.proofs.RowCounts.{counts-made}
 use Rattle.writer.proofs.RowsSaid.{rows-bytes, names-small, objects-small, timers-small}
-use Rattle.writer.proofs.MadeBlock.{MadeOf, made-of, of-made, block-bytes}
+use Rattle.writer.proofs.MadeBlock.{MadeOf, made-of, block-bytes}
 
 -- ---- an answer, and what the buffer holds then
 abbrev pub Answers : Parts → List ℕ → Answer ℕ → List ℕ → Type 0

@@ -4,10 +4,12 @@ use mathlib.Core.Option.{Option, some, none}
 use mathlib.Core.List.{List, [], _∷_}
 use mathlib.Core.Bool.{Bool, true, _&&_, _||_}
 use lib.Dec.{ltb, eqb}
-use lib.ListN.{length}
+use lib.ListN.{length, getD}
 use Rattle.wire.specs.Choice.{pick}
+use Rattle.wire.specs.Bytes.{Bytes}
 use Rattle.mapblock.specs.Data.{NameRow, MetadataRow, ObjectRow, TimerRow, Block}
 use Rattle.mapblock.specs.Layout.{since, objectRow}
+use Rattle.mapblock.specs.Valid.{U8, U16, U32}
 use Rattle.mapblock.specs.Questions.{areWhole}
 use Rattle.mapblock.specs.declared.head.Head.{Head}
 use Rattle.writer.specs.Frames.{nameFrame, metadataFrame, timerFrame, sectionRows}
@@ -34,6 +36,21 @@ partsOf head param0 param1 param2 names metadata objects timers = record {
   objects = objects;
   timers = timers;
 }
+
+-- what the types of a call hold
+pub record Held (p : Parts) : Type 0 where
+  pub version : U8 (p .head .version)
+  pub flags : U8 (p .head .flags)
+  pub lighting : U16 (p .head .lighting)
+  pub timestamp : U32 (p .head .timestamp)
+  pub timer : U8 (p .head .timer)
+  pub param0 : (i : ℕ) → U16 (getD (p .param0) i 0)
+  pub param1 : Bytes (p .param1)
+  pub param2 : Bytes (p .param2)
+  pub names : Bytes (p .names)
+  pub metadata : Bytes (p .metadata)
+  pub objects : Bytes (p .objects)
+  pub timers : Bytes (p .timers)
 
 -- ---- parts that fit
 -- no "head value the version doesn't carry (lighting not 65,535 under 27, timer byte not 0 outside 24)"

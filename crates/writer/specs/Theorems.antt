@@ -1,6 +1,6 @@
 -- The round trip: demand 2, "what was read writes back to the same bytes, and what was written reads back to the same parts".
 -- proofs/RoundTrip.antt proves it.
-use Prim.Native.Nat.{ℕ, _<_, _≤_}
+use Prim.Native.Nat.{ℕ, _≤_}
 use mathlib.Core.Path.{_≡_}
 use mathlib.Core.List.{List, _++_}
 use lib.ListN.{length, getD, take, drop}
@@ -10,9 +10,8 @@ use Rattle.wire.specs.Answer.{Answer, good, refusal, mapAnswer, lent}
 use Rattle.mapblock.specs.Data.{Block}
 use Rattle.mapblock.specs.Layout.{all}
 use Rattle.mapblock.specs.Block.{verdict}
-use Rattle.mapblock.specs.Valid.{U8, U16, U32}
 use Rattle.mapblock.specs.Sections.{sections, within}
-use Rattle.writer.specs.Parts.{Parts, partsOf}
+use Rattle.writer.specs.Parts.{Parts, Held, partsOf}
 use Rattle.writer.specs.Write.{writeOf}
 
 -- what the reader hands out of the bytes s, which it takes with the block b: head, lists, and sections as parts of s
@@ -20,21 +19,6 @@ abbrev pub handedOut : List ℕ → Block → Parts
 handedOut s b =
     partsOf (b .head) (b .nodes .param0) (b .nodes .param1) (b .nodes .param2)
     (within s (sections b .names)) (within s (sections b .metadata)) (within s (sections b .objects)) (within s (sections b .timers))
-
--- what the types of a call hold
-pub record Held (p : Parts) : Type 0 where
-  pub version : U8 (p .head .version)
-  pub flags : U8 (p .head .flags)
-  pub lighting : U16 (p .head .lighting)
-  pub timestamp : U32 (p .head .timestamp)
-  pub timer : U8 (p .head .timer)
-  pub param0 : (i : ℕ) → U16 (getD (p .param0) i 0)
-  pub param1 : Bytes (p .param1)
-  pub param2 : Bytes (p .param2)
-  pub names : Bytes (p .names)
-  pub metadata : Bytes (p .metadata)
-  pub objects : Bytes (p .objects)
-  pub timers : Bytes (p .timers)
 
 -- what a writer answers, and what the buffer lent holds then
 abbrev pub Writer : Type 0

@@ -4,13 +4,6 @@ use Rattle.mapblock.specs.Questions.{toldNode}
 use mathlib.Core.Path.{ap, sym, _∙_}
 use Rattle.anowhetele.proofs.blocks.anow_node_name.Statement.{statement}
 use Rattle.anowhetele.proofs.blocks.anow_node_name.Tie as tie
-use Rattle.anowhetele.proofs.blocks.anow_node_name.Reads as reads
-use Rattle.anowhetele.proofs.blocks.anow_node_name.Lts as lts
-use Rattle.anowhetele.proofs.answer.done.Reads as done-reads
-use Rattle.anowhetele.proofs.answer.plain.Reads as plain-reads
-use Rattle.anowhetele.proofs.answer.refused.Reads as refused-reads
-use Rattle.anowhetele.proofs.blocks.no_node.Reads as no-node-reads
-use Rattle.mapblock.proofs.node.node.Reads as node-reads
 
 node-requires : tie.Need-node-requires
 node-requires c κs = search needs

@@ -4,13 +4,6 @@ use Rattle.mapblock.specs.Questions.{toldRead}
 use mathlib.Core.Path.{ap, sym, _∙_}
 use Rattle.anowhetele.proofs.blocks.anow_read.Statement.{statement}
 use Rattle.anowhetele.proofs.blocks.anow_read.Tie as tie
-use Rattle.anowhetele.proofs.blocks.anow_read.Reads as reads
-use Rattle.anowhetele.proofs.blocks.anow_read.Lts as lts
-use Rattle.anowhetele.proofs.answer.done.Reads as done-reads
-use Rattle.anowhetele.proofs.answer.plain.Reads as plain-reads
-use Rattle.anowhetele.proofs.answer.refused.Reads as refused-reads
-use Rattle.anowhetele.proofs.blocks.no_block.Reads as no-block-reads
-use Rattle.mapblock.proofs.read.read.Reads as read-reads
 
 read-requires : tie.Need-read-requires
 read-requires c κs = search needs

@@ -4,12 +4,6 @@ use Rattle.mapblock.specs.Questions.{toldSections}
 use mathlib.Core.Path.{ap, sym, _∙_}
 use Rattle.anowhetele.proofs.blocks.anow_sections.Statement.{statement}
 use Rattle.anowhetele.proofs.blocks.anow_sections.Tie as tie
-use Rattle.anowhetele.proofs.blocks.anow_sections.Reads as reads
-use Rattle.anowhetele.proofs.blocks.anow_sections.Lts as lts
-use Rattle.anowhetele.proofs.answer.done.Reads as done-reads
-use Rattle.anowhetele.proofs.answer.refused.Reads as refused-reads
-use Rattle.anowhetele.proofs.blocks.no_block.Reads as no-block-reads
-use Rattle.mapblock.proofs.read.sections.Reads as sections-reads
 
 sections-requires : tie.Need-sections-requires
 sections-requires c κs = search needs

@@ -4,12 +4,6 @@ use Rattle.writer.specs.Write.{toldWrite}
 use Rattle.anowhetele.specs.Answers.{handed}
 use Rattle.anowhetele.proofs.writing.anow_write.Statement.{statement}
 use Rattle.anowhetele.proofs.writing.anow_write.Tie as tie
-use Rattle.anowhetele.proofs.writing.anow_write.Reads as reads
-use Rattle.anowhetele.proofs.writing.anow_write.Lts as lts
-use Rattle.anowhetele.proofs.answer.done.Reads as done-reads
-use Rattle.anowhetele.proofs.answer.plain.Reads as plain-reads
-use Rattle.anowhetele.proofs.answer.refused.Reads as refused-reads
-use Rattle.writer.proofs.write.write.Reads as write-reads
 
 write-requires : tie.Need-write-requires
 write-requires c κs = search needs

@@ -1,8 +1,6 @@
 use borrow.Author.Needs.{needs}
 use Rattle.writer.proofs.judge.content_id.Statement.{statement}
 use Rattle.writer.proofs.judge.content_id.Tie as tie
-use Rattle.writer.proofs.judge.content_id.Reads as reads
-use Rattle.writer.proofs.judge.content_id.Lts as lts
 use native.Mathlib.Omega.{arith}
 use Rattle.writer.proofs.Strays.{content-new, content-low, content-high}
 

@@ -1,15 +1,9 @@
 use borrow.Author.Needs.{needs}
 use Rattle.writer.proofs.judge.early_says.Statement.{statement}
 use Rattle.writer.proofs.judge.early_says.Tie as tie
-use Rattle.writer.proofs.judge.early_says.Reads as reads
-use Rattle.writer.proofs.judge.early_says.Lts as lts
-use Rattle.writer.proofs.judge.timers_of_24_say.Reads as timers-of-24-say-reads
 use Rattle.wire.specs.Bytes.{Bytes}
-use Rattle.wire.specs.Read.{reach}
-use Rattle.mapblock.specs.Told.{toldReach}
 use native.Mathlib.Omega.{arith}
 use denote.Ref.{now}
-use mathlib.Core.Path.{_≡_, ap, sym, _∙_}
 use Rattle.writer.proofs.TimersSaid.{early-of-24, early-of-23, early-other}
 
 -- src/judge.rt:87:9

@@ -1,17 +1,13 @@
 use borrow.Author.Needs.{needs}
 use Rattle.writer.proofs.judge.ending_says.Statement.{statement}
 use Rattle.writer.proofs.judge.ending_says.Tie as tie
-use Rattle.writer.proofs.judge.ending_says.Reads as reads
-use Rattle.writer.proofs.judge.ending_says.Lts as lts
-use Rattle.writer.proofs.judge.late_says.Reads as late-says-reads
-use Rattle.writer.proofs.judge.saved_says.Reads as saved-says-reads
 use Rattle.wire.specs.Bytes.{Bytes}
 use Rattle.wire.specs.Read.{reach}
 use Rattle.mapblock.specs.Told.{toldReach}
 use native.Mathlib.Omega.{arith}
 use denote.Ref.{now}
 use Prim.Native.Nat.{_<_}
-use mathlib.Core.Path.{_≡_, ap, sym, _∙_}
+use mathlib.Core.Path.{ap, sym, _∙_}
 use Rattle.writer.proofs.BlockSaid.{saved-settled, ending-late, ending-refused, ending-on}
 use Rattle.mapblock.specs.Table.{freeIn}
 use Rattle.writer.specs.Said.{savedOn}

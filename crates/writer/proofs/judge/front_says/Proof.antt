@@ -1,17 +1,12 @@
 use borrow.Author.Needs.{needs}
 use Rattle.writer.proofs.judge.front_says.Statement.{statement}
 use Rattle.writer.proofs.judge.front_says.Tie as tie
-use Rattle.writer.proofs.judge.front_says.Reads as reads
-use Rattle.writer.proofs.judge.front_says.Lts as lts
-use Rattle.writer.proofs.judge.lists_length.Reads as lists-length-reads
-use Rattle.writer.proofs.judge.opening_length.Reads as opening-length-reads
-use Rattle.writer.proofs.judge.saved_says.Reads as saved-says-reads
 use Rattle.wire.specs.Bytes.{Bytes}
 use Rattle.wire.specs.Read.{reach}
 use Rattle.mapblock.specs.Told.{toldReach}
 use native.Mathlib.Omega.{arith}
 use denote.Ref.{now}
-use mathlib.Core.Path.{_≡_, ap, sym, _∙_}
+use mathlib.Core.Path.{_≡_, ap}
 use Prim.Native.Nat.{_<_}
 use mathlib.Core.Bool.{true}
 use Rattle.wire.specs.Read.{never}

@@ -1,29 +1,20 @@
 use borrow.Author.Needs.{needs}
 use Rattle.writer.proofs.judge.judge.Statement.{statement}
 use Rattle.writer.proofs.judge.judge.Tie as tie
-use Rattle.writer.proofs.judge.judge.Reads as reads
-use Rattle.writer.proofs.judge.judge.Lts as lts
-use Rattle.mapblock.proofs.nodes.width.Reads as width-reads
-use Rattle.writer.proofs.judge.front_says.Reads as front-says-reads
-use Rattle.writer.proofs.judge.lists_length.Reads as lists-length-reads
-use Rattle.writer.proofs.judge.rest_says.Reads as rest-says-reads
-use Rattle.writer.proofs.judge.stray.Reads as stray-reads
-use Rattle.wire.specs.Bytes.{Bytes}
 use Rattle.wire.specs.Read.{reach}
 use Rattle.mapblock.specs.Told.{toldReach}
 use native.Mathlib.Omega.{arith}
 use denote.Ref.{now}
 use lib.ListN.{length}
-use mathlib.Core.Path.{_≡_, ap, sym, _∙_}
+use mathlib.Core.Path.{ap, sym, _∙_}
 use Prim.Native.Nat.{_*_, _<_}
 use Rattle.mapblock.specs.Layout.{width}
 use Rattle.mapblock.specs.Told.{toldStray}
 use Rattle.mapblock.proofs.BlockAnswers.{clear-all}
 use Rattle.mapblock.proofs.Endings.{width-place}
-use Rattle.writer.specs.Parts.{Parts, partsOf, made}
-use Rattle.writer.specs.Theorems.{Held}
-use Rattle.writer.proofs.Fitting.{fits-plain}
-use Rattle.writer.proofs.MadeBlock.{made-by, fits-carries, fits-narrow, fits-timed}
+use Rattle.writer.specs.Parts.{Parts, partsOf, made, Held}
+use Rattle.writer.proofs.Fitting.{fits-plain, fits-carries, fits-narrow, fits-timed}
+use Rattle.writer.proofs.MadeBlock.{made-by}
 use Rattle.writer.proofs.Judged.{nodes-there, judged-front, judged-rest, judged-done, judged-stray, among-below}
 
 -- the parts, and that they are what the types of a call hold

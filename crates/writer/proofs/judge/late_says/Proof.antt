@@ -1,15 +1,12 @@
 use borrow.Author.Needs.{needs}
 use Rattle.writer.proofs.judge.late_says.Statement.{statement}
 use Rattle.writer.proofs.judge.late_says.Tie as tie
-use Rattle.writer.proofs.judge.late_says.Reads as reads
-use Rattle.writer.proofs.judge.late_says.Lts as lts
-use Rattle.writer.proofs.judge.timers_say.Reads as timers-say-reads
 use Rattle.wire.specs.Bytes.{Bytes}
 use Rattle.wire.specs.Read.{reach}
 use Rattle.mapblock.specs.Told.{toldReach}
 use native.Mathlib.Omega.{arith}
 use denote.Ref.{now}
-use mathlib.Core.Path.{_≡_, ap, sym, _∙_}
+use mathlib.Core.Path.{ap, sym, _∙_}
 use Rattle.writer.proofs.TimersSaid.{late-before, late-from}
 
 -- src/judge.rt:101:9

@@ -1,9 +1,6 @@
 use borrow.Author.Needs.{needs}
 use Rattle.writer.proofs.judge.lists_length.Statement.{statement}
 use Rattle.writer.proofs.judge.lists_length.Tie as tie
-use Rattle.writer.proofs.judge.lists_length.Reads as reads
-use Rattle.writer.proofs.judge.lists_length.Lts as lts
-use Rattle.mapblock.proofs.nodes.width.Reads as width-reads
 use native.Mathlib.Omega.{arith}
 use Rattle.mapblock.proofs.Entries.{width-range}
 

@@ -1,17 +1,12 @@
 use borrow.Author.Needs.{needs}
 use Rattle.writer.proofs.judge.metadata_says.Statement.{statement}
 use Rattle.writer.proofs.judge.metadata_says.Tie as tie
-use Rattle.writer.proofs.judge.metadata_says.Reads as reads
-use Rattle.writer.proofs.judge.metadata_says.Lts as lts
-use Rattle.mapblock.proofs.rows.rows.Reads as rows-reads
-use Rattle.mapblock.proofs.scan.metadata_head.Reads as metadata-head-reads
 use Rattle.wire.specs.Bytes.{Bytes}
 use Rattle.mapblock.specs.Told.{toldReach}
 use native.Mathlib.Omega.{arith}
 use denote.Ref.{now}
 use mathlib.Core.Path.{ap, sym, _∙_}
-use Rattle.mapblock.specs.Layout.{since, metadataRow}
-use Rattle.mapblock.specs.Scan.{metadataHead}
+use Rattle.mapblock.specs.Layout.{metadataRow}
 use Rattle.writer.proofs.RowsSaid.{rows-reach, metadata-says, metadata-head-few}
 
 -- src/judge.rt:46:9

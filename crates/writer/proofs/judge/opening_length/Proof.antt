@@ -1,7 +1,5 @@
 use Rattle.writer.proofs.judge.opening_length.Statement.{statement}
 use Rattle.writer.proofs.judge.opening_length.Tie as tie
-use Rattle.writer.proofs.judge.opening_length.Reads as reads
-use Rattle.writer.proofs.judge.opening_length.Lts as lts
 use borrow.Author.Tests.{le-leb, lt-leb}
 
 -- src/judge.rt:157:1

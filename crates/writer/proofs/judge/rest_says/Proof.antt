@@ -1,17 +1,12 @@
 use borrow.Author.Needs.{needs}
 use Rattle.writer.proofs.judge.rest_says.Statement.{statement}
 use Rattle.writer.proofs.judge.rest_says.Tie as tie
-use Rattle.writer.proofs.judge.rest_says.Reads as reads
-use Rattle.writer.proofs.judge.rest_says.Lts as lts
-use Rattle.writer.proofs.judge.early_says.Reads as early-says-reads
-use Rattle.writer.proofs.judge.ending_says.Reads as ending-says-reads
-use Rattle.writer.proofs.judge.metadata_says.Reads as metadata-says-reads
 use Rattle.wire.specs.Bytes.{Bytes}
 use Rattle.wire.specs.Read.{reach}
 use Rattle.mapblock.specs.Told.{toldReach}
 use native.Mathlib.Omega.{arith}
 use denote.Ref.{now}
-use mathlib.Core.Path.{_≡_, ap, sym, _∙_}
+use mathlib.Core.Path.{ap, sym, _∙_}
 use Prim.Native.Nat.{_<_}
 use Rattle.writer.proofs.BlockSaid.{metadata-settled, objects-said, rest-no-metadata, rest-no-early, rest-on}
 use Rattle.writer.proofs.TimersSaid.{early-settled}

@@ -1,9 +1,6 @@
 use borrow.Author.Needs.{needs}
 use Rattle.writer.proofs.judge.saved_says.Statement.{statement}
 use Rattle.writer.proofs.judge.saved_says.Tie as tie
-use Rattle.writer.proofs.judge.saved_says.Reads as reads
-use Rattle.writer.proofs.judge.saved_says.Lts as lts
-use Rattle.mapblock.proofs.names.name_rows.Reads as name-rows-reads
 use Rattle.wire.specs.Bytes.{Bytes}
 use Rattle.wire.specs.Format.{items}
 use Rattle.mapblock.specs.Layout.{nameRow}

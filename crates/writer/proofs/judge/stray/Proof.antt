@@ -1,8 +1,5 @@
 use Rattle.writer.proofs.judge.stray.Statement.{statement}
 use Rattle.writer.proofs.judge.stray.Tie as tie
-use Rattle.writer.proofs.judge.stray.Reads as reads
-use Rattle.writer.proofs.judge.stray.Lts as lts
-use Rattle.writer.proofs.judge.content_id.Reads as content-id-reads
 use native.Mathlib.Omega.{arith}
 use denote.Ref.{now}
 use Prim.Native.Nat.{_-_}

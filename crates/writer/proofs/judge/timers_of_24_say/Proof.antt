@@ -1,13 +1,8 @@
 use borrow.Author.Needs.{needs}
 use Rattle.writer.proofs.judge.timers_of_24_say.Statement.{statement}
 use Rattle.writer.proofs.judge.timers_of_24_say.Tie as tie
-use Rattle.writer.proofs.judge.timers_of_24_say.Reads as reads
-use Rattle.writer.proofs.judge.timers_of_24_say.Lts as lts
-use Rattle.writer.proofs.judge.timers_say.Reads as timers-say-reads
-use Rattle.wire.specs.Bytes.{Bytes}
 use Rattle.mapblock.specs.Told.{toldReach}
 use native.Mathlib.Omega.{arith}
-use denote.Ref.{now}
 use Prim.Native.Nat.{_<_}
 use Rattle.wire.specs.Read.{reach}
 use mathlib.Core.Path.{_≡_, ap, sym, _∙_}

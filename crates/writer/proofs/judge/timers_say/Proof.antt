@@ -1,9 +1,6 @@
 use borrow.Author.Needs.{needs}
 use Rattle.writer.proofs.judge.timers_say.Statement.{statement}
 use Rattle.writer.proofs.judge.timers_say.Tie as tie
-use Rattle.writer.proofs.judge.timers_say.Reads as reads
-use Rattle.writer.proofs.judge.timers_say.Lts as lts
-use Rattle.mapblock.proofs.rows.rows.Reads as rows-reads
 use Rattle.wire.specs.Bytes.{Bytes}
 use Rattle.mapblock.specs.Told.{toldReach}
 use native.Mathlib.Omega.{arith}

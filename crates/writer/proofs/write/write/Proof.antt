@@ -1,20 +1,12 @@
 use borrow.Author.Needs.{needs}
 use Rattle.writer.proofs.write.write.Statement.{statement}
 use Rattle.writer.proofs.write.write.Tie as tie
-use Rattle.writer.proofs.write.write.Reads as reads
-use Rattle.writer.proofs.write.write.Lts as lts
-use Rattle.mapblock.proofs.head.is_version.Reads as is-version-reads
-use Rattle.writer.proofs.counts.count_all.Reads as count-all-reads
-use Rattle.writer.proofs.fit.fit.Reads as fit-reads
-use Rattle.writer.proofs.judge.judge.Reads as judge-reads
-use Rattle.writer.proofs.put.put_block.Reads as put-block-reads
 use Rattle.mapblock.specs.Told.{toldReach}
 use denote.Ref.{now}
-use mathlib.Core.Path.{_≡_, ap, sym, _∙_}
+use mathlib.Core.Path.{ap, sym, _∙_}
 use borrow.Author.Tests.{not-true, not-false}
-use Rattle.writer.specs.Parts.{Parts, partsOf}
+use Rattle.writer.specs.Parts.{Parts, partsOf, Held}
 use Rattle.writer.specs.Sections.{toldCounts}
-use Rattle.writer.specs.Theorems.{Held}
 use Rattle.writer.proofs.Written.{bad-version, misfit, ragged, judgeable, blockIs, small, refuses, no-room, room, writes}
 
 -- the parts, and that they are what the types of a call hold
