@@ -3,9 +3,9 @@
 use Prim.Native.Nat.{ℕ, zero, suc, _+_}
 use mathlib.Core.Path.{_≡_, refl, ap, sym, _∙_}
 use mathlib.Core.Logic.{_⊎_, inl, inr}
-use mathlib.Core.List.{List, [], _∷_, _++_, append-assoc, append-nil}
+use mathlib.Core.List.{List, [], _∷_, _++_, append-nil}
 use mathlib.Core.Bool.{Bool, true, false}
-use lib.ListN.{length, drop, length-append}
+use lib.ListN.{length, drop}
 use lib.Seq.{drop-append-seam}
 use Rattle.wire.specs.Choice.{pick}
 use Rattle.wire.specs.Bytes.{Bytes}
@@ -185,14 +185,6 @@ module _ {E : Type 0} {ends : E} {A : Type 0} {strict loose : Format E ends A} (
         let e : done c n ≡ done a (length (strict .encode a)) = sym (l .takes (strict .encode a) c n h) ∙ alone in
         ((cc), (cc));
   }
-
-  -- nothing is missing in its bytes
-  pub settled-whole : (p : ℕ) → strict .read (strict .encode a) ≡ refused ends p → ⊥
-  settled-whole p h = go (l .refuses (strict .encode a) ends p h)
-    where
-      go : (loose .read (strict .encode a) ≡ refused ends p) ⊎ (ends ≡ ends → ⊥) → ⊥
-      go (inl z) = never (sym z ∙ alone)
-      go (inr z) = z refl
 
 pub settled-ok : {E : Type 0} {ends : E} {A : Type 0} (f : Format E ends A) (a : A) → f .Ok a → Settled f a
 settled-ok f a ok = settled (looser-self f) a ok

@@ -1,17 +1,16 @@
 -- What is said of a block's bytes, from what is said of its lists.
-use Prim.Native.Nat.{ℕ, _+_, _^_, _<_, _≤_}
+use Prim.Native.Nat.{ℕ, _+_, _<_, _≤_}
 use mathlib.Core.Path.{_≡_, refl, ap, sym, _∙_}
 use mathlib.Core.Option.{some, none}
 use mathlib.Core.List.{List}
-use mathlib.Core.Bool.{Bool, true, false}
+use mathlib.Core.Bool.{Bool, true}
 use native.Mathlib.Nat.{add-assoc}
 use native.Mathlib.Omega.{arith}
-use lib.Dec.{eqb, lit<}
+use lib.Dec.{lit<}
 use lib.ListN.{length, length-append}
-use borrow.Author.Tests.{eqb-true, eq-eqb, le-leb, lt-leb}
-use Rattle.wire.specs.Choice.{pick, and-yes}
+use borrow.Author.Tests.{le-leb, lt-leb}
 use Rattle.wire.specs.Bytes.{Bytes}
-use Rattle.wire.specs.Read.{Read, done, refused, onward, never, onward-done}
+use Rattle.wire.specs.Read.{Read, done, refused, onward, never, onward-done, onward-refused}
 use Rattle.wire.specs.Format.{nothing, such, _⨾_, along}
 use Rattle.wire.specs.Formats.{_▹_, number, listed, only, u16}
 use Rattle.wire.proofs.EveryFormat.{every-format}
@@ -55,17 +54,18 @@ module _ (h : Head) (l : List NameRow) (k : List TimerRow) where
   }
 
   module _ {t : List ℕ} (g : h .version < 29) (w : Settled (saved (freeIn t)) (savedOn h l)) where
-    pub ending-refused : {u : List ℕ} {e : Fault} {p : ℕ} {z : Read Fault (Unit {0})} → SavedSaid t u (savedOn h l) z → z ≡ refused e p → EndingSaid t u h l k (refused e p)
+    pub ending-refused : {u : List ℕ} {e : Fault} {p : ℕ} {z : Read Fault (Unit {0})} → SavedSaid t u (savedOn h l) z → z ≡ refused e p → EndingSaid t u h l k z
     ending-refused x i = record {
-      says = λ free same. rw (same g, lt-leb 29 (h .version) g) (says-refused (saved (freeIn t)) (λ _. lateTimers (h .version)) (savedOn h l) (timersLate h k) w (sym i ∙ x .says));
-      marks = λ n _ z. never z;
+      says = λ free same. i ∙ rw (same g, lt-leb 29 (h .version) g) (says-refused (saved (freeIn t)) (λ _. lateTimers (h .version)) (savedOn h l) (timersLate h k) w (sym i ∙ x .says));
+      marks = λ n _ f. never (sym i ∙ f);
       kept = λ f. absurd (omega arith);
     }
 
-    pub ending-on : {u : List ℕ} {n : ℕ} {z r : Read Fault (Unit {0})} → SavedSaid t u (savedOn h l) z → z ≡ done tt n → r ≡ said (lateTimers (h .version)) (timersLate h k)
-        → EndingSaid t u h l k (onward n (λ u. u) r)
-    ending-on {u} {n} x i e = record {
-      says = λ free same. rw (same g, lt-leb 29 (h .version) g) (says-on (saved (freeIn t)) (λ _. lateTimers (h .version)) (savedOn h l) (timersLate h k) w (sym i ∙ x .says) e);
+    pub ending-on : {u : List ℕ} {n : ℕ} {z r q : Read Fault (Unit {0})} → SavedSaid t u (savedOn h l) z → z ≡ done tt n → r ≡ said (lateTimers (h .version)) (timersLate h k)
+        → q ≡ onward n (λ u. u) r → EndingSaid t u h l k q
+    ending-on {n = n} x i e f = record {
+      says = λ free same.
+          f ∙ rw (same g, lt-leb 29 (h .version) g) (says-on (saved (freeIn t)) (λ _. lateTimers (h .version)) (savedOn h l) (timersLate h k) w (sym i ∙ x .says) e);
       marks = λ _ _ _. x .marks n i;
       kept = λ f. absurd (omega arith);
     }
@@ -100,35 +100,37 @@ module _ (h : Head) (l : List NameRow) (m : List MetadataRow) (o : List ObjectRo
   abbrev end : Saved × Timers
   end = (savedBehind h l, timersLate h k)
 
-  pub rest-no-metadata : {t : List ℕ} {e : Fault} {p : ℕ} → refused e p ≡ said (metadata v) m → RestSaid t t h l m o k (refused e p)
+  pub rest-no-metadata : {t : List ℕ} {e : Fault} {p : ℕ} {z : Read Fault (Unit {0})} → z ≡ said (metadata v) m → z ≡ refused e p → RestSaid t t h l m o k z
   unfolding rest
-  rest-no-metadata z = record {
-    says = λ free _. says-refused (metadata v) (λ _. earlyTimers v ▹ objects ▹ ending free v) m (early, (o, end)) sm z;
-    marks = λ n _ y. never y;
+  rest-no-metadata y i = record {
+    says = λ free _. i ∙ says-refused (metadata v) (λ _. earlyTimers v ▹ objects ▹ ending free v) m (early, (o, end)) sm (sym i ∙ y);
+    marks = λ n _ f. never (sym i ∙ f);
     kept = λ _. refl;
   }
 
   module _ {a : ℕ} (x : done tt a ≡ said (metadata v) m) (se : Settled (earlyTimers v) early) where
-    pub rest-no-early : {t : List ℕ} {e : Fault} {p : ℕ} → refused e p ≡ said (earlyTimers v) early → RestSaid t t h l m o k (refused e (a + p))
+    pub rest-no-early : {t : List ℕ} {e : Fault} {p : ℕ} {z q : Read Fault (Unit {0})} → z ≡ said (earlyTimers v) early → z ≡ refused e p → q ≡ onward a (λ u. u) z
+        → RestSaid t t h l m o k q
     unfolding rest
-    rest-no-early z = record {
+    rest-no-early y i f = record {
       says = λ free _.
-          says-on (metadata v) (λ _. earlyTimers v ▹ objects ▹ ending free v) m (early, (o, end)) sm x
-          (says-refused (earlyTimers v) (λ _. objects ▹ ending free v) early (o, end) se z);
-      marks = λ n _ y. never y;
+          f
+          ∙ says-on (metadata v) (λ _. earlyTimers v ▹ objects ▹ ending free v) m (early, (o, end)) sm x
+          (i ∙ says-refused (earlyTimers v) (λ _. objects ▹ ending free v) early (o, end) se (sym i ∙ y));
+      marks = λ n _ g. never (sym (f ∙ ap (onward a (λ u. u)) i) ∙ g);
       kept = λ _. refl;
     }
 
     module _ {d c : ℕ} (y : done tt d ≡ said (earlyTimers v) early) (so : Settled objects o × (done tt c ≡ said objects o)) where
-      pub rest-on : {t u : List ℕ} {at : ℕ} {z r : Read Fault (Unit {0})} → at ≡ a + d + c → EndingSaid t u h l k z → z ≡ r → RestSaid t u h l m o k (onward at (λ u. u) r)
+      pub rest-on : {t u : List ℕ} {at : ℕ} {z q : Read Fault (Unit {0})} → at ≡ a + d + c → EndingSaid t u h l k z → q ≡ onward at (λ u. u) z → RestSaid t u h l m o k q
       unfolding rest
-      rest-on {t} {u} {at} {z} {r} e w i = record {
+      rest-on {at = at} {z = z} e w f = record {
         says = λ free same.
-            ap (λ (n : ℕ). onward n (λ u. u) r) e ∙ onward-thrice a d c r
+            f ∙ ap (λ (n : ℕ). onward n (λ u. u) z) e ∙ onward-thrice a d c z
             ∙ says-on (metadata v) (λ _. earlyTimers v ▹ objects ▹ ending free v) m (early, (o, end)) sm x
             (says-on (earlyTimers v) (λ _. objects ▹ ending free v) early (o, end) se y
-            (says-on objects (λ _. ending free v) o end (so .0) (so .1) (sym i ∙ w .says free same)));
-        marks = λ n g f. let q = onward-done at (λ u. u) r tt n f in w .marks (q .1) g (i ∙ q .2);
+            (says-on objects (λ _. ending free v) o end (so .0) (so .1) (w .says free same)));
+        marks = λ n g i. let q = onward-done at (λ u. u) z tt n (sym f ∙ i) in w .marks (q .1) g (q .2);
         kept = w .kept;
       }
 
@@ -173,21 +175,28 @@ module _ (h : Head) (l : List NameRow) (n : Nodes) (ok : opening .Ok (openingOn 
     }
 
     module _ {t u : List ℕ} (g : 29 ≤ h .version) (w : Settled (saved (freeIn t)) (savedOn h l)) {z : Read Fault (Unit {0})} (x : SavedSaid t u (savedOn h l) z) where
-      pub front-refused : {i : Fault} {p : ℕ} → z ≡ refused i p → FrontSaid t u h l n (refused i (k + p))
-      front-refused {i} {p} y = record {
-        says = front-by (freeIn t) (refused i p) e (rw (le-leb 29 (h .version) g) (says-refused (saved (freeIn t)) (λ _. nodes (h .version)) (savedOn h l) n w (sym y ∙ x .says)));
-        marks = λ _ _ o. never o;
-        kept = λ o. absurd (omega arith);
-      }
+      module _ {q : Read Fault (Unit {0})} (y : q ≡ onward k (λ u. u) z) where
+        pub front-refused : {i : Fault} {p : ℕ} → q ≡ refused i p → FrontSaid t u h l n q
+        front-refused {i} {p} j =
+            let o = onward-refused k (λ u. u) z i p (sym y ∙ j) in
+            record {
+              says =
+                  y ∙ ap (onward k (λ u. u)) (o .1)
+                  ∙ front-by (freeIn t) (refused i (o .0)) e (rw (le-leb 29 (h .version) g) (says-refused (saved (freeIn t)) (λ _. nodes (h .version)) (savedOn h l) n w (sym (o .1) ∙ x .says)));
+              marks = λ _ _ r. never (sym j ∙ r);
+              kept = λ r. absurd (omega arith);
+            }
 
-      pub front-named : {m : ℕ} → z ≡ done tt m → FrontSaid t u h l n (done tt (k + m + (2 + d)))
-      front-named {m} y = record {
-        says =
-            ap (done tt) (add-assoc k m (2 + d))
-            ∙ front-by (freeIn t) (done tt (m + (2 + d))) e (rw (le-leb 29 (h .version) g) (says-on (saved (freeIn t)) (λ _. nodes (h .version)) (savedOn h l) n w (sym y ∙ x .says) lists-said));
-        marks = λ _ _ _. x .marks m y;
-        kept = λ o. absurd (omega arith);
-      }
+        pub front-named : {m : ℕ} → q ≡ done tt m → FrontSaid t u h l n (done tt (m + (2 + d)))
+        front-named {m} j =
+            let o = onward-done k (λ u. u) z tt m (sym y ∙ j) in
+            record {
+              says =
+                  ap (λ (i : ℕ). done tt (i + (2 + d))) (sym (o .4)) ∙ ap (done tt) (add-assoc k (o .1) (2 + d))
+                  ∙ front-by (freeIn t) (done tt (o .1 + (2 + d))) e (rw (le-leb 29 (h .version) g) (says-on (saved (freeIn t)) (λ _. nodes (h .version)) (savedOn h l) n w (sym (o .2) ∙ x .says) lists-said));
+              marks = λ _ _ _. x .marks (o .1) (o .2);
+              kept = λ r. absurd (omega arith);
+            }
 
 -- ---- the whole
 module _ (b : Block) (w : Settled (block all) b) where

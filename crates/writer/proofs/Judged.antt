@@ -71,26 +71,32 @@ module _ (p : Parts) (l : List NameRow) (m : List MetadataRow) (o : List ObjectR
     front-said : x ≡ said (front all) (piecesOf b .0)
     front-said = fs .says ∙ ap (λ (free : ℕ → Bool). said (front free) (piecesOf b .0)) clear
 
-    pub judged-front : {e : Fault} {q : ℕ} → x ≡ refused e q → refused e q ≡ ended (verdict all (block all .encode b))
+    pub judged-front : {e : Fault} {q : ℕ} → x ≡ refused e q → x ≡ ended (verdict all (block all .encode b))
     unfolding steps
     judged-front y =
-        said-refused b steady
+        y
+        ∙ said-refused b steady
         (says-refused (front all) (λ f. rest all (f .0 .version)) (piecesOf b .0) (piecesOf b .1) front-steady (sym y ∙ front-said) ∙ block-said b steady)
 
     module _ {a : ℕ} (y : x ≡ done tt a) {w : List ℕ} {z : Read Fault (Unit {0})} (rs : RestSaid u w (p .head) l m o k z) where
       free-behind : v < 29 → all ≡ freeIn u
       free-behind h = sym (ap freeIn (fs .kept h) ∙ clear)
 
-      whole : {r : Read Fault (Unit {0})} → z ≡ r → onward a (λ u. u) r ≡ said (block all) b
+      whole : onward a (λ u. u) z ≡ said (block all) b
       unfolding steps
-      whole i =
-          says-on (front all) (λ f. rest all (f .0 .version)) (piecesOf b .0) (piecesOf b .1) front-steady (sym y ∙ front-said) (sym i ∙ rs .says all free-behind)
+      whole =
+          says-on (front all) (λ f. rest all (f .0 .version)) (piecesOf b .0) (piecesOf b .1) front-steady (sym y ∙ front-said) (rs .says all free-behind)
           ∙ block-said b steady
 
-      pub judged-rest : {e : Fault} {q : ℕ} → z ≡ refused e q → refused e (a + q) ≡ ended (verdict all (block all .encode b))
-      judged-rest i = said-refused b steady (whole i)
+      pub judged-rest : {e : Fault} {q : ℕ} {r : Read Fault (Unit {0})} → z ≡ refused e q → r ≡ onward a (λ u. u) z → r ≡ ended (verdict all (block all .encode b))
+      judged-rest i j =
+          let f = ap (onward a (λ u. u)) i in
+          j ∙ f ∙ said-refused b steady (sym f ∙ whole)
 
       module _ {c : ℕ} (i : z ≡ done tt c) where
+        ended-here : done tt (a + c) ≡ onward a (λ u. u) z
+        ended-here = sym (ap (onward a (λ u. u)) i)
+
         table : Tabled 65536 (unmapped all l) w
         table = either 29 v
             (λ h. subst (λ (w : List ℕ). Tabled 65536 (unmapped all l) w) (sym (rs .kept h)) (subst (λ (free : ℕ → Bool). Tabled 65536 (unmapped free l) u) clear (fs .marks a h y)))
@@ -103,14 +109,14 @@ module _ (p : Parts) (l : List NameRow) (m : List MetadataRow) (o : List ObjectR
         stray-is = stray-same b w table below
 
         pub judged-done : none ≡ strayAmong v (p .param0) (p .param2) w 4096 0 → done tt (a + c) ≡ ended (verdict all (block all .encode b))
-        judged-done e = said-done b steady (whole i) (stray-is ∙ sym e)
+        judged-done e = said-done b steady (ended-here ∙ whole) (stray-is ∙ sym e)
 
         pub judged-stray : {j : ℕ} → some j ≡ strayAmong v (p .param0) (p .param2) w 4096 0
             → refused fault.IdUnmapped (a - listsLength v + width v * j) ≡ ended (verdict all (block all .encode b))
         judged-stray {j} e =
             let long : a ≡ length (front all .encode (piecesOf b .0)) = says-length (front all) (λ f. rest all (f .0 .version)) (piecesOf b .0) (piecesOf b .1) front-steady (sym y ∙ front-said) in
             let place : a - listsLength v + width v * j ≡ param0At b j = omega (arith, long, front-length) in
-            ap (refused fault.IdUnmapped) place ∙ said-stray b steady (whole i) (stray-is ∙ sym e)
+            ap (refused fault.IdUnmapped) place ∙ said-stray b steady (ended-here ∙ whole) (stray-is ∙ sym e)
 
 -- a stray is one of the nodes
 pub among-below : (v : ℕ) (param0 param2 t : List ℕ) (n i : ℕ) {j : ℕ} → some j ≡ strayAmong v param0 param2 t n i → j < i + n

@@ -1,36 +1,34 @@
 -- The block that parts make: what the reader says of its bytes is said of it, whatever follows them.
-use Prim.Native.Nat.{ℕ, zero, suc, _^_, _<_}
-use mathlib.Core.Path.{_≡_, refl, ap, ap₂, sym, subst, _∙_}
+use Prim.Native.Nat.{ℕ, _<_}
+use mathlib.Core.Path.{_≡_, refl, ap, sym, subst, _∙_}
 use mathlib.Core.Option.{Option, some, none, Option·none-ne-some}
-use mathlib.Core.List.{List, [], _∷_}
-use mathlib.Core.Bool.{Bool, true, false, not, _&&_}
+use mathlib.Core.List.{List}
+use mathlib.Core.Bool.{Bool, true, false}
 use native.Mathlib.Omega.{arith}
-use lib.Dec.{eqb, lit<}
-use lib.ListN.{length, getD}
-use borrow.Author.Tests.{le-leb, lt-leb, eqb-false}
-use Rattle.wire.specs.Choice.{pick, and-yes, three-yes}
+use lib.Dec.{lit<}
+use lib.ListN.{length}
+use borrow.Author.Tests.{le-leb, lt-leb}
+use Rattle.wire.specs.Choice.{pick}
 use Rattle.wire.specs.Bytes.{Bytes}
 use Rattle.wire.specs.Read.{mapRead, map-done}
-use Rattle.wire.specs.Format.{nothing, such, _⨾_, along, items, OkItems}
-use Rattle.wire.specs.Formats.{_▹_, u8, u16, number, listed, fixed, only, into, times}
+use Rattle.wire.specs.Format.{nothing, _⨾_, along}
+use Rattle.wire.specs.Formats.{_▹_, listed, only}
 use Rattle.wire.proofs.Looser.{Looser, Settled, looser-self, looser-then, looser-pick, settled}
 use Rattle.mapblock.specs.Inventory.{Form}
-use Rattle.mapblock.specs.Data.{NameRow, MetadataRow, ObjectRow, TimerRow, Timers, Block, unsaved, untimed, timersParts}
-use Rattle.mapblock.specs.Layout.{since, before, all, width, isVersion, objectRow, opening, params, nodes, objects, Front, Rest, front, rest, steps}
-use Rattle.mapblock.specs.Questions.{areWhole}
+use Rattle.mapblock.specs.Data.{NameRow, MetadataRow, ObjectRow, TimerRow, Block, unsaved}
+use Rattle.mapblock.specs.Layout.{since, before, all, isVersion, objectRow, opening, nodes, objects, Front, Rest, front, rest, steps}
 use Rattle.mapblock.specs.Block.{block, blockFrom, piecesOf, built-pieces}
 use Rattle.mapblock.specs.declared.fault.Fault.the-variants as fault
-use Rattle.mapblock.proofs.Entries.{width-old, width-new, width-range}
 use Rattle.mapblock.specs.Valid.{NodesGood}
 use Rattle.mapblock.specs.declared.head.Head.{Head}
 use Rattle.mapblock.proofs.ValidOk.{nodes-ok, slot-ok}
-use Rattle.mapblock.proofs.GoodRows.{either, since-ok, fixed-ok}
+use Rattle.mapblock.proofs.GoodRows.{either, fixed-ok}
 use Rattle.writer.specs.Frames.{nameFrame, metadataFrame, timerFrame, sectionRows}
-use Rattle.writer.specs.Parts.{Parts, carries, narrow, timed, fits, given, made, rowsMade, blockMade, Held}
-use Rattle.writer.specs.Said.{openingOn, savedOn, savedFront, savedBehind, timersOn, timersEarly, timersLate}
+use Rattle.writer.specs.Parts.{Parts, carries, narrow, fits, given, made, rowsMade, blockMade, Held}
+use Rattle.writer.specs.Said.{savedOn, savedFront, savedBehind, timersLate}
 use Rattle.writer.specs.Sections.{Rows}
 use Rattle.writer.proofs.Framed.{savedFrame, metadataListFrame, earlyFrame, lateFrame, looser-both, saved-looser, metadata-list-looser, early-looser, late-looser}
-use Rattle.writer.proofs.RowsSaid.{rows-ok, no-rows, saved-ok}
+use Rattle.writer.proofs.RowsSaid.{rows-ok, saved-ok}
 use Rattle.writer.proofs.Fitting.{Fitting, fits-plain, fits-carries, fits-timed}
 use Rattle.writer.proofs.TimersSaid.{early-ok}
 use Rattle.writer.proofs.BlockSaid.{opening-ok, metadata-ok, objects-ok}

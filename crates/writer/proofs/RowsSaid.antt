@@ -118,18 +118,16 @@ marked-by : (t u : List ℕ) (l : List NameRow) (r : Read Fault (List NameRow)) 
 marked-by t u l (done c m) h same n e = subst (λ (c : List NameRow). Tabled 65536 (unmapped (freeIn t) c) u) (same c m refl) (h .tabled)
 marked-by t u l (refused f p) h same n e = never (sym e)
 
-pub saved-says : {t u s : List ℕ} {count : ℕ} {r : Read Fault (Unit {0})} → Bytes s
-    → r ≡ ended (items (nameRow (freeIn t)) count .read s) → RowsMarked t u (items (nameRow (freeIn t)) count .read s)
-    → (x : Saved) → x .timestamp < 4294967296 → Rows nameFrame s count (x .names) → SavedSaid t u x (onward 7 (λ u. u) r)
+pub saved-says : {t u s : List ℕ} {count : ℕ} {r q : Read Fault (Unit {0})} → Bytes s
+    → r ≡ ended (items (nameRow (freeIn t)) count .read s) → RowsMarked t u (items (nameRow (freeIn t)) count .read s) → q ≡ onward 7 (λ u. u) r
+    → (x : Saved) → x .timestamp < 4294967296 → Rows nameFrame s count (x .names) → SavedSaid t u x q
 unfolding items
-saved-says {t} {u} {s} {count} {r} b h m x k w =
-    let few = rows-few nameFrame b w in
-    record {
-      says = ap (onward 7 (λ u. u)) (rows-said nameFrame b w (nameRow (freeIn t)) (name-looser (freeIn t)) h) ∙ sym (saved-is (freeIn t) x k few);
-      marks = λ n e.
-          let y = onward-done 7 (λ u. u) r tt n e in
-          marked-by t u (x .names) (items (nameRow (freeIn t)) count .read s) m (λ c n. rows-found nameFrame b w (nameRow (freeIn t)) (name-looser (freeIn t))) (y .1) (sym (y .2) ∙ h);
-    }
+saved-says {t} {u} {s} {count} {r} b h m e x k w = record {
+  says = e ∙ ap (onward 7 (λ u. u)) (rows-said nameFrame b w (nameRow (freeIn t)) (name-looser (freeIn t)) h) ∙ sym (saved-is (freeIn t) x k (rows-few nameFrame b w));
+  marks = λ n f.
+      let y = onward-done 7 (λ u. u) r tt n (sym e ∙ f) in
+      marked-by t u (x .names) (items (nameRow (freeIn t)) count .read s) m (λ c n. rows-found nameFrame b w (nameRow (freeIn t)) (name-looser (freeIn t))) (y .1) (sym (y .2) ∙ h);
+}
 
 -- ---- metadata
 pub metadata-says : (v : ℕ) {k : ℕ} {s : List ℕ} {count : ℕ} {r : Read Fault (Unit {0})} → Bytes s → k ≡ metadataHead v → r ≡ ended (items (metadataRow v) count .read s)

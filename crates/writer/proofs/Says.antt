@@ -6,7 +6,7 @@ use native.Mathlib.Nat.{zero-add, add-assoc}
 use lib.ListN.{length, drop}
 use lib.Seq.{drop-append-seam}
 use Rattle.wire.specs.Bytes.{spell, spell-length}
-use Rattle.wire.specs.Read.{Read, done, refused, onward}
+use Rattle.wire.specs.Read.{Read, done, refused, onward, reach}
 use Rattle.wire.specs.Format.{such, _⨾_, along, pair, items, encodeItems, run}
 use Rattle.wire.specs.Formats.{Shape, number, listed, behind, fixed, into}
 use Rattle.wire.proofs.EveryFormat.{every-format}
@@ -22,6 +22,10 @@ use Rattle.writer.specs.Said.{said}
 ended-onward : {A B : Type 0} (n : ℕ) (f : A → B) (r : Read Fault A) → ended (onward n f r) ≡ onward n (λ u. u) (ended r)
 ended-onward n f (done a m) = refl
 ended-onward n f (refused e p) = refl
+
+pub onward-reach : (n : ℕ) (r : Read Fault (Unit {0})) → reach (onward n (λ u. u) r) ≡ n + reach r
+onward-reach n (done tt m) = refl
+onward-reach n (refused e p) = refl
 
 pub onward-none : (r : Read Fault (Unit {0})) → onward 0 (λ u. u) r ≡ r
 onward-none (done tt n) = rw zero-add

@@ -16,26 +16,35 @@ ghost use mathlib.Core.Bool.{true};
 ghost use Prim.Native.Nat.{ℕ, _+_, _*_, _<_, _≤_};
 ghost use lib.ListN.{length};
 ghost use Rattle.wire.specs.Bytes.{Bytes};
-ghost use Rattle.wire.specs.Read.{done, reach};
+ghost use Rattle.wire.specs.Read.{done, onward, reach};
 ghost use Rattle.wire.specs.Formats.{listed};
 ghost use Rattle.mapblock.specs.Data.{NameRow, MetadataRow, ObjectRow, TimerRow, Saved, Nodes};
 ghost use Rattle.mapblock.specs.Layout.{all, isVersion, width, metadata, nodes, objectRow, timerRow, earlyTimers, lateTimers};
 ghost use Rattle.mapblock.specs.Block.{block, contentId, verdict};
+ghost use Rattle.mapblock.specs.Sections.{InReach};
 ghost use Rattle.mapblock.specs.Told.{toldReach, ended, toldStray};
 ghost use Rattle.writer.specs.Frames.{nameFrame, metadataFrame, timerFrame};
-ghost use Rattle.writer.specs.Parts.{carries, narrow, timed, fits, partsOf, made};
+ghost use Rattle.writer.specs.Parts.{Held, carries, narrow, timed, fits, partsOf, made};
 ghost use Rattle.writer.specs.Sections.{Rows};
 ghost use Rattle.writer.specs.Said.{said, Small, timersEarly, timersLate, timersOn, openingLength, listsLength, SavedSaid, FrontSaid, EndingSaid, RestSaid, strayAmong};
+
+// What was said of bytes, told from a place so many bytes before them.
+fn onward(at: usize, r: Reach) -> Reach
+    requires { ⌜ InReach (at + reach (toldReach r)) ⌝ }
+    ensures { λ q. ⌜ toldReach q ≡ onward at (λ u. u) (toldReach r) ⌝ }
+{
+    match r {
+        Reach::End(n) => Reach::End(at + n),
+        Reach::Refused(f, p) => Reach::Refused(f, at + p),
+    }
+}
 
 // Timestamp and names, seven bytes before the rows; the ids are marked.
 fn saved_says(names: &[u8], count: u16, ids: &mut [u8; 65536]) -> Reach
     ensures { λ r. ⌜ ((x : Saved) → x .timestamp < 4294967296 → Rows nameFrame (now (names .entry)) count (x .names) → SavedSaid (now (ids .entry)) (now (ids .exit)) x (toldReach r)) ⌝ }
     ensures { λ r. ⌜ reach (toldReach r) ≤ 7 + length (now (names .entry)) ⌝ }
 {
-    match name_rows(names, count, ids) {
-        Reach::Refused(f, p) => Reach::Refused(f, 7 + p),
-        Reach::End(n) => Reach::End(7 + n),
-    }
+    onward(7, name_rows(names, count, ids))
 }
 
 // The metadata list.
@@ -43,11 +52,10 @@ fn metadata_says(version: u8, list: &[u8], count: u16) -> Reach
     ensures { λ r. ⌜ ((l : List MetadataRow) → Rows (metadataFrame version) (now (list .entry)) count l → toldReach r ≡ said (metadata version) l) ⌝ }
     ensures { λ r. ⌜ reach (toldReach r) ≤ 4 + length (now (list .entry)) ⌝ }
 {
-    let head = metadata_head(version);
-    match rows(Kind::Metadata, version, list, count) {
-        Reach::Refused(f, p) => Reach::Refused(f, head + p),
-        Reach::End(n) => Reach::End(head + n),
-    }
+    onward(
+        metadata_head(version),
+        rows(Kind::Metadata, version, list, count),
+    )
 }
 
 // A count of timers and their rows.
@@ -55,10 +63,7 @@ fn timers_say(version: u8, timers: &[u8], count: u16) -> Reach
     ensures { λ r. ⌜ ((l : List TimerRow) → Rows timerFrame (now (timers .entry)) count l → toldReach r ≡ said (listed 2 timerRow) l) ⌝ }
     ensures { λ r. ⌜ reach (toldReach r) ≤ 2 + length (now (timers .entry)) ⌝ }
 {
-    match rows(Kind::Timers, version, timers, count) {
-        Reach::Refused(f, p) => Reach::Refused(f, 2 + p),
-        Reach::End(n) => Reach::End(2 + n),
-    }
+    onward(2, rows(Kind::Timers, version, timers, count))
 }
 
 // Version 24's timer byte, and its timers where that is 1.
@@ -72,10 +77,7 @@ fn timers_of_24_say(head: Head, timers: &[u8], count: u16) -> Reach
     if head.timer == 0 {
         return Reach::End(1);
     }
-    match timers_say(24, timers, count) {
-        Reach::Refused(f, p) => Reach::Refused(f, 1 + p),
-        Reach::End(n) => Reach::End(1 + n),
-    }
+    onward(1, timers_say(24, timers, count))
 }
 
 // What follows the metadata.
@@ -100,10 +102,7 @@ fn late_says(head: Head, timers: &[u8], count: u16) -> Reach
     if head.version < 25 {
         return Reach::End(0);
     }
-    match timers_say(head.version, timers, count) {
-        Reach::Refused(f, p) => Reach::Refused(f, 1 + p),
-        Reach::End(n) => Reach::End(1 + n),
-    }
+    onward(1, timers_say(head.version, timers, count))
 }
 
 // Behind the static objects: names before version 29, and the timers at the end.
@@ -115,13 +114,11 @@ fn ending_says(head: Head, c: Counts, names: &[u8], timers: &[u8], ids: &mut [u8
     if 29 <= head.version {
         return late_says(head, timers, c.timers);
     }
-    match saved_says(names, c.names, ids) {
-        Reach::Refused(f, p) => Reach::Refused(f, p),
-        Reach::End(n) => match late_says(head, timers, c.timers) {
-            Reach::Refused(f, p) => Reach::Refused(f, n + p),
-            Reach::End(m) => Reach::End(n + m),
-        },
-    }
+    let saved = saved_says(names, c.names, ids);
+    let Reach::End(n) = saved else {
+        return saved;
+    };
+    onward(n, late_says(head, timers, c.timers))
 }
 
 // What follows the node data; of static objects the reader refuses none.
@@ -138,19 +135,16 @@ fn rest_says(
     ensures { λ r. ⌜ ((l : List NameRow) (m : List MetadataRow) (o : List ObjectRow) (k : List TimerRow) → Rows nameFrame (now (names .entry)) (c .names) l → Rows (metadataFrame (head .version)) (now (metadata .entry)) (c .metadata) m → Rows objectRow (now (objects .entry)) (c .objects) o → Rows timerFrame (now (timers .entry)) (c .timers) k → carries head ≡ true → timed head (now (timers .entry)) ≡ true → RestSaid (now (ids .entry)) (now (ids .exit)) head l m o k (toldReach r)) ⌝ }
     ensures { λ r. ⌜ reach (toldReach r) ≤ 20 + length (now (metadata .entry)) + length (now (names .entry)) + length (now (objects .entry)) + length (now (timers .entry)) + length (now (timers .entry)) ⌝ }
 {
-    match metadata_says(head.version, metadata, c.metadata) {
-        Reach::Refused(f, p) => Reach::Refused(f, p),
-        Reach::End(a) => match early_says(head, timers, c.timers) {
-            Reach::Refused(f, p) => Reach::Refused(f, a + p),
-            Reach::End(b) => {
-                let at = a + b + 3 + objects.len();
-                match ending_says(head, c, names, timers, ids) {
-                    Reach::Refused(f, p) => Reach::Refused(f, at + p),
-                    Reach::End(n) => Reach::End(at + n),
-                }
-            }
-        },
-    }
+    let first = metadata_says(head.version, metadata, c.metadata);
+    let Reach::End(a) = first else {
+        return first;
+    };
+    let second = early_says(head, timers, c.timers);
+    let Reach::End(b) = second else {
+        return onward(a, second);
+    };
+    let at = a + b + 3 + objects.len();
+    onward(at, ending_says(head, c, names, timers, ids))
 }
 
 // The bytes of step 1.
@@ -179,10 +173,11 @@ fn front_says(head: Head, names: &[u8], count: u16, ids: &mut [u8; 65536]) -> Re
     if head.version < 29 {
         return Reach::End(opening + nodes);
     }
-    match saved_says(names, count, ids) {
-        Reach::Refused(f, p) => Reach::Refused(f, opening + p),
-        Reach::End(n) => Reach::End(opening + n + nodes),
-    }
+    let named = onward(opening, saved_says(names, count, ids));
+    let Reach::End(n) = named else {
+        return named;
+    };
+    Reach::End(n + nodes)
 }
 
 // The content id of a node.
@@ -228,22 +223,25 @@ pub(crate) fn judge(
     timers: &[u8],
 ) -> Reach
     requires { ⌜ (isVersion (head .version) ≡ true) × (fits (partsOf head (now param0) (now param1) (now param2) (now names) (now metadata) (now objects) (now timers)) ≡ true) ⌝ }
+    requires { ⌜ Held (partsOf head (now param0) (now param1) (now param2) (now names) (now metadata) (now objects) (now timers)) ⌝ }
     requires { ⌜ Small (now names) × (Small (now objects) × Small (now timers)) ⌝ }
     ensures { λ r. ⌜ ((l : List NameRow) (m : List MetadataRow) (o : List ObjectRow) (k : List TimerRow) → Rows nameFrame (now (names .entry)) (c .names) l → Rows (metadataFrame (head .version)) (now (metadata .entry)) (c .metadata) m → Rows objectRow (now (objects .entry)) (c .objects) o → Rows timerFrame (now (timers .entry)) (c .timers) k → toldReach r ≡ ended (verdict all (block all .encode (made (partsOf head (now (param0 .entry)) (now (param1 .entry)) (now (param2 .entry)) (now (names .entry)) (now (metadata .entry)) (now (objects .entry)) (now (timers .entry))) l m o k)))) ⌝ }
 {
     let mut ids = [0u8; 65536];
     let version = head.version;
-    match front_says(head, names, c.names, &mut ids) {
-        Reach::Refused(f, p) => Reach::Refused(f, p),
-        Reach::End(a) => match rest_says(head, c, names, metadata, objects, timers, &mut ids) {
-            Reach::Refused(f, p) => Reach::Refused(f, a + p),
-            Reach::End(b) => match stray(version, param0, param2, &ids) {
-                Stray::None => Reach::End(a + b),
-                Stray::At(i) => Reach::Refused(
-                    Fault::IdUnmapped,
-                    a - lists_length(version) + width(version) * i,
-                ),
-            },
-        },
+    let front = front_says(head, names, c.names, &mut ids);
+    let Reach::End(a) = front else {
+        return front;
+    };
+    let rest = rest_says(head, c, names, metadata, objects, timers, &mut ids);
+    let Reach::End(b) = rest else {
+        return onward(a, rest);
+    };
+    match stray(version, param0, param2, &ids) {
+        Stray::None => Reach::End(a + b),
+        Stray::At(i) => Reach::Refused(
+            Fault::IdUnmapped,
+            a - lists_length(version) + width(version) * i,
+        ),
     }
 }

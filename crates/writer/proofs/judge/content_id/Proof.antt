@@ -4,23 +4,18 @@ use Rattle.writer.proofs.judge.content_id.Tie as tie
 use native.Mathlib.Omega.{arith}
 use Rattle.writer.proofs.Strays.{content-new, content-low, content-high}
 
--- src/judge.rt:187:9
 returns : tie.Need-returns
 returns c = (content-new (c .before .args .version) (c .before .args .param0) (c .before .args .param2) (c .if1 .taken), search needs)
 
--- src/judge.rt:190:9
 returns-2 : tie.Need-returns-2
 returns-2 c = (content-low (c .before .before .args .version) (c .before .before .args .param0) (c .before .before .args .param2) (c .before .if1 .left) (c .if2 .taken), search needs)
 
--- src/judge.rt:192:5
 mul-result : tie.Need-mul-result
 mul-result c = search needs
 
--- src/judge.rt:192:5
 add-result : tie.Need-add-result
 add-result c = omega (arith, c .before .before .pre (λ h. omega arith))
 
--- src/judge.rt:181:1
 returns-3 : tie.Need-returns-3
 returns-3 c = (content-high (c .before .before .args .version) (c .before .before .args .param0) (c .before .before .args .param2) (c .before .if1 .left) (c .if2 .left), omega (arith, c .before .before .pre (λ h. omega arith)))
 

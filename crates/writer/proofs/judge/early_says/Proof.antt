@@ -6,23 +6,19 @@ use native.Mathlib.Omega.{arith}
 use denote.Ref.{now}
 use Rattle.writer.proofs.TimersSaid.{early-of-24, early-of-23, early-other}
 
--- src/judge.rt:87:9
 timers-of-24-say-requires : tie.Need-timers-of-24-say-requires
 timers-of-24-say-requires c κs = search needs
 
--- src/judge.rt:87:9
 returns : tie.Need-returns
 returns c =
     let b : Bytes (now (c .before .before .before .before .args .timers)) = λ i. c .before .before .before .shared-slice-known .given i .fits in
     ((λ l w k t. early-of-24 (c .before .before .before .before .args .head) b w k (search needs) (c .timers-of-24-say .ensures .0 l w)), c .timers-of-24-say .ensures .1)
 
--- src/judge.rt:90:9
 returns-2 : tie.Need-returns-2
 returns-2 c =
     let b : Bytes (now (c .before .before .before .before .before .args .timers)) = λ i. c .before .before .before .before .shared-slice-known .given i .fits in
     ((λ l w k t. early-of-23 (c .before .before .before .before .before .args .head) b w k t (search needs)), omega arith)
 
--- src/judge.rt:82:1
 returns-3 : tie.Need-returns-3
 returns-3 c =
     let b : Bytes (now (c .before .before .before .before .before .args .timers)) = λ i. c .before .before .before .before .shared-slice-known .given i .fits in

@@ -2,11 +2,9 @@ use Rattle.writer.proofs.judge.opening_length.Statement.{statement}
 use Rattle.writer.proofs.judge.opening_length.Tie as tie
 use borrow.Author.Tests.{le-leb, lt-leb}
 
--- src/judge.rt:157:1
 returns : tie.Need-returns
 returns c = rw (lt-leb 27 (c .before .args .version) (c .if1 .taken))
 
--- src/judge.rt:157:1
 returns-2 : tie.Need-returns-2
 returns-2 c = rw (le-leb 27 (c .before .args .version) (c .if1 .left))
 

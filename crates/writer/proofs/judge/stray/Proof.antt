@@ -14,47 +14,36 @@ Inv-loop version param0 param2 ids i₀ i = strayAmong version param0 param2 ids
 abbrev μ-loop : tie.MeasureT-loop
 μ-loop version param0 param2 ids i₀ i = 4096 - i
 
--- src/judge.rt:201:5
 loop-holds : tie.Need-loop-holds Inv-loop μ-loop
 loop-holds c = refl
 
--- src/judge.rt:202:36
 mul-content-id : tie.Need-mul-content-id Inv-loop μ-loop
 mul-content-id c = search needs
 
--- src/judge.rt:202:36
 shared-slice-read-content-id : tie.Need-shared-slice-read-content-id Inv-loop μ-loop
 shared-slice-read-content-id c = omega (arith, c .before .before .before .before .before .pre .0)
 
--- src/judge.rt:202:47
 shared-slice-read-content-id-2 : tie.Need-shared-slice-read-content-id-2 Inv-loop μ-loop
 shared-slice-read-content-id-2 c = omega (arith, c .before .before .before .before .before .before .pre .1)
 
--- src/judge.rt:202:16
 content-id-requires : tie.Need-content-id-requires Inv-loop μ-loop
 content-id-requires c κs = λ n. narrow-at (c .before .before .before .before .before .before .args .version) (now (c .before .before .before .before .before .before .args .param0)) (c .before .before .before .loop .i) (c .before .before .before .before .before .before .pre .2) (omega (arith, c .before .before .before .before .before .before .pre .0, c .before .before .loop-test .taken)) (omega arith)
 
--- src/judge.rt:202:12
 element-copy-out-if1 : tie.Need-element-copy-out-if1 Inv-loop μ-loop
 element-copy-out-if1 c = c .content-id .ensures .1
 
--- src/judge.rt:203:13
 returns : tie.Need-returns Inv-loop μ-loop
 returns c = sym (among-here (c .before .before .before .before .before .before .before .before .before .args .version) (now (c .before .before .before .before .before .before .before .before .before .args .param0)) (now (c .before .before .before .before .before .before .before .before .before .args .param2)) (now (c .before .before .before .before .before .before .before .before .before .args .ids)) (c .before .before .before .before .before .before .loop .i) (c .before .before .before .before .before .loop-test .taken) (c .before .before .content-id .ensures .0) (c .if1 .taken)) ∙ c .before .before .before .before .before .before .loop .inv
 
--- src/judge.rt:205:9
 add-i : tie.Need-add-i Inv-loop μ-loop
 add-i c = search needs
 
--- src/judge.rt:201:5
 loop-less : tie.Need-loop-less Inv-loop μ-loop
 loop-less c = search needs
 
--- src/judge.rt:201:5
 loop-again : tie.Need-loop-again Inv-loop μ-loop
 loop-again c = sym (among-on (c .before .before .before .before .before .before .before .before .before .args .version) (now (c .before .before .before .before .before .before .before .before .before .args .param0)) (now (c .before .before .before .before .before .before .before .before .before .args .param2)) (now (c .before .before .before .before .before .before .before .before .before .args .ids)) (c .before .before .before .before .before .before .loop .i) (c .before .before .before .before .before .loop-test .taken) (c .before .before .content-id .ensures .0) (c .if1 .left)) ∙ c .before .before .before .before .before .before .loop .inv
 
--- src/judge.rt:196:1
 returns-2 : tie.Need-returns-2 Inv-loop μ-loop
 returns-2 c = sym (among-none (c .before .before .before .before .args .version) (now (c .before .before .before .before .args .param0)) (now (c .before .before .before .before .args .param2)) (now (c .before .before .before .before .args .ids)) (c .before .loop .i) (c .loop-test .left)) ∙ c .before .loop .inv
 
