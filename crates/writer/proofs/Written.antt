@@ -1,5 +1,5 @@
 -- What the writer answers, test by test.
-use Prim.Native.Nat.{ℕ, _<_, _≤_}
+use Prim.Native.Nat.{ℕ, _≤_}
 use mathlib.Core.Path.{_≡_, refl, ap, sym, _∙_}
 use mathlib.Core.Option.{Option, some, none, Option·map, Option·none-ne-some, map-eq-some-iff}
 use mathlib.Core.List.{List}
@@ -24,7 +24,7 @@ use Rattle.mapblock.proofs.Readings.{ended-done, ended-refused}
 use Rattle.mapblock.proofs.Taken.{taken}
 use Rattle.writer.specs.Frames.{nameFrame, metadataFrame, timerFrame}
 use Rattle.writer.specs.Parts.{Parts, fits, made, rowsMade, blockMade, Held}
-use Rattle.writer.specs.Pieces.{blockBytes}
+use Rattle.writer.specs.Measured.{bytesFor, Written}
 use Rattle.writer.specs.Sections.{Rows, countsOf, countsIn}
 use Rattle.writer.specs.Said.{Small}
 use Rattle.writer.specs.Write.{judgedBytes, writeOf}
@@ -35,35 +35,27 @@ use Rattle.writer.proofs.RowCounts.{counts-made}
 use Rattle.writer.proofs.RowsSaid.{rows-bytes, names-small, objects-small, timers-small}
 use Rattle.writer.proofs.MadeBlock.{MadeOf, made-of, block-bytes}
 
--- ---- an answer, and what the buffer holds then
-abbrev pub Answers : Parts → List ℕ → Answer ℕ → List ℕ → Type 0
-Answers p out a after = (a ≡ mapAnswer length (writeOf p (length out))) × (after ≡ lent (writeOf p (length out)) out)
-
-answers-by : (p : Parts) (out : List ℕ) (w : Answer (List ℕ)) → writeOf p (length out) ≡ w → Answers p out (mapAnswer length w) (lent w out)
-answers-by p out w e = rw e (refl, refl)
-
-module _ (p : Parts) (out : List ℕ) where
-  pub bad-version : isVersion (p .head .version) ≡ false → Answers p out (plain versionOutside) out
+module _ (p : Parts) where
+  pub bad-version : isVersion (p .head .version) ≡ false → (room : ℕ) → writeOf p room ≡ plain versionOutside
   unfolding writeOf
-  bad-version h = answers-by p out (plain versionOutside) (rw h)
+  bad-version h room = rw h
 
   module _ (v : isVersion (p .head .version) ≡ true) where
-    made-none : blockMade p ≡ none → Answers p out (plain partsMisfit) out
+    made-none : blockMade p ≡ none → (room : ℕ) → writeOf p room ≡ plain partsMisfit
     unfolding writeOf
-    made-none h = answers-by p out (plain partsMisfit) (rw (v, h))
+    made-none h room = rw (v, h)
 
-    pub misfit : fits p ≡ false → Answers p out (plain partsMisfit) out
+    pub misfit : fits p ≡ false → (room : ℕ) → writeOf p room ≡ plain partsMisfit
     unfolding blockMade
     misfit h = made-none (rw h)
 
-    module _ (f : fits p ≡ true) where
-      pub ragged : none ≡ countsIn (p .head .version) (p .names) (p .metadata) (p .objects) (p .timers) → Answers p out (plain partsMisfit) out
-      unfolding blockMade
-      ragged h = made-none (rw f (go (rowsMade p) (h ∙ counts-made p)))
-        where
-          go : (o : Option Block) → none ≡ Option·map countsOf o → o ≡ none
-          go none e = refl
-          go (some b) e = absurd (Option·none-ne-some (countsOf b) e)
+    pub ragged : fits p ≡ true → none ≡ countsIn (p .head .version) (p .names) (p .metadata) (p .objects) (p .timers) → (room : ℕ) → writeOf p room ≡ plain partsMisfit
+    unfolding blockMade
+    ragged f h = made-none (rw f (go (rowsMade p) (h ∙ counts-made p)))
+      where
+        go : (o : Option Block) → none ≡ Option·map countsOf o → o ≡ none
+        go none e = refl
+        go (some b) e = absurd (Option·none-ne-some (countsOf b) e)
 
 -- ---- the block that is made, by its counts
 module _ (p : Parts) (c : Counts) (f : fits p ≡ true) (h : some c ≡ countsIn (p .head .version) (p .names) (p .metadata) (p .objects) (p .timers)) where
@@ -103,7 +95,7 @@ module _ (p : Parts) (c : Counts) (f : fits p ≡ true) (h : some c ≡ countsIn
     small = let j = judgeable in (names-small (held .names) (j .names), (objects-small (held .objects) (j .objects), timers-small (held .timers) (j .timers)))
 
     -- the bytes that are laid
-    bytes-are : block all .encode blockIs ≡ blockBytes (p .head) c (p .param0) (p .param1) (p .param2) (p .names) (p .metadata) (p .objects) (p .timers)
+    bytes-are : block all .encode blockIs ≡ bytesFor p c
     bytes-are =
         let j = judgeable in
         let b = blockIs in
@@ -116,40 +108,47 @@ module _ (p : Parts) (c : Counts) (f : fits p ≡ true) (h : some c ≡ countsIn
           ← rows-bytes timerFrame (held .timers) (j .timers) timerRow timer-looser,
         )
 
-    module _ (v : isVersion (p .head .version) ≡ true) (out : List ℕ) where
+    module _ (v : isVersion (p .head .version) ≡ true) where
       abbrev said : Read Fault (Unit {0})
       said = ended (verdict all (block all .encode (made p (blockIs .names) (blockIs .metadata) (blockIs .objects) (blockIs .timers))))
 
       said-is : said ≡ ended (verdict all (block all .encode blockIs))
       said-is = ap (λ (b : Block). ended (verdict all (block all .encode b))) (parts-are .same)
 
-      written-by : writeOf p (length out) ≡ judgedBytes (length out) (block all .encode blockIs) (verdict all (block all .encode blockIs))
+      written-by : (room : ℕ) → writeOf p room ≡ judgedBytes room (block all .encode blockIs) (verdict all (block all .encode blockIs))
       unfolding writeOf
-      written-by = rw (v, made-is)
+      written-by room = rw (v, made-is)
 
-      pub refuses : {e : Fault} {q : ℕ} → refused e q ≡ said → Answers p out (refusal (number e) 0 q) out
-      refuses {e} {q} i = answers-by p out (refusal (number e) 0 q) (written-by ∙ ap (judgedBytes (length out) (block all .encode blockIs)) (ended-refused (verdict all (block all .encode blockIs)) (i ∙ said-is)))
+      pub refuses : {e : Fault} {q : ℕ} → refused e q ≡ said → (room : ℕ) → writeOf p room ≡ refusal (number e) 0 q
+      refuses i room = written-by room ∙ ap (judgedBytes room (block all .encode blockIs)) (ended-refused (verdict all (block all .encode blockIs)) (i ∙ said-is))
 
       module _ {n : ℕ} (i : done tt n ≡ said) where
         taken-as : (b : Block) × (verdict all (block all .encode blockIs) ≡ done b n)
         taken-as = ended-done (verdict all (block all .encode blockIs)) (i ∙ said-is)
 
-        long : n ≡ length (block all .encode blockIs)
-        long = taken (block all .encode blockIs) (taken-as .0) n (block-bytes p blockIs held v parts-are) .0 (taken-as .1) .2
+        size : n ≡ length (bytesFor p c)
+        size = taken (block all .encode blockIs) (taken-as .0) n (block-bytes p blockIs held v parts-are) .0 (taken-as .1) .2 ∙ ap length bytes-are
 
-        by-room : writeOf p (length out) ≡ pick (leb (length (block all .encode blockIs)) (length out)) (good (block all .encode blockIs)) (plain noRoom)
-        by-room = written-by ∙ ap (judgedBytes (length out) (block all .encode blockIs)) (taken-as .1)
+        by-room : (room : ℕ) → writeOf p room ≡ pick (leb (length (bytesFor p c)) room) (good (bytesFor p c)) (plain noRoom)
+        by-room room =
+            written-by room ∙ ap (judgedBytes room (block all .encode blockIs)) (taken-as .1)
+            ∙ ap (λ (s : List ℕ). pick (leb (length s) room) (good s) (plain noRoom)) bytes-are
 
-        pub no-room : length out < n → Answers p out (plain noRoom) out
-        no-room h = answers-by p out (plain noRoom) (by-room ∙ rw (lt-leb (length (block all .encode blockIs)) (length out) (omega (arith, long))))
+        pub writes : Written p c n
+        writes = record {
+          long = size;
+          in-room = λ room h. by-room room ∙ rw (le-leb (length (bytesFor p c)) room (omega (arith, size)));
+          no-room = λ room h. by-room room ∙ rw (lt-leb (length (bytesFor p c)) room (omega (arith, size)));
+        }
 
-        module _ (g : n ≤ length out) where
-          pub room : length (blockBytes (p .head) c (p .param0) (p .param1) (p .param2) (p .names) (p .metadata) (p .objects) (p .timers)) ≤ length out
-          room = omega (arith, long, ap length bytes-are)
+-- ---- an answer, and what the buffer holds then
+abbrev pub Answers : Parts → List ℕ → Answer ℕ → List ℕ → Type 0
+Answers p out a after = (a ≡ mapAnswer length (writeOf p (length out))) × (after ≡ lent (writeOf p (length out)) out)
 
-          pub writes : {after : List ℕ} → after ≡ laid 0 (blockBytes (p .head) c (p .param0) (p .param1) (p .param2) (p .names) (p .metadata) (p .objects) (p .timers)) out → Answers p out (good n) after
-          writes {after} e =
-              let s = block all .encode blockIs in
-              let w : writeOf p (length out) ≡ good s = by-room ∙ rw (le-leb (length s) (length out) (omega (arith, long))) in
-              let x = answers-by p out (good s) w in
-              (ap good long ∙ x .0, e ∙ ap (λ (b : List ℕ). laid 0 b out) (sym bytes-are) ∙ rw zero-add (x .1))
+pub answers-by : (p : Parts) (out : List ℕ) (w : Answer (List ℕ)) → writeOf p (length out) ≡ w → Answers p out (mapAnswer length w) (lent w out)
+answers-by p out w e = rw e (refl, refl)
+
+pub answers-written : {p : Parts} {c : Counts} {n : ℕ} (out : List ℕ) {after : List ℕ} → Written p c n → n ≤ length out → after ≡ laid 0 (bytesFor p c) out → Answers p out (good n) after
+answers-written {p} {c} out w h e =
+    let x = answers-by p out (good (bytesFor p c)) (w .in-room (length out) h) in
+    (ap good (w .long) ∙ x .0, e ∙ rw zero-add (x .1))

@@ -7,3 +7,4 @@ pub mod Theorems
 pub mod Sections
 pub mod Said
 pub mod Pieces
+pub mod Measured

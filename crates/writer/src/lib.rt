@@ -2,6 +2,5 @@
 pub mod counts;
 pub mod fit;
 pub mod frames;
-pub mod judge;
-pub mod put;
+pub mod measure;
 pub mod write;

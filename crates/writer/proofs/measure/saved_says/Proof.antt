@@ -1,0 +1,30 @@
+use borrow.Author.Needs.{needs}
+use Rattle.writer.proofs.measure.saved_says.Statement.{statement}
+use Rattle.writer.proofs.measure.saved_says.Tie as tie
+use Rattle.wire.specs.Bytes.{Bytes}
+use Rattle.wire.specs.Read.{reach}
+use Rattle.mapblock.specs.Told.{toldReach}
+use native.Mathlib.Omega.{arith}
+use denote.Ref.{now}
+use mathlib.Core.Path.{ap}
+use Rattle.mapblock.specs.Layout.{nameRow}
+use Rattle.mapblock.specs.Table.{freeIn}
+use Rattle.writer.proofs.RowsSaid.{rows-reach, saved-says}
+use Rattle.writer.proofs.Says.{onward-reach}
+
+name-rows-requires : tie.Need-name-rows-requires
+name-rows-requires c κs = search needs
+
+onward-requires : tie.Need-onward-requires
+onward-requires c κs = omega (arith, rows-reach (nameRow (freeIn (now (c .before .before .before .args .ids)))) (c .before .before .before .args .count) (now (c .before .before .before .args .names)) (c .name-rows .ensures .0), c .before .before .before .good .0 .1)
+
+returns : tie.Need-returns
+returns c =
+    let b : Bytes (now (c .before .before .before .before .args .names)) = λ i. c .before .before .before .shared-slice-known .given i .fits in
+    let h = c .before .name-rows .ensures in (
+      saved-says b (h .0) (h .1) (c .onward .ensures),
+      omega (arith, ap reach (c .onward .ensures), onward-reach 7 (toldReach (c .before .name-rows .result)), rows-reach (nameRow (freeIn (now (c .before .before .before .before .args .ids)))) (c .before .before .before .before .args .count) (now (c .before .before .before .before .args .names)) (h .0)),
+    )
+
+pub saved-says-spec : {M : Type 1} → statement M
+saved-says-spec = tie.close (tie.spec name-rows-requires onward-requires returns)

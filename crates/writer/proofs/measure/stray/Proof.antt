@@ -1,0 +1,66 @@
+use Rattle.writer.proofs.measure.stray.Statement.{statement}
+use Rattle.writer.proofs.measure.stray.Tie as tie
+use native.Mathlib.Omega.{arith}
+use denote.Ref.{now}
+use Prim.Native.Nat.{_-_}
+use mathlib.Core.Path.{_≡_, refl, sym, _∙_}
+use Rattle.writer.specs.Said.{strayAmong}
+use Rattle.writer.proofs.Strays.{narrow-at, among-here, among-on, among-none}
+use borrow.Author.Needs.{needs}
+
+abbrev Inv-loop : tie.InvT-loop
+Inv-loop version param0 param2 ids i₀ i = strayAmong version param0 param2 ids (4096 - i) i ≡ strayAmong version param0 param2 ids 4096 0
+
+abbrev μ-loop : tie.MeasureT-loop
+μ-loop version param0 param2 ids i₀ i = 4096 - i
+
+loop-holds : tie.Need-loop-holds Inv-loop μ-loop
+loop-holds c = refl
+
+mul-content-id : tie.Need-mul-content-id Inv-loop μ-loop
+mul-content-id c = search needs
+
+shared-slice-read-content-id : tie.Need-shared-slice-read-content-id Inv-loop μ-loop
+shared-slice-read-content-id c = omega (arith, c .before .before .before .before .before .pre .0)
+
+shared-slice-read-content-id-2 : tie.Need-shared-slice-read-content-id-2 Inv-loop μ-loop
+shared-slice-read-content-id-2 c = omega (arith, c .before .before .before .before .before .before .pre .1)
+
+content-id-requires : tie.Need-content-id-requires Inv-loop μ-loop
+content-id-requires c κs = λ n. narrow-at (c .before .before .before .before .before .before .args .version) (now (c .before .before .before .before .before .before .args .param0)) (c .before .before .before .loop .i) (c .before .before .before .before .before .before .pre .2) (omega (arith, c .before .before .before .before .before .before .pre .0, c .before .before .loop-test .taken)) (omega arith)
+
+element-copy-out-if1 : tie.Need-element-copy-out-if1 Inv-loop μ-loop
+element-copy-out-if1 c = c .content-id .ensures .1
+
+returns : tie.Need-returns Inv-loop μ-loop
+returns c = sym (among-here (c .before .before .before .before .before .before .before .before .before .args .version) (now (c .before .before .before .before .before .before .before .before .before .args .param0)) (now (c .before .before .before .before .before .before .before .before .before .args .param2)) (now (c .before .before .before .before .before .before .before .before .before .args .ids)) (c .before .before .before .before .before .before .loop .i) (c .before .before .before .before .before .loop-test .taken) (c .before .before .content-id .ensures .0) (c .if1 .taken)) ∙ c .before .before .before .before .before .before .loop .inv
+
+add-i : tie.Need-add-i Inv-loop μ-loop
+add-i c = search needs
+
+loop-less : tie.Need-loop-less Inv-loop μ-loop
+loop-less c = search needs
+
+loop-again : tie.Need-loop-again Inv-loop μ-loop
+loop-again c = sym (among-on (c .before .before .before .before .before .before .before .before .before .args .version) (now (c .before .before .before .before .before .before .before .before .before .args .param0)) (now (c .before .before .before .before .before .before .before .before .before .args .param2)) (now (c .before .before .before .before .before .before .before .before .before .args .ids)) (c .before .before .before .before .before .before .loop .i) (c .before .before .before .before .before .loop-test .taken) (c .before .before .content-id .ensures .0) (c .if1 .left)) ∙ c .before .before .before .before .before .before .loop .inv
+
+returns-2 : tie.Need-returns-2 Inv-loop μ-loop
+returns-2 c = sym (among-none (c .before .before .before .before .args .version) (now (c .before .before .before .before .args .param0)) (now (c .before .before .before .before .args .param2)) (now (c .before .before .before .before .args .ids)) (c .before .loop .i) (c .loop-test .left)) ∙ c .before .loop .inv
+
+pub stray-spec : {M : Type 1} → statement M
+stray-spec =
+    tie.close
+    (tie.spec
+    Inv-loop
+    μ-loop
+    loop-holds
+    mul-content-id
+    shared-slice-read-content-id
+    shared-slice-read-content-id-2
+    content-id-requires
+    element-copy-out-if1
+    returns
+    add-i
+    loop-less
+    loop-again
+    returns-2)

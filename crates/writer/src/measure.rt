@@ -1,0 +1,300 @@
+// The measuring pass: whether the parts fit, and what the reader would say of the bytes that are to be written, list by list and without them.
+use crate::counts::Counted;
+use crate::counts::Counts;
+use crate::counts::count_all;
+use crate::fit::fit;
+use mapblock::fault::Fault;
+use mapblock::fault::Reach;
+use mapblock::head::Head;
+use mapblock::head::is_version;
+use mapblock::names::name_rows;
+use mapblock::nodes::NODES;
+use mapblock::nodes::Stray;
+use mapblock::nodes::width;
+use mapblock::rows::Kind;
+use mapblock::rows::rows;
+use mapblock::scan::metadata_head;
+ghost use mathlib.Core.Path.{_≡_};
+ghost use mathlib.Core.List.{List};
+ghost use mathlib.Core.Bool.{true};
+ghost use Prim.Native.Nat.{ℕ, _+_, _*_, _<_, _≤_};
+ghost use lib.ListN.{length};
+ghost use Rattle.wire.specs.Bytes.{Bytes};
+ghost use Rattle.wire.specs.Read.{done, onward, reach};
+ghost use Rattle.wire.specs.Formats.{listed};
+ghost use Rattle.mapblock.specs.Data.{NameRow, MetadataRow, ObjectRow, TimerRow, Saved, Nodes};
+ghost use Rattle.mapblock.specs.Layout.{all, isVersion, width, metadata, nodes, objectRow, timerRow, earlyTimers, lateTimers};
+ghost use Rattle.mapblock.specs.Block.{block, contentId, verdict};
+ghost use Rattle.mapblock.specs.Sections.{InReach};
+ghost use Rattle.mapblock.specs.Told.{toldReach, ended, toldStray};
+ghost use Rattle.writer.specs.Frames.{nameFrame, metadataFrame, timerFrame};
+ghost use Rattle.writer.specs.Parts.{Held, carries, narrow, timed, fits, partsOf, made};
+ghost use Rattle.writer.specs.Sections.{Rows};
+ghost use Rattle.writer.specs.Measured.{MeasuredAs};
+ghost use Rattle.writer.specs.Said.{said, Small, timersEarly, timersLate, timersOn, openingLength, listsLength, SavedSaid, FrontSaid, EndingSaid, RestSaid, strayAmong};
+
+// What was said of bytes, told from a place so many bytes before them.
+fn onward(at: usize, r: Reach) -> Reach
+    requires { ⌜ InReach (at + reach (toldReach r)) ⌝ }
+    ensures { λ q. ⌜ toldReach q ≡ onward at (λ u. u) (toldReach r) ⌝ }
+{
+    match r {
+        Reach::End(n) => Reach::End(at + n),
+        Reach::Refused(f, p) => Reach::Refused(f, at + p),
+    }
+}
+
+// Timestamp and names, seven bytes before the rows; the ids are marked.
+fn saved_says(names: &[u8], count: u16, ids: &mut [u8; 65536]) -> Reach
+    ensures { λ r. ⌜ ((x : Saved) → x .timestamp < 4294967296 → Rows nameFrame (now (names .entry)) count (x .names) → SavedSaid (now (ids .entry)) (now (ids .exit)) x (toldReach r)) ⌝ }
+    ensures { λ r. ⌜ reach (toldReach r) ≤ 7 + length (now (names .entry)) ⌝ }
+{
+    onward(7, name_rows(names, count, ids))
+}
+
+// The metadata list.
+fn metadata_says(version: u8, list: &[u8], count: u16) -> Reach
+    ensures { λ r. ⌜ ((l : List MetadataRow) → Rows (metadataFrame version) (now (list .entry)) count l → toldReach r ≡ said (metadata version) l) ⌝ }
+    ensures { λ r. ⌜ reach (toldReach r) ≤ 4 + length (now (list .entry)) ⌝ }
+{
+    onward(
+        metadata_head(version),
+        rows(Kind::Metadata, version, list, count),
+    )
+}
+
+// A count of timers and their rows.
+fn timers_say(version: u8, timers: &[u8], count: u16) -> Reach
+    ensures { λ r. ⌜ ((l : List TimerRow) → Rows timerFrame (now (timers .entry)) count l → toldReach r ≡ said (listed 2 timerRow) l) ⌝ }
+    ensures { λ r. ⌜ reach (toldReach r) ≤ 2 + length (now (timers .entry)) ⌝ }
+{
+    onward(2, rows(Kind::Timers, version, timers, count))
+}
+
+// Version 24's timer byte, and its timers where that is 1.
+fn timers_of_24_say(head: Head, timers: &[u8], count: u16) -> Reach
+    ensures { λ r. ⌜ ((l : List TimerRow) → Rows timerFrame (now (timers .entry)) count l → toldReach r ≡ said (earlyTimers 24) (timersOn head l)) ⌝ }
+    ensures { λ r. ⌜ reach (toldReach r) ≤ 3 + length (now (timers .entry)) ⌝ }
+{
+    if 1 < head.timer {
+        return Reach::Refused(Fault::TimerByte, 0);
+    }
+    if head.timer == 0 {
+        return Reach::End(1);
+    }
+    onward(1, timers_say(24, timers, count))
+}
+
+// What follows the metadata.
+fn early_says(head: Head, timers: &[u8], count: u16) -> Reach
+    ensures { λ r. ⌜ ((l : List TimerRow) → Rows timerFrame (now (timers .entry)) count l → carries head ≡ true → timed head (now (timers .entry)) ≡ true → toldReach r ≡ said (earlyTimers (head .version)) (timersEarly head l)) ⌝ }
+    ensures { λ r. ⌜ reach (toldReach r) ≤ 3 + length (now (timers .entry)) ⌝ }
+{
+    if head.version == 24 {
+        return timers_of_24_say(head, timers, count);
+    }
+    if head.version == 23 {
+        return Reach::End(1);
+    }
+    Reach::End(0)
+}
+
+// The timers at the end, from version 25.
+fn late_says(head: Head, timers: &[u8], count: u16) -> Reach
+    ensures { λ r. ⌜ ((l : List TimerRow) → Rows timerFrame (now (timers .entry)) count l → carries head ≡ true → toldReach r ≡ said (lateTimers (head .version)) (timersLate head l)) ⌝ }
+    ensures { λ r. ⌜ reach (toldReach r) ≤ 3 + length (now (timers .entry)) ⌝ }
+{
+    if head.version < 25 {
+        return Reach::End(0);
+    }
+    onward(1, timers_say(head.version, timers, count))
+}
+
+// Behind the static objects: names before version 29, and the timers at the end.
+fn ending_says(head: Head, c: Counts, names: &[u8], timers: &[u8], ids: &mut [u8; 65536]) -> Reach
+    requires { ⌜ Small (now names) × Small (now timers) ⌝ }
+    ensures { λ r. ⌜ ((l : List NameRow) (k : List TimerRow) → Rows nameFrame (now (names .entry)) (c .names) l → Rows timerFrame (now (timers .entry)) (c .timers) k → carries head ≡ true → EndingSaid (now (ids .entry)) (now (ids .exit)) head l k (toldReach r)) ⌝ }
+    ensures { λ r. ⌜ reach (toldReach r) ≤ 10 + length (now (names .entry)) + length (now (timers .entry)) ⌝ }
+{
+    if 29 <= head.version {
+        return late_says(head, timers, c.timers);
+    }
+    let saved = saved_says(names, c.names, ids);
+    let Reach::End(n) = saved else {
+        return saved;
+    };
+    onward(n, late_says(head, timers, c.timers))
+}
+
+// What follows the node data; of static objects the reader refuses none.
+fn rest_says(
+    head: Head,
+    c: Counts,
+    names: &[u8],
+    metadata: &[u8],
+    objects: &[u8],
+    timers: &[u8],
+    ids: &mut [u8; 65536],
+) -> Reach
+    requires { ⌜ Small (now names) × (Small (now objects) × Small (now timers)) ⌝ }
+    ensures { λ r. ⌜ ((l : List NameRow) (m : List MetadataRow) (o : List ObjectRow) (k : List TimerRow) → Rows nameFrame (now (names .entry)) (c .names) l → Rows (metadataFrame (head .version)) (now (metadata .entry)) (c .metadata) m → Rows objectRow (now (objects .entry)) (c .objects) o → Rows timerFrame (now (timers .entry)) (c .timers) k → carries head ≡ true → timed head (now (timers .entry)) ≡ true → RestSaid (now (ids .entry)) (now (ids .exit)) head l m o k (toldReach r)) ⌝ }
+    ensures { λ r. ⌜ reach (toldReach r) ≤ 20 + length (now (metadata .entry)) + length (now (names .entry)) + length (now (objects .entry)) + length (now (timers .entry)) + length (now (timers .entry)) ⌝ }
+{
+    let first = metadata_says(head.version, metadata, c.metadata);
+    let Reach::End(a) = first else {
+        return first;
+    };
+    let second = early_says(head, timers, c.timers);
+    let Reach::End(b) = second else {
+        return onward(a, second);
+    };
+    let at = a + b + 3 + objects.len();
+    onward(at, ending_says(head, c, names, timers, ids))
+}
+
+// The bytes of step 1.
+fn opening_length(version: u8) -> usize
+    ensures { λ r. ⌜ r ≡ openingLength version ⌝ }
+{
+    if version < 27 { 2 } else { 4 }
+}
+
+// The bytes of the param lists.
+fn lists_length(version: u8) -> usize
+    ensures { λ r. ⌜ r ≡ listsLength version ⌝ }
+{
+    NODES * width(version) + 2 * NODES
+}
+
+// Up to the end of the node data. In version 29 the ids of the names are marked.
+fn front_says(head: Head, names: &[u8], count: u16, ids: &mut [u8; 65536]) -> Reach
+    requires { ⌜ Small (now names) ⌝ }
+    ensures { λ r. ⌜ ((l : List NameRow) (n : Nodes) → Rows nameFrame (now (names .entry)) count l → isVersion (head .version) ≡ true → carries head ≡ true → nodes (head .version) .Ok n → FrontSaid (now (ids .entry)) (now (ids .exit)) head l n (toldReach r)) ⌝ }
+    ensures { λ r. ⌜ reach (toldReach r) ≤ 16397 + length (now (names .entry)) ⌝ }
+    ensures { λ r. ⌜ ((n : ℕ) → toldReach r ≡ done tt n → listsLength (head .version) ≤ n) ⌝ }
+{
+    let opening = opening_length(head.version);
+    let nodes = 2 + lists_length(head.version);
+    if head.version < 29 {
+        return Reach::End(opening + nodes);
+    }
+    let named = onward(opening, saved_says(names, count, ids));
+    let Reach::End(n) = named else {
+        return named;
+    };
+    Reach::End(n + nodes)
+}
+
+// The content id of a node.
+fn content_id(version: u8, param0: u16, param2: u8) -> usize
+    requires { ⌜ ((24 ≤ version → ⊥) → param0 < 256) ⌝ }
+    ensures { λ r. ⌜ r ≡ contentId version param0 param2 ⌝ }
+    ensures { λ r. ⌜ r < 65536 ⌝ }
+{
+    if 24 <= version {
+        return param0 as usize;
+    }
+    if param0 < 128 {
+        return param0 as usize;
+    }
+    16 * param0 as usize + param2 as usize / 16
+}
+
+// The first node whose content id is not marked as mapped.
+fn stray(version: u8, param0: &[u16], param2: &[u8], ids: &[u8; 65536]) -> Stray
+    requires { ⌜ (length (now param0) ≡ 4096) × (length (now param2) ≡ 4096) × (narrow version (now param0) ≡ true) ⌝ }
+    ensures { λ r. ⌜ toldStray r ≡ strayAmong version (now (param0 .entry)) (now (param2 .entry)) (now (ids .entry)) 4096 0 ⌝ }
+{
+    let mut i: usize = 0;
+    while i < NODES {
+        if ids[content_id(version, param0[i], param2[i])] == 0 {
+            return Stray::At(i);
+        }
+        i += 1;
+    }
+    Stray::None
+}
+
+// Of the whole block.
+fn judge(
+    head: Head,
+    c: Counts,
+    param0: &[u16],
+    param1: &[u8],
+    param2: &[u8],
+    names: &[u8],
+    metadata: &[u8],
+    objects: &[u8],
+    timers: &[u8],
+) -> Reach
+    requires { ⌜ (isVersion (head .version) ≡ true) × (fits (partsOf head (now param0) (now param1) (now param2) (now names) (now metadata) (now objects) (now timers)) ≡ true) ⌝ }
+    requires { ⌜ Held (partsOf head (now param0) (now param1) (now param2) (now names) (now metadata) (now objects) (now timers)) ⌝ }
+    requires { ⌜ Small (now names) × (Small (now objects) × Small (now timers)) ⌝ }
+    ensures { λ r. ⌜ ((l : List NameRow) (m : List MetadataRow) (o : List ObjectRow) (k : List TimerRow) → Rows nameFrame (now (names .entry)) (c .names) l → Rows (metadataFrame (head .version)) (now (metadata .entry)) (c .metadata) m → Rows objectRow (now (objects .entry)) (c .objects) o → Rows timerFrame (now (timers .entry)) (c .timers) k → toldReach r ≡ ended (verdict all (block all .encode (made (partsOf head (now (param0 .entry)) (now (param1 .entry)) (now (param2 .entry)) (now (names .entry)) (now (metadata .entry)) (now (objects .entry)) (now (timers .entry))) l m o k)))) ⌝ }
+{
+    let mut ids = [0u8; 65536];
+    let version = head.version;
+    let front = front_says(head, names, c.names, &mut ids);
+    let Reach::End(a) = front else {
+        return front;
+    };
+    let rest = rest_says(head, c, names, metadata, objects, timers, &mut ids);
+    let Reach::End(b) = rest else {
+        return onward(a, rest);
+    };
+    match stray(version, param0, param2, &ids) {
+        Stray::None => Reach::End(a + b),
+        Stray::At(i) => Reach::Refused(
+            Fault::IdUnmapped,
+            a - lists_length(version) + width(version) * i,
+        ),
+    }
+}
+
+// How many rows the sections have and how long the block is, or why it is not written whatever the room.
+pub enum Measured {
+    Fits(Counts, usize),
+    BadVersion,
+    // The parts do not fit.
+    Misfit,
+    // What the reader would say of the bytes.
+    Refused(Fault, usize),
+}
+
+// Measures the block that head, lists and sections make.
+pub fn measure(
+    head: Head,
+    param0: &[u16],
+    param1: &[u8],
+    param2: &[u8],
+    names: &[u8],
+    metadata: &[u8],
+    objects: &[u8],
+    timers: &[u8],
+) -> Measured
+    ensures { λ r. ⌜ MeasuredAs (partsOf head (now (param0 .entry)) (now (param1 .entry)) (now (param2 .entry)) (now (names .entry)) (now (metadata .entry)) (now (objects .entry)) (now (timers .entry))) r ⌝ }
+{
+    if !is_version(head.version) {
+        return Measured::BadVersion;
+    }
+    if !fit(head, param0, param1, param2, timers) {
+        return Measured::Misfit;
+    }
+    match count_all(head.version, names, metadata, objects, timers) {
+        Counted::NotWhole => Measured::Misfit,
+        Counted::Rows(c) => match judge(
+            head,
+            c,
+            param0,
+            param1,
+            param2,
+            names,
+            metadata,
+            objects,
+            timers,
+        ) {
+            Reach::Refused(f, p) => Measured::Refused(f, p),
+            Reach::End(n) => Measured::Fits(c, n),
+        },
+    }
+}
