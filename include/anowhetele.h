@@ -93,6 +93,12 @@ anow_metadata_row anow_row_metadata(uint8_t version, const uint8_t *part, size_t
 anow_object_row anow_row_object(const uint8_t *part, size_t length);
 /* Refused: 16, then 1 or 4. */
 anow_timer_row anow_row_timer(const uint8_t *part, size_t length);
+/* Writes the block that a head, three lists of 4,096 each and the rows of four sections make to the front of out; counts are worked out from the rows.
+ * A refusal leaves out as it was. Refused: 2; 12 where the parts do not fit; what the reader would say of the bytes, at its place in them (3 to 6
+ * and 8); 11. */
+anow_answer anow_write(anow_head head, const uint16_t *param0, size_t length0, const uint8_t *param1, size_t length1, const uint8_t *param2, size_t length2,
+                       const uint8_t *names, size_t names_length, const uint8_t *metadata, size_t metadata_length,
+                       const uint8_t *objects, size_t objects_length, const uint8_t *timers, size_t timers_length, uint8_t *out, size_t room);
 
 #ifdef __cplusplus
 }

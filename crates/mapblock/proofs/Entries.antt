@@ -7,10 +7,10 @@ use mathlib.Core.Bool.{Bool, true, false}
 use native.Mathlib.Nat.{zero-add, zero-mul, mul-zero, mul-one, one-mul, suc-mul, mul-suc, add-comm, mod-lt, div-mul-le-self, div-lt-iff-lt-mul, div-add-mod'}
 use native.Mathlib.Numerals.{add-one}
 use native.Mathlib.Omega.{arith}
-use lib.Dec.{leb, ltb}
+use lib.Dec.{leb}
 use lib.ListN.{length, getD, take, drop, set, length-drop, length-set, drop-of-length-le}
 use lib.Seq.{drop-cons, drop-drop, getD-drop, take-suc, take-suc-set, take-all, length-take-le}
-use borrow.Author.Tests.{le-leb, lt-leb, leb-true, leb-false, lt-ltb, le-ltb, ltb-true, ltb-false, eq-eqb, ne-eqb}
+use borrow.Author.Tests.{le-leb, lt-leb, leb-true, leb-false, lt-ltb, le-ltb, eq-eqb, ne-eqb}
 use Rattle.wire.specs.Choice.{pick}
 use Rattle.wire.specs.Bytes.{Bytes, spelt, bytes-drop}
 use Rattle.wire.specs.Read.{Read, done, refused, onward, never}
@@ -21,13 +21,14 @@ use Rattle.wire.proofs.Steps.{number-done, number-ends}
 use Rattle.wire.proofs.Laid.{stored-fits}
 use Rattle.mapblock.specs.Data.{Nodes, Block}
 use Rattle.mapblock.specs.Layout.{width, params, nodes, unmapped}
-use Rattle.mapblock.specs.Block.{idAt, strayFrom}
+use Rattle.mapblock.specs.Block.{contentId, idAt, strayFrom}
 use Rattle.mapblock.specs.Params.{listsOf, entries, idIn, strayIn, idOf}
 use Rattle.mapblock.specs.Told.{ended}
 use Rattle.mapblock.specs.Table.{Tabled}
 use Rattle.mapblock.specs.declared.fault.Fault.{Fault}
 use Rattle.mapblock.specs.declared.fault.Fault.the-variants as fault
 use Rattle.mapblock.proofs.Fixed.{fixed-on, fixed-other, fixed-refused, fixed-done}
+use Rattle.mapblock.proofs.GoodRows.{either}
 
 -- ---- entries
 pub entries-length : (w n : ℕ) (s : List ℕ) → length (entries w n s) ≡ n
@@ -242,23 +243,35 @@ two-below [] b = omega arith
 two-below (x ∷ []) b = omega (arith, b 0)
 two-below (x ∷ y ∷ l) b = omega (arith, b 0, b 1)
 
+-- ---- content ids
+module _ (v a b : ℕ) where
+  pub content-new : 24 ≤ v → a ≡ contentId v a b
+  content-new h = rw (le-leb 24 v h)
+
+  module _ (h : v < 24) where
+    pub content-low : a < 128 → a ≡ contentId v a b
+    content-low k = rw (lt-leb 24 v h, lt-ltb a 128 k)
+
+    pub content-high : 128 ≤ a → 16 * a + b / 16 ≡ contentId v a b
+    content-high k = rw (lt-leb 24 v h, le-ltb a 128 k)
+
+  -- it is a number of two bytes
+  pub content-below : a < 65536 → b < 256 → (v < 24 → a < 256) → contentId v a b < 65536
+  content-below h k n =
+      either 24 v (λ g. rw (← content-new g) h)
+      (λ g. either 128 a (λ f. rw (← content-high g f) (omega (arith, n g))) (λ f. rw (← content-low g f) h))
+
 module _ (v : ℕ) (s : List ℕ) (i : ℕ) where
-  pub id-new : 24 ≤ v → 2 * i + 1 < length s → idIn v s i ≡ getD s (2 * i) 0 * 256 + getD s (2 * i + 1) 0
-  id-new h k = rw (le-leb 24 v h) (entry-two s (2 * i) k)
+  pub id-new : 24 ≤ v → 2 * i + 1 < length s → (b : ℕ) → contentId v (getD s (2 * i) 0 * 256 + getD s (2 * i + 1) 0) b ≡ idIn v s i
+  id-new h k b = rw (le-leb 24 v h) (sym (entry-two s (2 * i) k))
 
-  pub id-low : v < 24 → getD s i 0 < 128 → idIn v s i ≡ getD s i 0
-  id-low h k = rw (lt-leb 24 v h, one-mul, entry-one s i, lt-ltb (getD s i 0) 128 k)
-
-  pub id-high : v < 24 → 128 ≤ getD s i 0 → idIn v s i ≡ 16 * getD s i 0 + getD s (8192 + i) 0 / 16
-  id-high h k = rw (lt-leb 24 v h, one-mul, entry-one s i, le-ltb (getD s i 0) 128 k)
+  pub id-old : v < 24 → contentId v (getD s i 0) (getD s (8192 + i) 0) ≡ idIn v s i
+  id-old h = rw (lt-leb 24 v h, one-mul, entry-one s i)
 
   pub id-below : Bytes s → idIn v s i < 65536
-  id-below b = go (leb 24 v) refl (ltb (getD s i 0) 128) refl
-    where
-      go : (c : Bool) → leb 24 v ≡ c → (d : Bool) → ltb (getD s i 0) 128 ≡ d → idIn v s i < 65536
-      go true e d f = rw e (two-below (drop (2 * i) s) (bytes-drop (2 * i) s b))
-      go false e true f = omega (arith, id-low (leb-false _ _ e) (ltb-true _ _ f), b i)
-      go false e false f = omega (arith, id-high (leb-false _ _ e) (ltb-false _ _ f), b i, b (8192 + i))
+  id-below b =
+      either 24 v (λ h. rw (le-leb 24 v h) (two-below (drop (2 * i) s) (bytes-drop (2 * i) s b)))
+      (λ h. rw (← id-old h) (content-below v (getD s i 0) (getD s (8192 + i) 0) (omega (arith, b i)) (b (8192 + i)) (λ _. b i)))
 
 -- ---- strays
 module _ (v : ℕ) (s t : List ℕ) (i : ℕ) where

@@ -7,6 +7,7 @@ ghost use mathlib.Core.Path.{_≡_};
 ghost use Prim.Native.Nat.{_+_, _*_, _<_, _≤_};
 ghost use lib.ListN.{length};
 ghost use Rattle.mapblock.specs.Layout.{nodes, params, width};
+ghost use Rattle.mapblock.specs.Block.{contentId};
 ghost use Rattle.mapblock.specs.Params.{idIn, strayIn, holdsLists, strayOf, idOf};
 ghost use Rattle.mapblock.specs.Told.{toldReach, ended, toldStray};
 
@@ -56,21 +57,29 @@ pub(crate) fn node_data(version: u8, s: &[u8]) -> Reach
     }
 }
 
-// The content id of the node at an index, from the lists' bytes.
+// The content id of a node.
+pub fn content_id(version: u8, param0: u16, param2: u8) -> usize
+    ensures { λ r. ⌜ r ≡ contentId version param0 param2 ⌝ }
+{
+    if 24 <= version {
+        return param0 as usize;
+    }
+    if param0 < 128 {
+        return param0 as usize;
+    }
+    16 * param0 as usize + param2 as usize / 16
+}
+
+// Of the node at an index, from the lists' bytes. From version 24 on its param2 has no part in it.
 fn id_in(version: u8, s: &[u8], i: usize) -> usize
     requires { ⌜ (i < 4096) × (4096 * width version + 8192 ≤ length (now s)) ⌝ }
     ensures { λ r. ⌜ r ≡ idIn version (now (s .entry)) i ⌝ }
     ensures { λ r. ⌜ r < 65536 ⌝ }
 {
     if 24 <= version {
-        return s[2 * i] as usize * 256 + s[2 * i + 1] as usize;
+        return content_id(version, s[2 * i] as u16 * 256 + s[2 * i + 1] as u16, 0);
     }
-    let param0 = s[i] as usize;
-    if param0 < 128 {
-        param0
-    } else {
-        16 * param0 + s[2 * NODES + i] as usize / 16
-    }
+    content_id(version, s[i] as u16, s[2 * NODES + i])
 }
 
 pub enum Stray {

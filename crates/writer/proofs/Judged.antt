@@ -20,20 +20,14 @@ use Rattle.mapblock.specs.Table.{freeIn, Tabled}
 use Rattle.mapblock.specs.Told.{ended}
 use Rattle.mapblock.specs.declared.fault.Fault.{Fault}
 use Rattle.mapblock.specs.declared.fault.Fault.the-variants as fault
-use Rattle.mapblock.proofs.Entries.{nodes-done}
+use Rattle.mapblock.proofs.Entries.{nodes-done, content-below}
 use Rattle.mapblock.proofs.GoodRows.{either}
 use Rattle.writer.specs.Parts.{Parts, made, Held}
 use Rattle.writer.specs.Said.{said, listsLength, FrontSaid, RestSaid, strayAmong}
 use Rattle.writer.proofs.BlockSaid.{block-said, said-refused, said-stray, said-done}
 use Rattle.writer.proofs.MadeBlock.{MadeOf, of-made, front-looser, pieces-ok, block-settled}
 use Rattle.writer.proofs.Says.{says-refused, says-length, says-on}
-use Rattle.writer.proofs.Strays.{content-new, content-low, content-high, stray-same}
-
--- a content id is a number of two bytes
-pub id-below : (v a b : ℕ) → a < 65536 → b < 256 → (v < 24 → a < 256) → contentId v a b < 65536
-id-below v a b h k n =
-    either 24 v (λ g. rw (← content-new v a b g) h)
-    (λ g. either 128 a (λ f. rw (← content-high v a b g f) (omega (arith, n g))) (λ f. rw (← content-low v a b g f) h))
+use Rattle.writer.proofs.Strays.{stray-same}
 
 module _ (p : Parts) (l : List NameRow) (m : List MetadataRow) (o : List ObjectRow) (k : List TimerRow) (held : Held p) (version : isVersion (p .head .version) ≡ true)
     (mk : MadeOf p (made p l m o k)) where
@@ -103,7 +97,7 @@ module _ (p : Parts) (l : List NameRow) (m : List MetadataRow) (o : List ObjectR
             (λ h. subst (λ (free : ℕ → Bool). Tabled 65536 (unmapped free l) w) (sym (free-behind h)) (rs .marks c h i))
 
         below : (j : ℕ) → j < 4096 → idAt b j < 65536
-        below j g = id-below v (getD (p .param0) j 0) (getD (p .param2) j 0) (held .param0 j) (held .param2 j) (λ h. mk .fitting .narrow h j (omega (arith, mk .fitting .size0)))
+        below j g = content-below v (getD (p .param0) j 0) (getD (p .param2) j 0) (held .param0 j) (held .param2 j) (λ h. mk .fitting .narrow h j (omega (arith, mk .fitting .size0)))
 
         stray-is : stray all b ≡ strayAmong v (p .param0) (p .param2) w 4096 0
         stray-is = stray-same b w table below

@@ -1,5 +1,5 @@
--- Content ids from the lists, and the first node whose id is not mapped.
-use Prim.Native.Nat.{ℕ, zero, suc, _+_, _-_, _*_, _/_, _<_, _≤_}
+-- The first node whose content id is not mapped.
+use Prim.Native.Nat.{ℕ, zero, suc, _+_, _-_, _<_, _≤_}
 use mathlib.Core.Path.{_≡_, refl}
 use mathlib.Core.Option.{some, none}
 use mathlib.Core.List.{List}
@@ -7,7 +7,7 @@ use mathlib.Core.Bool.{true}
 use native.Mathlib.Numerals.{add-one}
 use native.Mathlib.Omega.{arith}
 use lib.ListN.{length, getD}
-use borrow.Author.Tests.{eq-eqb, ne-eqb, le-leb, lt-leb, lt-ltb, le-ltb}
+use borrow.Author.Tests.{eq-eqb, ne-eqb, lt-leb}
 use Rattle.mapblock.specs.Data.{Block}
 use Rattle.mapblock.specs.Layout.{all, unmapped}
 use Rattle.mapblock.specs.Block.{contentId, idAt, strayFrom}
@@ -15,18 +15,6 @@ use Rattle.mapblock.specs.Table.{Tabled}
 use Rattle.writer.specs.Parts.{narrow}
 use Rattle.writer.specs.Said.{strayAmong}
 use Rattle.writer.proofs.Fitting.{pick-then, below-there}
-
--- ---- the content id
-module _ (v a b : ℕ) where
-  pub content-new : 24 ≤ v → a ≡ contentId v a b
-  content-new h = rw (le-leb 24 v h)
-
-  module _ (h : v < 24) where
-    pub content-low : a < 128 → a ≡ contentId v a b
-    content-low k = rw (lt-leb 24 v h, lt-ltb a 128 k)
-
-    pub content-high : 128 ≤ a → 16 * a + b / 16 ≡ contentId v a b
-    content-high k = rw (lt-leb 24 v h, le-ltb a 128 k)
 
 -- up to 23 a param0 is a byte
 pub narrow-at : (v : ℕ) (l : List ℕ) (i : ℕ) → narrow v l ≡ true → i < length l → v < 24 → getD l i 0 < 256

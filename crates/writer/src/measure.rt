@@ -10,6 +10,7 @@ use mapblock::head::is_version;
 use mapblock::names::name_rows;
 use mapblock::nodes::NODES;
 use mapblock::nodes::Stray;
+use mapblock::nodes::content_id;
 use mapblock::nodes::width;
 use mapblock::rows::Kind;
 use mapblock::rows::rows;
@@ -19,12 +20,11 @@ ghost use mathlib.Core.List.{List};
 ghost use mathlib.Core.Bool.{true};
 ghost use Prim.Native.Nat.{ℕ, _+_, _*_, _<_, _≤_};
 ghost use lib.ListN.{length};
-ghost use Rattle.wire.specs.Bytes.{Bytes};
 ghost use Rattle.wire.specs.Read.{done, onward, reach};
 ghost use Rattle.wire.specs.Formats.{listed};
 ghost use Rattle.mapblock.specs.Data.{NameRow, MetadataRow, ObjectRow, TimerRow, Saved, Nodes};
 ghost use Rattle.mapblock.specs.Layout.{all, isVersion, width, metadata, nodes, objectRow, timerRow, earlyTimers, lateTimers};
-ghost use Rattle.mapblock.specs.Block.{block, contentId, verdict};
+ghost use Rattle.mapblock.specs.Block.{block, verdict};
 ghost use Rattle.mapblock.specs.Sections.{InReach};
 ghost use Rattle.mapblock.specs.Told.{toldReach, ended, toldStray};
 ghost use Rattle.writer.specs.Frames.{nameFrame, metadataFrame, timerFrame};
@@ -183,21 +183,6 @@ fn front_says(head: Head, names: &[u8], count: u16, ids: &mut [u8; 65536]) -> Re
         return named;
     };
     Reach::End(n + nodes)
-}
-
-// The content id of a node.
-fn content_id(version: u8, param0: u16, param2: u8) -> usize
-    requires { ⌜ ((24 ≤ version → ⊥) → param0 < 256) ⌝ }
-    ensures { λ r. ⌜ r ≡ contentId version param0 param2 ⌝ }
-    ensures { λ r. ⌜ r < 65536 ⌝ }
-{
-    if 24 <= version {
-        return param0 as usize;
-    }
-    if param0 < 128 {
-        return param0 as usize;
-    }
-    16 * param0 as usize + param2 as usize / 16
 }
 
 // The first node whose content id is not marked as mapped.

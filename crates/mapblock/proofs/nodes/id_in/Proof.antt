@@ -1,99 +1,94 @@
-use Prim.Native.Nat.{_+_, _*_}
-use mathlib.Core.Path.{sym}
-use native.Mathlib.Omega.{arith}
 use borrow.Author.Needs.{needs}
-use denote.Ref.{now}
-use Rattle.mapblock.proofs.Entries.{width-range, id-new, id-low, id-high}
 use Rattle.mapblock.proofs.nodes.id_in.Statement.{statement}
 use Rattle.mapblock.proofs.nodes.id_in.Tie as tie
+use Prim.Native.Nat.{_+_, _*_}
+use mathlib.Core.Path.{_∙_}
+use native.Mathlib.Omega.{arith}
+use denote.Ref.{now}
+use Rattle.wire.specs.Bytes.{Bytes}
+use Rattle.mapblock.proofs.Entries.{width-range, id-new, id-old, id-below}
 
-mul-result : tie.Need-mul-result
-mul-result c = search needs
+mul-content-id : tie.Need-mul-content-id
+mul-content-id c = search needs
 
-shared-slice-read-result : tie.Need-shared-slice-read-result
-shared-slice-read-result c = search needs
+shared-slice-read-content-id : tie.Need-shared-slice-read-content-id
+shared-slice-read-content-id c = search needs
 
-cast-result : tie.Need-cast-result
-cast-result c = omega (arith, c .shared-slice-known .given (2 * c .before .before .args .i))
+cast-content-id : tie.Need-cast-content-id
+cast-content-id c = omega (arith, c .shared-slice-known2 .given (2 * c .before .before .before .args .i))
 
-mul-result-2 : tie.Need-mul-result-2
-mul-result-2 c = omega (arith, c .shared-slice-known .given (2 * c .before .before .args .i))
+mul-content-id-2 : tie.Need-mul-content-id-2
+mul-content-id-2 c = omega (arith, c .shared-slice-known2 .given (2 * c .before .before .before .args .i))
 
-mul-result-3 : tie.Need-mul-result-3
-mul-result-3 c = search needs
+mul-content-id-3 : tie.Need-mul-content-id-3
+mul-content-id-3 c = search needs
 
-add-result : tie.Need-add-result
-add-result c = search needs
+add-content-id : tie.Need-add-content-id
+add-content-id c = search needs
 
-shared-slice-read-result-2 : tie.Need-shared-slice-read-result-2
-shared-slice-read-result-2 c = search needs
+shared-slice-read-content-id-2 : tie.Need-shared-slice-read-content-id-2
+shared-slice-read-content-id-2 c = search needs
 
-cast-result-2 : tie.Need-cast-result-2
-cast-result-2 c = omega (arith, c .shared-slice-known2 .given (2 * c .before .before .before .args .i + 1))
+cast-content-id-2 : tie.Need-cast-content-id-2
+cast-content-id-2 c = omega (arith, c .shared-slice-known3 .given (2 * c .before .before .before .before .args .i + 1))
 
-add-result-2 : tie.Need-add-result-2
-add-result-2 c = let i = c .before .before .before .args .i in omega (arith, c .shared-slice-known2 .given (2 * i), c .shared-slice-known2 .given (2 * i + 1))
+add-content-id-2 : tie.Need-add-content-id-2
+add-content-id-2 c = omega (arith, c .shared-slice-known3 .given (2 * c .before .before .before .before .args .i), c .shared-slice-known3 .given (2 * c .before .before .before .before .args .i + 1))
+
+content-id-requires : tie.Need-content-id-requires
+content-id-requires c κs = search needs
 
 returns : tie.Need-returns
 returns c =
-    let a = c .before .before .before .args in
-    (sym (id-new (a .version) (now (a .s)) (a .i) (omega arith) (omega arith)), omega (arith, c .shared-slice-known2 .given (2 * a .i), c .shared-slice-known2 .given (2 * a .i + 1)))
+    let a = c .before .before .before .before .before .args in
+    let b : Bytes (now (a .s)) = λ i. c .before .before .before .before .shared-slice-known .given i .fits in
+    let e = c .content-id .ensures ∙ id-new (a .version) (now (a .s)) (a .i) (c .before .before .before .if1 .taken) (omega arith) 0 in
+    (e, rw e (id-below (a .version) (now (a .s)) (a .i) b))
 
-shared-slice-read-param0 : tie.Need-shared-slice-read-param0
-shared-slice-read-param0 c = search needs
+shared-slice-read-content-id-3 : tie.Need-shared-slice-read-content-id-3
+shared-slice-read-content-id-3 c = search needs
 
-cast-param0 : tie.Need-cast-param0
-cast-param0 c = omega (arith, c .shared-slice-known3 .given (c .before .before .args .i))
+cast-content-id-3 : tie.Need-cast-content-id-3
+cast-content-id-3 c = omega (arith, c .shared-slice-known4 .given (c .before .before .before .args .i))
 
-mul-result-4 : tie.Need-mul-result-4
-mul-result-4 c = omega (arith, c .before .shared-slice-known3 .given (c .before .before .before .args .i))
+mul-content-id-4 : tie.Need-mul-content-id-4
+mul-content-id-4 c = search needs
 
-mul-result-5 : tie.Need-mul-result-5
-mul-result-5 c = search needs
+add-content-id-3 : tie.Need-add-content-id-3
+add-content-id-3 c = search needs
 
-add-result-3 : tie.Need-add-result-3
-add-result-3 c = search needs
+shared-slice-read-content-id-4 : tie.Need-shared-slice-read-content-id-4
+shared-slice-read-content-id-4 c = let a = c .before .before .before .before .args in omega (arith, width-range (a .version))
 
-shared-slice-read-result-3 : tie.Need-shared-slice-read-result-3
-shared-slice-read-result-3 c = let a = c .before .before .before .before .args in omega (arith, width-range (a .version))
-
-cast-result-3 : tie.Need-cast-result-3
-cast-result-3 c = omega (arith, c .shared-slice-known4 .given (8192 + c .before .before .before .before .args .i))
-
-add-result-4 : tie.Need-add-result-4
-add-result-4 c = let i = c .before .before .before .before .args .i in omega (arith, c .shared-slice-known4 .given i, c .shared-slice-known4 .given (8192 + i))
+content-id-requires-2 : tie.Need-content-id-requires-2
+content-id-requires-2 c κs = search needs
 
 returns-2 : tie.Need-returns-2
 returns-2 c =
-    let a = c .before .before .before .args in
-    (sym (id-low (a .version) (now (a .s)) (a .i) (omega arith) (omega arith)), omega arith)
-
-returns-3 : tie.Need-returns-3
-returns-3 c =
-    let a = c .before .before .before .before .args in
-    (sym (id-high (a .version) (now (a .s)) (a .i) (omega arith) (omega arith)), omega (arith, c .shared-slice-known4 .given (a .i), c .shared-slice-known4 .given (8192 + a .i)))
+    let a = c .before .before .before .before .before .args in
+    let b : Bytes (now (a .s)) = λ i. c .before .before .before .before .shared-slice-known .given i .fits in
+    let e = c .content-id2 .ensures ∙ id-old (a .version) (now (a .s)) (a .i) (c .before .before .before .if1 .left) in
+    (e, rw e (id-below (a .version) (now (a .s)) (a .i) b))
 
 pub id-in-spec : {M : Type 1} → statement M
 id-in-spec =
     tie.close
     (tie.spec
-    mul-result
-    shared-slice-read-result
-    cast-result
-    mul-result-2
-    mul-result-3
-    add-result
-    shared-slice-read-result-2
-    cast-result-2
-    add-result-2
+    mul-content-id
+    shared-slice-read-content-id
+    cast-content-id
+    mul-content-id-2
+    mul-content-id-3
+    add-content-id
+    shared-slice-read-content-id-2
+    cast-content-id-2
+    add-content-id-2
+    content-id-requires
     returns
-    shared-slice-read-param0
-    cast-param0
-    mul-result-4
-    mul-result-5
-    add-result-3
-    shared-slice-read-result-3
-    cast-result-3
-    add-result-4
-    returns-2
-    returns-3)
+    shared-slice-read-content-id-3
+    cast-content-id-3
+    mul-content-id-4
+    add-content-id-3
+    shared-slice-read-content-id-4
+    content-id-requires-2
+    returns-2)

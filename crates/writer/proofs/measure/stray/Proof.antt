@@ -2,6 +2,8 @@ use Rattle.writer.proofs.measure.stray.Statement.{statement}
 use Rattle.writer.proofs.measure.stray.Tie as tie
 use native.Mathlib.Omega.{arith}
 use denote.Ref.{now}
+use lib.ListN.{getD}
+use Rattle.mapblock.proofs.Entries.{content-below}
 use Prim.Native.Nat.{_-_}
 use mathlib.Core.Path.{_≡_, refl, sym, _∙_}
 use Rattle.writer.specs.Said.{strayAmong}
@@ -27,13 +29,20 @@ shared-slice-read-content-id-2 : tie.Need-shared-slice-read-content-id-2 Inv-loo
 shared-slice-read-content-id-2 c = omega (arith, c .before .before .before .before .before .before .pre .1)
 
 content-id-requires : tie.Need-content-id-requires Inv-loop μ-loop
-content-id-requires c κs = λ n. narrow-at (c .before .before .before .before .before .before .args .version) (now (c .before .before .before .before .before .before .args .param0)) (c .before .before .before .loop .i) (c .before .before .before .before .before .before .pre .2) (omega (arith, c .before .before .before .before .before .before .pre .0, c .before .before .loop-test .taken)) (omega arith)
+content-id-requires c κs = search needs
 
 element-copy-out-if1 : tie.Need-element-copy-out-if1 Inv-loop μ-loop
-element-copy-out-if1 c = c .content-id .ensures .1
+element-copy-out-if1 c =
+    let a = c .before .before .before .before .before .before .before .args in
+    let pre = c .before .before .before .before .before .before .before .pre in
+    let i = c .before .before .before .before .loop .i in
+    let k = c .before .before .before .loop-test .taken in
+    rw (c .content-id .ensures)
+    (content-below (a .version) (getD (now (a .param0)) i 0) (getD (now (a .param2)) i 0) (c .before .before .shared-slice-known3 .given i .fits) (c .before .shared-slice-known4 .given i .fits)
+    (narrow-at (a .version) (now (a .param0)) i (pre .2) (omega (arith, pre .0))))
 
 returns : tie.Need-returns Inv-loop μ-loop
-returns c = sym (among-here (c .before .before .before .before .before .before .before .before .before .args .version) (now (c .before .before .before .before .before .before .before .before .before .args .param0)) (now (c .before .before .before .before .before .before .before .before .before .args .param2)) (now (c .before .before .before .before .before .before .before .before .before .args .ids)) (c .before .before .before .before .before .before .loop .i) (c .before .before .before .before .before .loop-test .taken) (c .before .before .content-id .ensures .0) (c .if1 .taken)) ∙ c .before .before .before .before .before .before .loop .inv
+returns c = sym (among-here (c .before .before .before .before .before .before .before .before .before .args .version) (now (c .before .before .before .before .before .before .before .before .before .args .param0)) (now (c .before .before .before .before .before .before .before .before .before .args .param2)) (now (c .before .before .before .before .before .before .before .before .before .args .ids)) (c .before .before .before .before .before .before .loop .i) (c .before .before .before .before .before .loop-test .taken) (c .before .before .content-id .ensures) (c .if1 .taken)) ∙ c .before .before .before .before .before .before .loop .inv
 
 add-i : tie.Need-add-i Inv-loop μ-loop
 add-i c = search needs
@@ -42,7 +51,7 @@ loop-less : tie.Need-loop-less Inv-loop μ-loop
 loop-less c = search needs
 
 loop-again : tie.Need-loop-again Inv-loop μ-loop
-loop-again c = sym (among-on (c .before .before .before .before .before .before .before .before .before .args .version) (now (c .before .before .before .before .before .before .before .before .before .args .param0)) (now (c .before .before .before .before .before .before .before .before .before .args .param2)) (now (c .before .before .before .before .before .before .before .before .before .args .ids)) (c .before .before .before .before .before .before .loop .i) (c .before .before .before .before .before .loop-test .taken) (c .before .before .content-id .ensures .0) (c .if1 .left)) ∙ c .before .before .before .before .before .before .loop .inv
+loop-again c = sym (among-on (c .before .before .before .before .before .before .before .before .before .args .version) (now (c .before .before .before .before .before .before .before .before .before .args .param0)) (now (c .before .before .before .before .before .before .before .before .before .args .param2)) (now (c .before .before .before .before .before .before .before .before .before .args .ids)) (c .before .before .before .before .before .before .loop .i) (c .before .before .before .before .before .loop-test .taken) (c .before .before .content-id .ensures) (c .if1 .left)) ∙ c .before .before .before .before .before .before .loop .inv
 
 returns-2 : tie.Need-returns-2 Inv-loop μ-loop
 returns-2 c = sym (among-none (c .before .before .before .before .args .version) (now (c .before .before .before .before .args .param0)) (now (c .before .before .before .before .args .param2)) (now (c .before .before .before .before .args .ids)) (c .before .loop .i) (c .loop-test .left)) ∙ c .before .loop .inv
