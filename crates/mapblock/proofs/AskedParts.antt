@@ -1,34 +1,29 @@
 -- Row questions: the answer by what the reader says of the front row, and the parts that are handed back.
-use Prim.Native.Nat.{ℕ, _+_, _-_, _≤_}
-use mathlib.Core.Path.{_≡_, refl, ap, sym, _∙_}
+use Prim.Native.Nat.{ℕ, _-_, _≤_}
+use mathlib.Core.Path.{_≡_, ap, sym, _∙_}
 use mathlib.Core.Logic.{⊎-elim}
 use mathlib.Core.List.{List, [], _∷_}
 use mathlib.Core.Bool.{Bool, true, false}
 use native.Mathlib.Omega.{arith}
-use lib.Dec.{leb, eqb}
-use lib.ListN.{length, take, drop, length-append}
+use lib.Dec.{eqb}
+use lib.ListN.{length, take, drop}
 use borrow.Author.Tests.{eq-eqb, ne-eqb}
 use denote.Enum.Declared.{tagOf}
 use types.Run.{OneOf}
 use Rattle.wire.specs.Choice.{pick}
-use Rattle.wire.specs.Bytes.{Bytes}
 use Rattle.wire.specs.Lists.{rest-is}
-use Rattle.wire.specs.Read.{Read, done, refused, mapRead, map-done}
-use Rattle.wire.specs.Format.{run, such, nothing, items, _⨾_, along}
-use Rattle.wire.specs.Formats.{number, signed, counted, listed}
+use Rattle.wire.specs.Read.{Read, done, refused, mapRead}
+use Rattle.wire.specs.Format.{run}
 use Rattle.wire.specs.Answer.{Answer, good, refusal, plain, versionOutside, noSuch, no-good}
-use Rattle.mapblock.specs.Inventory.{Form, inventory}
-use Rattle.mapblock.specs.Data.{NameRow, MetadataRow, ObjectRow}
-use Rattle.mapblock.specs.Layout.{isVersion, all, nameRow, metadataRow, objectRow}
-use Rattle.mapblock.specs.Rows.{nameFields, metadataFields, objectFields, variableBytes}
+use Rattle.mapblock.specs.Inventory.{Form}
+use Rattle.mapblock.specs.Layout.{isVersion, metadataRow}
+use Rattle.mapblock.specs.Rows.{metadataFields}
 use Rattle.mapblock.specs.Numbers.{answerOf}
-use Rattle.mapblock.specs.RowQuestions.{frontRow, nameRowOf, metadataRowOf, objectRowOf, runOf, rowsBehind}
+use Rattle.mapblock.specs.RowQuestions.{frontRow, metadataRowOf, runOf, rowsBehind}
 use Rattle.mapblock.specs.AskedRows.{toldNameRow, toldMetadataRow, toldObjectRow, toldTimerRow}
 use Rattle.mapblock.specs.declared.fault.Fault.{Fault}
 use Rattle.mapblock.specs.declared.head.Part.{Part}
-use Rattle.mapblock.specs.declared.names.NameFields.{NameFields}
 use Rattle.mapblock.specs.declared.metadata.MetadataFields.{MetadataFields}
-use Rattle.mapblock.specs.declared.objects.ObjectFields.{ObjectFields}
 use Rattle.mapblock.specs.declared.row_questions.NameRowAnswer.{NameRowAnswer}
 use Rattle.mapblock.specs.declared.row_questions.NameRowAnswer.the-variants as name
 use Rattle.mapblock.specs.declared.row_questions.MetadataRowAnswer.{MetadataRowAnswer}
@@ -122,52 +117,3 @@ module _ (s : List ℕ) where
   -- the rows behind it
   pub behind-told : {A : Type 0} {a : A} {n : ℕ} {y : Answer (A × ℕ)} → good (a, n) ≡ y → take (length s - n) (drop n s) ≡ rowsBehind s y
   behind-told {n = n} h = rest-is n s ∙ ap (rowsBehind s) h
-
--- ---- and its runs end where it ends, or before
-abbrev UpTo : ℕ → Part → Type 0
-UpTo n p = p .start + p .length ≤ n
-
--- the bytes of a row
-name-length : (r : NameRow) → length (nameRow all [] .encode r) ≡ 4 + length (r .name)
-unfolding nameRow along _⨾_ such number counted run
-name-length r = simp length-append (omega arith)
-
-object-length : (r : ObjectRow) → length (objectRow .encode r) ≡ 15 + length (r .content)
-unfolding objectRow along _⨾_ number signed counted run
-object-length r = simp length-append (omega arith)
-
-old-length : (v : ℕ) (r : MetadataRow) → leb 23 v ≡ false → length (metadataRow v [] .encode r) ≡ 6 + length (r .content)
-unfolding metadataRow along _⨾_ such nothing number counted run
-old-length v r h = rw h (simp length-append (omega arith))
-
-new-length : (v : ℕ) (r : MetadataRow) → leb 23 v ≡ true → length (metadataRow v [] .encode r) ≡ 6 + variableBytes v r + length (r .inventory)
-unfolding metadataRow along _⨾_ such nothing number listed items run inventory
-new-length v r h = rw h (simp length-append (omega arith))
-
--- a row that was told, and its length
-row-told : {A B : Type 0} (to : A → B) (f : Form A) (s : List ℕ) → Bytes s → {b : B} {n : ℕ} → good (b, n) ≡ frontRow s (mapRead to (f .read s))
-    → (a : A) × (to a ≡ b) × (length (f .encode a) ≤ length s)
-row-told to f s w {b} {n} h =
-    let x = map-done to (f .read s) b n (sym (asked-done s (mapRead to (f .read s)) h)) in
-    (x .0, x .2, omega (arith, row-fits s to f h, f .backward s (x .0) n w (x .1) .ends))
-
-module _ (s : List ℕ) (b : Bytes s) where
-  pub name-fits : {f : NameFields} {n : ℕ} → good (f, n) ≡ nameRowOf s → UpTo (length s) (f .name)
-  name-fits h =
-      let x = row-told nameFields (nameRow all []) s b h in
-      rw (← x .1) (omega (arith, x .2, name-length (x .0)))
-
-  pub object-fits : {f : ObjectFields} {n : ℕ} → good (f, n) ≡ objectRowOf s → UpTo (length s) (f .content)
-  object-fits h =
-      let x = row-told objectFields objectRow s b h in
-      rw (← x .1) (omega (arith, x .2, object-length (x .0)))
-
-  pub metadata-fits : (v : ℕ) {f : MetadataFields} {n : ℕ} → good (f, n) ≡ metadataRowOf v s → UpTo (length s) (f .content) × UpTo (length s) (f .rows) × UpTo (length s) (f .inventory)
-  metadata-fits v h =
-      let x = row-told (metadataFields v) (metadataRow v []) s b (version-was v s h) in
-      rw (← x .1) (go (x .0) (leb 23 v) refl (x .2))
-    where
-      go : (r : MetadataRow) (c : Bool) → leb 23 v ≡ c → length (metadataRow v [] .encode r) ≤ length s
-          → UpTo (length s) (metadataFields v r .content) × UpTo (length s) (metadataFields v r .rows) × UpTo (length s) (metadataFields v r .inventory)
-      go r true e k = rw e (omega arith, omega (arith, new-length v r e), omega (arith, new-length v r e))
-      go r false e k = rw e (omega (arith, old-length v r e), omega arith, omega arith)
