@@ -43,7 +43,7 @@ module _ {E : Type 0} {ends : E} {A : Type 0} (test : A → Bool) (e : E) (f : F
     refuses = λ s k p h. such-refused s k p (f .read s) refl h;
   }
 
--- one after another
+-- looser than what is looser
 pub looser-trans : {E : Type 0} {ends : E} {A : Type 0} {f g h : Format E ends A} → Looser f g → Looser g h → Looser f h
 looser-trans {E} {ends} {A} {f} {g} {h} l m = record {
   same = λ a. l .same a ∙ m .same a;
@@ -55,6 +55,7 @@ looser-trans {E} {ends} {A} {f} {g} {h} l m = record {
     go s e p (inl z) = m .refuses s e p z
     go s e p (inr z) = inr z
 
+-- one after another
 module _ {E : Type 0} {ends : E} {A B : Type 0} (f g : Format E ends A) (h k : A → Format E ends B) (l : Looser f g) (m : (a : A) → Looser (h a) (k a)) where
   then-takes : (s : List ℕ) (x : A × B) (n : ℕ) → bind (f .read s) (next h s) ≡ done x n → bind (g .read s) (next k s) ≡ done x n
   then-takes s x n z =
