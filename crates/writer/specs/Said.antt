@@ -12,6 +12,7 @@ use Rattle.mapblock.specs.Inventory.{Form}
 use Rattle.mapblock.specs.Data.{NameRow, MetadataRow, ObjectRow, TimerRow, Opening, Saved, Timers, Nodes, unsaved, untimed}
 use Rattle.mapblock.specs.Layout.{since, before, width, unmapped, saved, front, rest, lateTimers}
 use Rattle.mapblock.specs.Block.{contentId}
+use Rattle.mapblock.specs.Scan as scan
 use Rattle.mapblock.specs.Table.{freeIn, Tabled}
 use Rattle.mapblock.specs.Told.{ended}
 use Rattle.mapblock.specs.declared.fault.Fault.{Fault}
@@ -34,7 +35,7 @@ listsLength v = 4096 * width v + 8192
 
 -- ---- what a head and rows put where: as a block's pieces have it
 abbrev pub openingOn : Head → Opening
-openingOn h = record { version = h .version; flags = h .flags; lighting = h .lighting }
+openingOn h = scan.openingOn (h .version) (h .flags) (h .lighting)
 
 abbrev pub savedOn : Head → List NameRow → Saved
 savedOn h l = record { timestamp = h .timestamp; names = l }

@@ -138,7 +138,10 @@ fn front_row(section: Section, version: u8, s: &[u8]) -> Frame
     }
 }
 
-// How many rows a section has, at most 65,535.
+// A count of rows is a u16.
+const MOST_ROWS: u16 = 65535;
+
+// How many rows a section has.
 pub enum RowCount {
     Rows(u16),
     NotWhole,
@@ -149,7 +152,7 @@ pub fn row_count(section: Section, version: u8, s: &[u8]) -> RowCount
     ensures { λ r. ⌜ toldRows r ≡ Option·map length (sectionRows (frameOf section version) (now (s .entry))) ⌝ }
 {
     let mut rest = s;
-    let mut left: u16 = 65535;
+    let mut left = MOST_ROWS;
     while 0 < rest.len() {
         if left == 0 {
             return RowCount::NotWhole;
@@ -164,5 +167,5 @@ pub fn row_count(section: Section, version: u8, s: &[u8]) -> RowCount
             }
         }
     }
-    RowCount::Rows(65535 - left)
+    RowCount::Rows(MOST_ROWS - left)
 }

@@ -1,5 +1,4 @@
-// The writer: it measures, and then lays the bytes of the block into a lent buffer, piece by piece; each function that does answers where its bytes
-// end.
+// The writer: it measures, and then lays the bytes of the block into a lent buffer. A function that lays a piece answers where the piece ends.
 use crate::counts::Counts;
 use crate::measure::Measured;
 use crate::measure::measure;
@@ -15,12 +14,12 @@ ghost use mathlib.Core.List.{[], _++_};
 ghost use Prim.Native.Nat.{_+_, _≤_};
 ghost use lib.ListN.{length};
 ghost use Rattle.wire.specs.Answer.{lent, mapAnswer};
-ghost use Rattle.writer.specs.Parts.{partsOf};
-ghost use Rattle.writer.specs.Write.{writeOf, toldWrite};
 ghost use Rattle.wire.specs.Choice.{pick};
 ghost use Rattle.wire.specs.Bytes.{spell};
 ghost use Rattle.wire.specs.Store.{laid};
 ghost use Rattle.mapblock.specs.Layout.{width};
+ghost use Rattle.writer.specs.Parts.{partsOf};
+ghost use Rattle.writer.specs.Write.{writeOf, toldWrite};
 ghost use Rattle.writer.specs.Pieces.{openingBytes, listBytes, savedBytes, entryBytes, nodesBytes, metadataBytes, earlyBytes, lateBytes, frontBytes, restBytes, blockBytes, PutAt};
 
 // Step 1.
