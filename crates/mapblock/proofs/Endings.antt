@@ -18,7 +18,8 @@ use Rattle.mapblock.specs.Params.{idIn, strayIn, strayOf}
 use Rattle.mapblock.specs.Scan.{middle, MiddleIs}
 use Rattle.mapblock.specs.Told.{ended, timerByte}
 use Rattle.mapblock.specs.declared.fault.Fault.{Fault}
-use Rattle.mapblock.proofs.Readings.{then-refused, then-done, ended-done, ended-refused}
+use Rattle.wire.proofs.Joints.{then-refused, then-done}
+use Rattle.mapblock.proofs.Readings.{ended-done, ended-refused}
 use Rattle.mapblock.proofs.ListLengths.{late-rows-length}
 
 -- ---- metadata, what follows it, static objects

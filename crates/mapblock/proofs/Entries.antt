@@ -27,7 +27,7 @@ use Rattle.mapblock.specs.Told.{ended}
 use Rattle.mapblock.specs.Table.{Tabled}
 use Rattle.mapblock.specs.declared.fault.Fault.{Fault}
 use Rattle.mapblock.specs.declared.fault.Fault.the-variants as fault
-use Rattle.mapblock.proofs.Fixed.{fixed-on, fixed-other, fixed-refused, fixed-done}
+use Rattle.wire.proofs.Fixed.{fixed-on, fixed-other, fixed-refused, fixed-done}
 use Rattle.mapblock.proofs.GoodRows.{either}
 
 -- ---- entries

@@ -1,7 +1,6 @@
 -- Fields and formats: what every other proof cites.
 pub mod Leaves
 pub mod Readings
-pub mod Fixed
 -- Rows, lists and node data.
 pub mod Lines
 pub mod Entries

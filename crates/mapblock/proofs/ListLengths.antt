@@ -20,8 +20,9 @@ use Rattle.mapblock.specs.Table.{freeIn, unmarked, frontRows, NamesMarke
 use Rattle.mapblock.specs.Scan.{metadataHead}
 use Rattle.mapblock.specs.declared.fault.Fault.{Fault}
 use Rattle.mapblock.specs.declared.fault.Fault.the-variants as fault
-use Rattle.mapblock.proofs.Fixed.{fixed-done}
-use Rattle.mapblock.proofs.Readings.{num, listed-refused, listed-done}
+use Rattle.wire.proofs.Fixed.{fixed-done}
+use Rattle.wire.proofs.Joints.{listed-refused, listed-done}
+use Rattle.mapblock.proofs.Readings.{num}
 use Rattle.mapblock.proofs.SavedLists.{read-length}
 use Rattle.mapblock.proofs.NameRows.{row-alone}
 

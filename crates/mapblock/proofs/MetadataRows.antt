@@ -22,7 +22,8 @@ use Rattle.mapblock.specs.Told.{ended}
 use Rattle.mapblock.specs.declared.metadata.MetadataFields.{MetadataFields}
 use Rattle.mapblock.specs.declared.fault.Fault.{Fault}
 use Rattle.mapblock.specs.declared.fault.Fault.the-variants as fault
-use Rattle.mapblock.proofs.Readings.{num, text, within, such-done, then-refused, then-done, listed-refused, listed-done, ended-done, ended-refused, ended-map, behind, ended-third}
+use Rattle.wire.proofs.Joints.{such-done, then-refused, then-done, listed-refused, listed-done}
+use Rattle.mapblock.proofs.Readings.{num, text, within, ended-done, ended-refused, ended-map, behind, ended-third}
 
 -- ---- one variable
 abbrev pub keyAndValue : Form (List ℕ × List ℕ)

@@ -30,43 +30,6 @@ within f s h = rw h at (f .inside s)
 pub within-ended : {A : Type 0} (f : Form A) (s : List ℕ) {r : Read Fault (Unit {0})} → r ≡ ended (f .read s) → reach r ≤ length s
 within-ended f s h = told-in (λ _. tt) f s h
 
--- ---- one after the other, tested, listed
-module _ {A B : Type 0} (f : Form A) (g : Form B) (s : List ℕ) where
-  pub then-refused : {e : Fault} {p : ℕ} → f .read s ≡ refused e p → (f ▹ g) .read s ≡ refused e p
-  unfolding _⨾_
-  then-refused h = rw h
-
-  pub then-done : {a : A} {n : ℕ} {r : Read Fault B} → f .read s ≡ done a n → g .read (drop n s) ≡ r → (f ▹ g) .read s ≡ onward n (pair a) r
-  unfolding _⨾_
-  then-done h k = rw (h, k)
-
-pub such-done : {A : Type 0} (test : A → Bool) (e : Fault) (f : Form A) (s : List ℕ) {a : A} {n : ℕ} → such test e f .read s ≡ done a n → f .read s ≡ done a n
-unfolding such
-such-done test e f s {a} {n} h =
-    let x = bind-done (f .read s) (tested test e) a n h in
-    x .2 ∙ pick-done (test (x .0)) (done (x .0) (x .1)) e 0 a n (x .3) .1
-
-pub such-passes : {A : Type 0} (test : A → Bool) (e : Fault) (f : Form A) (s : List ℕ) {a : A} {n : ℕ} → such test e f .read s ≡ done a n → test a ≡ true
-unfolding such
-such-passes test e f s {a} {n} h =
-    let x = bind-done (f .read s) (tested test e) a n h in
-    let y = pick-done (test (x .0)) (done (x .0) (x .1)) e 0 a n (x .3) in
-    let same : x .0 ≡ a = cc (y .1) in
-    ap test (sym same) ∙ y .0
-
-module _ {A : Type 0} (k : ℕ) (item : List A → Form A) (s : List ℕ) where
-  pub listed-refused : {e : Fault} {p : ℕ} → num k .read s ≡ refused e p → listed k item .read s ≡ refused e p
-  unfolding listed along _⨾_
-  listed-refused h = rw h
-
-  pub listed-done : {count n : ℕ} → num k .read s ≡ done count n → listed k item .read s ≡ onward n (λ l. l) (items item count .read (drop n s))
-  unfolding listed along _⨾_
-  listed-done {count} {n} h = rw h (go (items item count .read (drop n s)))
-    where
-      go : (r : Read Fault (List A)) → mapRead (λ (x : ℕ × List A). x .1) (onward n (pair count) r) ≡ onward n (λ l. l) r
-      go (done l m) = refl
-      go (refused e p) = refl
-
 -- ---- where of what was read the end alone is known
 pub ended-done : {A : Type 0} (r : Read Fault A) {n : ℕ} → done tt n ≡ ended r → (a : A) × (r ≡ done a n)
 ended-done r {n} h = let x = map-done (λ _. tt) r tt n (sym h) in (x .0, x .1)

@@ -26,8 +26,9 @@ use Rattle.mapblock.specs.declared.fault.Reach.the-variants as reach
 use Rattle.mapblock.specs.declared.positions.PositionRead.the-variants as positions
 use Rattle.mapblock.specs.declared.rows.Kind.{Kind}
 use Rattle.mapblock.specs.declared.rows.Kind.the-variants as kind
-use Rattle.mapblock.proofs.Fixed.{fixed-on, fixed-other, fixed-refused}
-use Rattle.mapblock.proofs.Readings.{num, listed-done, such-done, such-passes, ended-done, ended-map, Reading, reading-start, reading-on}
+use Rattle.wire.proofs.Fixed.{fixed-on, fixed-other, fixed-refused}
+use Rattle.wire.proofs.Joints.{listed-done, such-done, such-passes}
+use Rattle.mapblock.proofs.Readings.{num, ended-done, ended-map, Reading, reading-start, reading-on}
 use Rattle.mapblock.proofs.MetadataRows.{nodeOf, timedOf, metadata-alone, metadata-position, timer-alone, timer-position}
 
 -- ---- a row judged alone, in the case of its kind

@@ -16,8 +16,9 @@ use Rattle.mapblock.specs.Table.{freeIn, NamesMarked, RowsMarked, SavedM
 use Rattle.mapblock.specs.Told.{ended, shownSaved}
 use Rattle.mapblock.specs.declared.fault.Fault.{Fault}
 use Rattle.mapblock.specs.declared.fault.Fault.the-variants as fault
-use Rattle.mapblock.proofs.Fixed.{fixed-on, fixed-other, fixed-refused}
-use Rattle.mapblock.proofs.Readings.{num, listed-refused, listed-done, ended-refused, ended-done}
+use Rattle.wire.proofs.Fixed.{fixed-on, fixed-other, fixed-refused}
+use Rattle.wire.proofs.Joints.{listed-refused, listed-done}
+use Rattle.mapblock.proofs.Readings.{num, ended-refused, ended-done}
 
 -- so many items as were asked for
 pub read-length : {A : Type 0} (item : List A → Form A) (k : ℕ) (seen : List A) (s : List ℕ) {l : List A} {n : ℕ} → readItems item k seen s ≡ done l n → length l ≡ k

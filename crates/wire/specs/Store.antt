@@ -1,5 +1,6 @@
 -- What a buffer holds after bytes were stored in it.
 use Prim.Native.Nat.{ℕ, _+_}
+use mathlib.Core.Path.{_≡_}
 use mathlib.Core.List.{List, _++_}
 use lib.Dec.{leb}
 use lib.ListN.{length, take, drop}
@@ -16,3 +17,8 @@ stored at b d = pick (leb (at + length b) (length d)) (laid at b d) d
 -- the first n bytes, `by` places further back, where that fits; else as it was
 unfoldable pub movedBack : ℕ → ℕ → List ℕ → List ℕ
 movedBack n by d = pick (leb (by + n) (length d)) (laid by (take n d) d) d
+
+-- bytes laid into a buffer at a place, and where they end
+pub record PutAt (at : ℕ) (bytes before after : List ℕ) (end : ℕ) : Type 0 where
+  pub ends : end ≡ at + length bytes
+  pub lays : after ≡ laid at bytes before

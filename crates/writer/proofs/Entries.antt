@@ -8,14 +8,14 @@ use native.Mathlib.Omega.{arith}
 use lib.ListN.{length, getD, take, set, length-append}
 use lib.Seq.{take-suc, take-all, length-take-le}
 use Rattle.wire.specs.Bytes.{spell, spell-length}
-use Rattle.wire.specs.Store.{laid}
+use Rattle.wire.specs.Store.{laid, PutAt}
 use Rattle.wire.specs.Format.{along, run, encodeItems}
 use Rattle.wire.specs.Formats.{number}
 use Rattle.wire.proofs.Laid.{laid-none, laid-length, laid-last}
 use Rattle.mapblock.specs.Inventory.{Form}
 use Rattle.mapblock.specs.Layout.{width}
 use Rattle.mapblock.proofs.Entries.{width-old, width-new}
-use Rattle.writer.specs.Pieces.{entryBytes, PutAt}
+use Rattle.writer.specs.Pieces.{entryBytes}
 
 abbrev entry : ℕ → List ℕ → Form ℕ
 entry w seen = number w

@@ -23,7 +23,8 @@ use Rattle.mapblock.specs.Told.{ended}
 use Rattle.mapblock.specs.declared.names.NameFields.{NameFields}
 use Rattle.mapblock.specs.declared.fault.Fault.{Fault}
 use Rattle.mapblock.specs.declared.fault.Fault.the-variants as fault
-use Rattle.mapblock.proofs.Readings.{num, text, behind, ended-third, listed-refused, listed-done, Reading, reading-end, reading-refused, reading-on}
+use Rattle.wire.proofs.Joints.{listed-refused, listed-done}
+use Rattle.mapblock.proofs.Readings.{num, text, behind, ended-third, Reading, reading-end, reading-refused, reading-on}
 use Rattle.mapblock.proofs.MetadataRows.{keyAndValue}
 use Rattle.writer.specs.Frames.{nameFrame, variableFrame, metadataFrame, timerFrame}
 use Rattle.writer.specs.Parts.{given}

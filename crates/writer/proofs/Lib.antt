@@ -16,7 +16,6 @@ pub mod MadeBlock
 pub mod Judged
 pub mod RoundTrip
 -- Its bytes.
-pub mod Puts
 pub mod Entries
 pub mod PutPieces
 pub mod Encoded

@@ -8,13 +8,13 @@ use lib.ListN.{length}
 use borrow.Author.Tests.{le-leb, lt-leb, ltb-true, ltb-false, ne-eqb}
 use Rattle.wire.specs.Choice.{pick, same-test}
 use Rattle.wire.specs.Bytes.{spell}
-use Rattle.wire.specs.Store.{stored}
+use Rattle.wire.specs.Store.{stored, PutAt}
 use Rattle.wire.specs.Formats.{number}
 use Rattle.wire.specs.Told.{short}
 use Rattle.mapblock.specs.Layout.{since, before, width}
 use Rattle.mapblock.specs.declared.head.Head.{Head}
-use Rattle.writer.specs.Pieces.{openingBytes, listBytes, metadataBytes, earlyBytes, PutAt}
-use Rattle.writer.proofs.Puts.{put-number, put-two}
+use Rattle.writer.specs.Pieces.{openingBytes, listBytes, metadataBytes, earlyBytes}
+use Rattle.wire.proofs.Puts.{put-number, put-two}
 
 -- ---- the opening: what was stored, one behind the other
 module _ (h : Head) (d a b : List ℕ) (room : length (openingBytes h) ≤ length d)

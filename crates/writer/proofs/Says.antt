@@ -15,8 +15,9 @@ use Rattle.mapblock.specs.Inventory.{Form}
 use Rattle.mapblock.specs.Told.{ended}
 use Rattle.mapblock.specs.declared.fault.Fault.{Fault}
 use Rattle.mapblock.specs.declared.fault.Fault.the-variants as fault
-use Rattle.mapblock.proofs.Readings.{num, ended-map, ended-done, listed-done}
-use Rattle.mapblock.proofs.Fixed.{fixed-on}
+use Rattle.wire.proofs.Joints.{listed-done}
+use Rattle.mapblock.proofs.Readings.{num, ended-map, ended-done}
+use Rattle.wire.proofs.Fixed.{fixed-on}
 use Rattle.writer.specs.Said.{said}
 
 ended-onward : {A B : Type 0} (n : ℕ) (f : A → B) (r : Read Fault A) → ended (onward n f r) ≡ onward n (λ u. u) (ended r)

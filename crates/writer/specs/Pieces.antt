@@ -1,12 +1,9 @@
 -- The bytes of a block as the code lays them, from the sections' bytes and the number of their rows.
-use Prim.Native.Nat.{ℕ, _+_}
+use Prim.Native.Nat.{ℕ}
 use mathlib.Core.List.{List, [], _++_}
-use mathlib.Core.Path.{_≡_}
 use lib.Dec.{eqb}
-use lib.ListN.{length}
 use Rattle.wire.specs.Choice.{pick}
 use Rattle.wire.specs.Bytes.{spell}
-use Rattle.wire.specs.Store.{laid}
 use Rattle.wire.specs.Format.{encodeItems}
 use Rattle.wire.specs.Formats.{number}
 use Rattle.mapblock.specs.Layout.{since, before, width}
@@ -64,8 +61,3 @@ restBytes h c names metadata objects timers =
 unfoldable pub blockBytes : Head → Counts → List ℕ → List ℕ → List ℕ → List ℕ → List ℕ → List ℕ → List ℕ → List ℕ
 blockBytes h c param0 param1 param2 names metadata objects timers =
     frontBytes h (c .names) names param0 param1 param2 ++ restBytes h c names metadata objects timers
-
--- bytes laid into a buffer at a place, and where they end
-pub record PutAt (at : ℕ) (bytes before after : List ℕ) (end : ℕ) : Type 0 where
-  pub ends : end ≡ at + length bytes
-  pub lays : after ≡ laid at bytes before

@@ -16,11 +16,11 @@ ghost use lib.ListN.{length};
 ghost use Rattle.wire.specs.Answer.{lent, mapAnswer};
 ghost use Rattle.wire.specs.Choice.{pick};
 ghost use Rattle.wire.specs.Bytes.{spell};
-ghost use Rattle.wire.specs.Store.{laid};
+ghost use Rattle.wire.specs.Store.{laid, PutAt};
 ghost use Rattle.mapblock.specs.Layout.{width};
 ghost use Rattle.writer.specs.Parts.{partsOf};
 ghost use Rattle.writer.specs.Write.{writeOf, toldWrite};
-ghost use Rattle.writer.specs.Pieces.{openingBytes, listBytes, savedBytes, entryBytes, nodesBytes, metadataBytes, earlyBytes, lateBytes, frontBytes, restBytes, blockBytes, PutAt};
+ghost use Rattle.writer.specs.Pieces.{openingBytes, listBytes, savedBytes, entryBytes, nodesBytes, metadataBytes, earlyBytes, lateBytes, frontBytes, restBytes, blockBytes};
 
 // Step 1.
 fn put_opening(out: &mut [u8], head: Head) -> usize

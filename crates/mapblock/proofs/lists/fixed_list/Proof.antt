@@ -9,7 +9,7 @@ use Rattle.wire.specs.Told.{toldU8}
 use Rattle.mapblock.specs.Kinds.{rowAfter}
 use Rattle.mapblock.specs.Told.{ended}
 use Rattle.mapblock.specs.declared.fault.Fault.the-variants as fault
-use Rattle.mapblock.proofs.Fixed.{fixed-refused, fixed-other}
+use Rattle.wire.proofs.Fixed.{fixed-refused, fixed-other}
 use Rattle.mapblock.proofs.Leaves.{by-number}
 use Rattle.mapblock.proofs.Readings.{num, within, within-ended}
 use Rattle.mapblock.proofs.RowLists.{fixed-told}

@@ -9,7 +9,8 @@ use Rattle.wire.specs.Told.{toldU16}
 use Rattle.mapblock.specs.Kinds.{rowAfter}
 use Rattle.mapblock.specs.Told.{ended}
 use Rattle.mapblock.proofs.Leaves.{by-number}
-use Rattle.mapblock.proofs.Readings.{num, within, within-ended, listed-refused}
+use Rattle.wire.proofs.Joints.{listed-refused}
+use Rattle.mapblock.proofs.Readings.{num, within, within-ended}
 use Rattle.mapblock.proofs.RowLists.{listed-told}
 use Rattle.mapblock.proofs.rows.listed.Statement.{statement}
 use Rattle.mapblock.proofs.rows.listed.Tie as tie

@@ -6,7 +6,7 @@ use native.Mathlib.Omega.{arith}
 use denote.Ref.{now}
 use lib.ListN.{length-append}
 use Rattle.writer.specs.Pieces.{frontBytes, restBytes, blockBytes}
-use Rattle.writer.proofs.Puts.{put-room, put-two}
+use Rattle.wire.proofs.Puts.{put-room, put-two}
 use Rattle.writer.proofs.write.put_block.Statement.{statement}
 use Rattle.writer.proofs.write.put_block.Tie as tie
 

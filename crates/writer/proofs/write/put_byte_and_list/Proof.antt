@@ -1,6 +1,6 @@
 use borrow.Author.Needs.{needs}
 use native.Mathlib.Omega.{arith}
-use Rattle.writer.proofs.Puts.{put-number, put-two}
+use Rattle.wire.proofs.Puts.{put-number, put-two}
 use Rattle.writer.proofs.write.put_byte_and_list.Statement.{statement}
 use Rattle.writer.proofs.write.put_byte_and_list.Tie as tie
 

@@ -6,7 +6,7 @@ use native.Mathlib.Omega.{arith}
 use denote.Ref.{now}
 use Rattle.wire.specs.Bytes.{spell}
 use Rattle.writer.specs.Pieces.{listBytes, earlyBytes}
-use Rattle.writer.proofs.Puts.{put-nothing, put-number}
+use Rattle.wire.proofs.Puts.{put-nothing, put-number}
 use Rattle.writer.proofs.PutPieces.{early-timed, early-untimed, early-23, early-none}
 use Rattle.writer.proofs.write.put_early.Statement.{statement}
 use Rattle.writer.proofs.write.put_early.Tie as tie

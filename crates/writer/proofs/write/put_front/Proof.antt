@@ -8,7 +8,7 @@ use lib.ListN.{length, length-append}
 use Rattle.wire.specs.Choice.{pick}
 use Rattle.mapblock.specs.Layout.{since}
 use Rattle.writer.specs.Pieces.{openingBytes, savedBytes, nodesBytes}
-use Rattle.writer.proofs.Puts.{front-room, put-room, put-two}
+use Rattle.wire.proofs.Puts.{front-room, put-room, put-two}
 use Rattle.writer.proofs.write.put_front.Statement.{statement}
 use Rattle.writer.proofs.write.put_front.Tie as tie
 

@@ -1,7 +1,7 @@
 use borrow.Author.Needs.{needs}
 use denote.Ref.{now}
 use borrow.Author.Tests.{le-leb, lt-leb}
-use Rattle.writer.proofs.Puts.{put-nothing}
+use Rattle.wire.proofs.Puts.{put-nothing}
 use Rattle.writer.proofs.write.put_late.Statement.{statement}
 use Rattle.writer.proofs.write.put_late.Tie as tie
 

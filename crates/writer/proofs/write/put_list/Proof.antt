@@ -2,7 +2,7 @@ use borrow.Author.Needs.{needs}
 use Prim.Native.Nat.{_+_}
 use native.Mathlib.Omega.{arith}
 use denote.Ref.{now}
-use Rattle.writer.proofs.Puts.{put-run, put-number, put-two}
+use Rattle.wire.proofs.Puts.{put-run, put-number, put-two}
 use Rattle.writer.proofs.write.put_list.Statement.{statement}
 use Rattle.writer.proofs.write.put_list.Tie as tie
 

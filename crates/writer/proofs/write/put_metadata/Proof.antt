@@ -10,8 +10,9 @@ use lib.ListN.{length}
 use borrow.Author.Tests.{le-leb, lt-leb}
 use Rattle.wire.specs.Choice.{pick}
 use Rattle.wire.specs.Bytes.{spell}
-use Rattle.writer.specs.Pieces.{listBytes, metadataBytes, PutAt}
-use Rattle.writer.proofs.Puts.{put-number, put-room, put-two}
+use Rattle.wire.specs.Store.{PutAt}
+use Rattle.writer.specs.Pieces.{listBytes, metadataBytes}
+use Rattle.wire.proofs.Puts.{put-number, put-room, put-two}
 use Rattle.writer.proofs.PutPieces.{metadata-22, metadata-23}
 use Rattle.writer.proofs.write.put_metadata.Statement.{statement}
 use Rattle.writer.proofs.write.put_metadata.Tie as tie

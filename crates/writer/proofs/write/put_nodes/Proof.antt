@@ -7,8 +7,9 @@ use lib.ListN.{length}
 use Rattle.wire.specs.Bytes.{spell}
 use Rattle.mapblock.specs.Layout.{width}
 use Rattle.mapblock.proofs.Entries.{width-range}
-use Rattle.writer.specs.Pieces.{entryBytes, PutAt}
-use Rattle.writer.proofs.Puts.{front-room, put-room, put-two}
+use Rattle.wire.specs.Store.{PutAt}
+use Rattle.writer.specs.Pieces.{entryBytes}
+use Rattle.wire.proofs.Puts.{front-room, put-room, put-two}
 use Rattle.writer.proofs.PutPieces.{widths-put}
 use Rattle.writer.proofs.write.put_nodes.Statement.{statement}
 use Rattle.writer.proofs.write.put_nodes.Tie as tie

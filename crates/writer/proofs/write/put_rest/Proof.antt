@@ -5,8 +5,9 @@ use denote.Ref.{now}
 use lib.ListN.{length}
 use Rattle.wire.specs.Choice.{pick}
 use Rattle.mapblock.specs.Layout.{before}
-use Rattle.writer.specs.Pieces.{savedBytes, metadataBytes, earlyBytes, objectsBytes, lateBytes, PutAt}
-use Rattle.writer.proofs.Puts.{front-room, put-room, put-two}
+use Rattle.wire.specs.Store.{PutAt}
+use Rattle.writer.specs.Pieces.{savedBytes, metadataBytes, earlyBytes, objectsBytes, lateBytes}
+use Rattle.wire.proofs.Puts.{front-room, put-room, put-two}
 use Rattle.writer.proofs.PutPieces.{before-29}
 use Rattle.writer.proofs.write.put_rest.Statement.{statement}
 use Rattle.writer.proofs.write.put_rest.Tie as tie

@@ -1,6 +1,6 @@
 use borrow.Author.Needs.{needs}
 use denote.Ref.{now}
-use Rattle.writer.proofs.Puts.{put-run}
+use Rattle.wire.proofs.Puts.{put-run}
 use Rattle.writer.proofs.write.put_run.Statement.{statement}
 use Rattle.writer.proofs.write.put_run.Tie as tie
 

@@ -1,6 +1,6 @@
 use borrow.Author.Needs.{needs}
 use denote.Ref.{now}
-use Rattle.writer.proofs.Puts.{put-nothing}
+use Rattle.wire.proofs.Puts.{put-nothing}
 use Rattle.writer.proofs.write.put_saved_if.Statement.{statement}
 use Rattle.writer.proofs.write.put_saved_if.Tie as tie
 

@@ -5,13 +5,12 @@ use mathlib.Core.List.{List, [], _++_}
 use native.Mathlib.Nat.{add-zero, add-assoc}
 use native.Mathlib.Omega.{arith}
 use lib.ListN.{length, length-append}
 use Rattle.wire.specs.Bytes.{spell, spell-length}
-use Rattle.wire.specs.Store.{stored}
+use Rattle.wire.specs.Store.{stored, PutAt}
 use Rattle.wire.specs.Format.{along, run}
 use Rattle.wire.specs.Formats.{number}
 use Rattle.wire.specs.Told.{short}
 use Rattle.wire.proofs.Laid.{laid-none, laid-length, laid-two, stored-fits}
-use Rattle.writer.specs.Pieces.{PutAt}
 
 -- ---- one piece
 pub put-nothing : (at : ℕ) (d : List ℕ) → PutAt at [] d d at
