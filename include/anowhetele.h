@@ -100,6 +100,15 @@ anow_answer anow_write(anow_head head, const uint16_t *param0, size_t length0, c
                        const uint8_t *names, size_t names_length, const uint8_t *metadata, size_t metadata_length,
                        const uint8_t *objects, size_t objects_length, const uint8_t *timers, size_t timers_length, uint8_t *out, size_t room);
 
+/* Whether bytes are a tally: TLY, u16 1, u32 number of rows, rows of u16 length, name and u64 count, in the order of the names. Refused: 13. */
+anow_answer anow_tally_check(const uint8_t *tally, size_t length);
+/* Adds a count to a name in the tally that the first `used` bytes of a buffer are, and tells its length after; a new row opens its place and
+ * the rows behind it move back. Adding 0 changes nothing. A refusal leaves the buffer as it was. Refused: 12 for a name above 65,535 bytes; 13,
+ * also for a `used` beyond the buffer; 14; 11. */
+anow_answer anow_tally_add(uint8_t *buffer, size_t room, uint64_t used, const uint8_t *name, size_t length, uint64_t count);
+/* Writes the sum of two tallies to the front of out. A refusal leaves out as it was. Refused: 13; 14; 11. */
+anow_answer anow_tally_merge(const uint8_t *a, size_t a_length, const uint8_t *b, size_t b_length, uint8_t *out, size_t room);
+
 #ifdef __cplusplus
 }
 #endif

@@ -1,6 +1,6 @@
 -- What a host is handed of an answer: the number, the record and the offset, which are 0 on 0, and the length of the result, which is 0 on a refusal.
 use Prim.Native.Nat.{ℕ}
-use Rattle.wire.specs.Answer.{Answer, good, refusal}
+use Rattle.wire.specs.Answer.{Answer, good, refusal, mapAnswer}
 use Rattle.anowhetele.specs.declared.answer.AnowAnswer.{AnowAnswer}
 
 abbrev pub doneWith : ℕ → AnowAnswer
@@ -13,3 +13,7 @@ refusedWith n r o = record { number = n; index = r; offset = o; length = 0 }
 abbrev pub handed : Answer ℕ → AnowAnswer
 handed (good n) = doneWith n
 handed (refusal n r o) = refusedWith n r o
+
+-- of a call that writes nothing
+abbrev pub nothingWritten : {A : Type 0} → Answer A → Answer ℕ
+nothingWritten a = mapAnswer (λ _. 0) a

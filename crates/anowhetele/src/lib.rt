@@ -5,4 +5,5 @@ pub mod light;
 pub mod numbers;
 pub mod places;
 pub mod rows;
+pub mod tallies;
 pub mod writing;

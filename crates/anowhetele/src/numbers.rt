@@ -11,4 +11,8 @@ pub const NO_ROOM: u32 = 11;
 
 pub const PARTS_MISFIT: u32 = 12;
 
+pub const TALLY_MALFORMED: u32 = 13;
+
+pub const TOO_MANY: u32 = 14;
+
 pub const NO_SUCH: u32 = 16;

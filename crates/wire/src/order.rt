@@ -1,4 +1,6 @@
 // Bytes compared in order: byte by byte, a prefix first.
+use crate::fields::U64;
+use crate::fields::u64_at;
 ghost use mathlib.Core.Path.{_≡_};
 ghost use Rattle.wire.specs.Order.{order};
 
@@ -8,8 +10,8 @@ pub enum Order {
     After,
 }
 
-// How a stands to b.
-pub fn compare(a: &[u8], b: &[u8]) -> Order
+// How a stands to b, a byte at a time.
+fn compare_bytes(a: &[u8], b: &[u8]) -> Order
     ensures { λ r. ⌜ r ≡ order (now (a .entry)) (now (b .entry)) ⌝ }
 {
     let mut i: usize = 0;
@@ -31,5 +33,27 @@ pub fn compare(a: &[u8], b: &[u8]) -> Order
         Order::Before
     } else {
         Order::Same
+    }
+}
+
+// How a stands to b: eight bytes at a time, which as numbers have the same order, and what is left a byte at a time.
+pub fn compare(a: &[u8], b: &[u8]) -> Order
+    ensures { λ r. ⌜ r ≡ order (now (a .entry)) (now (b .entry)) ⌝ }
+{
+    let mut i: usize = 0;
+    loop {
+        let U64::Value(x) = u64_at(a, i) else {
+            return compare_bytes(&a[i..], &b[i..]);
+        };
+        let U64::Value(y) = u64_at(b, i) else {
+            return compare_bytes(&a[i..], &b[i..]);
+        };
+        if x < y {
+            return Order::Before;
+        }
+        if y < x {
+            return Order::After;
+        }
+        i += 8;
     }
 }

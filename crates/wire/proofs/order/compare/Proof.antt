@@ -1,10 +1,14 @@
--- The invariant: what is left of the two gives the answer asked.
+use borrow.Author.Needs.{needs}
 use Prim.Native.Nat.{_-_, _≤_}
-use mathlib.Core.Path.{_≡_, refl, sym, _∙_}
+use mathlib.Core.Path.{_≡_, refl, ap, ap₂, sym, _∙_}
 use native.Mathlib.Omega.{arith}
-use lib.ListN.{length, drop}
+use denote.Ref.{now}
+use lib.ListN.{length, take, drop}
 use Rattle.wire.specs.Order.{order}
-use Rattle.wire.proofs.Orders.{order-past, order-less, order-more, order-on, order-prefix, order-end}
+use Rattle.wire.specs.Lists.{rest-is}
+use Rattle.wire.specs.Told.{toldU64}
+use Rattle.wire.specs.declared.order.Order.{Order}
+use Rattle.wire.proofs.Orders.{Word, word-at, words-less, words-more, words-on}
 use Rattle.wire.proofs.order.compare.Statement.{statement}
 use Rattle.wire.proofs.order.compare.Tie as tie
 
@@ -14,38 +18,101 @@ Inv-loop a b i₀ i = (i ≤ length a) × (i ≤ length b) × (order (drop i a) 
 abbrev μ-loop : tie.MeasureT-loop
 μ-loop a b i₀ i = length a - i
 
+-- the words at the place
+first : (c : tie.After-known-told Inv-loop μ-loop) → Word (now (c .before .before .before .before .before .before .before .args .a)) (c .before .before .before .before .loop .i) (c .before .x .given .0 .0)
+first c = word-at _ _ _ (λ j. c .before .before .before .before .before .before .shared-slice-known .given j .fits) (sym (ap toldU64 (c .before .x .given .1)) ∙ c .before .before .before .u64-at .ensures)
+
+second : (c : tie.After-known-told2 Inv-loop μ-loop) → Word (now (c .before .before .before .before .before .before .before .before .before .before .before .args .b)) (c .before .before .before .before .before .before .before .before .loop .i) (c .before .y .given .0 .0)
+second c = word-at _ _ _ (λ j. c .before .before .before .before .before .before .before .before .before .shared-slice-known2 .given j .fits) (sym (ap toldU64 (c .before .y .given .1)) ∙ c .before .before .before .u64-at2 .ensures)
+
+-- what is left, as the code slices it
+left : (c : tie.At-loop Inv-loop μ-loop) {r : Order} → let a = now (c .before .before .before .args .a) in let b = now (c .before .before .before .args .b) in let i = c .loop .i in
+    r ≡ order (take (length a - i) (drop i a)) (take (length b - i) (drop i b)) → r ≡ order a b
+left c e = let a = now (c .before .before .before .args .a) in let b = now (c .before .before .before .args .b) in let i = c .loop .i in e ∙ ap₂ order (rest-is i a) (rest-is i b) ∙ c .loop .inv .2
+
 loop-holds : tie.Need-loop-holds Inv-loop μ-loop
 loop-holds c = (omega arith, omega arith, refl)
 
+u64-at-requires : tie.Need-u64-at-requires Inv-loop μ-loop
+u64-at-requires c κs = search needs
+
+enum-known-x : tie.Need-enum-known-x Inv-loop μ-loop
+enum-known-x c = search needs
+
+enum-told : tie.Need-enum-told Inv-loop μ-loop
+enum-told c = search needs
+
+sub-compare-bytes : tie.Need-sub-compare-bytes Inv-loop μ-loop
+sub-compare-bytes c = search needs
+
+part-compare-bytes-start : tie.Need-part-compare-bytes-start Inv-loop μ-loop
+part-compare-bytes-start c = search needs
+
+part-compare-bytes-end : tie.Need-part-compare-bytes-end Inv-loop μ-loop
+part-compare-bytes-end c = search needs
+
+sub-compare-bytes-2 : tie.Need-sub-compare-bytes-2 Inv-loop μ-loop
+sub-compare-bytes-2 c = search needs
+
+part-compare-bytes-start-2 : tie.Need-part-compare-bytes-start-2 Inv-loop μ-loop
+part-compare-bytes-start-2 c = search needs
+
+part-compare-bytes-end-2 : tie.Need-part-compare-bytes-end-2 Inv-loop μ-loop
+part-compare-bytes-end-2 c = search needs
+
+compare-bytes-requires : tie.Need-compare-bytes-requires Inv-loop μ-loop
+compare-bytes-requires c κs = search needs
+
 returns : tie.Need-returns Inv-loop μ-loop
-returns c = let l = c .before .before .loop in sym (order-past _ _ (l .i) (omega arith) (omega arith)) ∙ l .inv .2
+returns c = left (c .before .before .before .before .before .before) (c .compare-bytes .ensures)
 
-shared-slice-read-x : tie.Need-shared-slice-read-x Inv-loop μ-loop
-shared-slice-read-x c = omega arith
+u64-at-requires-2 : tie.Need-u64-at-requires-2 Inv-loop μ-loop
+u64-at-requires-2 c κs = search needs
 
-shared-slice-read-y : tie.Need-shared-slice-read-y Inv-loop μ-loop
-shared-slice-read-y c = omega arith
+enum-known-y : tie.Need-enum-known-y Inv-loop μ-loop
+enum-known-y c = search needs
+
+enum-told-2 : tie.Need-enum-told-2 Inv-loop μ-loop
+enum-told-2 c = search needs
+
+sub-compare-bytes-3 : tie.Need-sub-compare-bytes-3 Inv-loop μ-loop
+sub-compare-bytes-3 c = search needs
+
+part-compare-bytes-start-3 : tie.Need-part-compare-bytes-start-3 Inv-loop μ-loop
+part-compare-bytes-start-3 c = search needs
+
+part-compare-bytes-end-3 : tie.Need-part-compare-bytes-end-3 Inv-loop μ-loop
+part-compare-bytes-end-3 c = search needs
+
+sub-compare-bytes-4 : tie.Need-sub-compare-bytes-4 Inv-loop μ-loop
+sub-compare-bytes-4 c = search needs
+
+part-compare-bytes-start-4 : tie.Need-part-compare-bytes-start-4 Inv-loop μ-loop
+part-compare-bytes-start-4 c = search needs
+
+part-compare-bytes-end-4 : tie.Need-part-compare-bytes-end-4 Inv-loop μ-loop
+part-compare-bytes-end-4 c = search needs
+
+compare-bytes-requires-2 : tie.Need-compare-bytes-requires-2 Inv-loop μ-loop
+compare-bytes-requires-2 c κs = search needs
 
 returns-2 : tie.Need-returns-2 Inv-loop μ-loop
-returns-2 c = let l = c .before .before .before .before .before .loop in sym (order-less _ _ (l .i) (omega arith) (omega arith) (c .if2 .taken)) ∙ l .inv .2
+returns-2 c = left (c .before .before .before .before .before .before .before .before .before .before) (c .compare-bytes2 .ensures)
 
 returns-3 : tie.Need-returns-3 Inv-loop μ-loop
-returns-3 c = let l = c .before .before .before .before .before .before .loop in sym (order-more _ _ (l .i) (omega arith) (omega arith) (c .if3 .taken)) ∙ l .inv .2
-
-add-i : tie.Need-add-i Inv-loop μ-loop
-add-i c = omega arith
-
-loop-less : tie.Need-loop-less Inv-loop μ-loop
-loop-less c = omega arith
-
-loop-again : tie.Need-loop-again Inv-loop μ-loop
-loop-again c = let l = c .before .before .before .before .before .before .loop in (omega arith, omega arith, sym (order-on _ _ (l .i) (omega arith) (omega arith) (c .before .if2 .left) (c .if3 .left)) ∙ l .inv .2)
+returns-3 c = sym (words-less (first (c .before .before .before .before .before)) (second (c .before)) (c .if1 .taken)) ∙ c .before .before .before .before .before .before .before .before .before .loop .inv .2
 
 returns-4 : tie.Need-returns-4 Inv-loop μ-loop
-returns-4 c = let l = c .before .before .loop in sym (order-prefix _ _ (l .i) (omega arith) (c .if4 .taken)) ∙ l .inv .2
+returns-4 c = sym (words-more (first (c .before .before .before .before .before .before)) (second (c .before .before)) (c .if2 .taken)) ∙ c .before .before .before .before .before .before .before .before .before .before .loop .inv .2
 
-returns-5 : tie.Need-returns-5 Inv-loop μ-loop
-returns-5 c = let l = c .before .before .loop in sym (order-end _ _ (l .i) (omega arith) (c .if4 .left)) ∙ l .inv .2
+add-i : tie.Need-add-i Inv-loop μ-loop
+add-i c = omega (arith, first (c .before .before .before .before .before .before) .inside)
+
+loop-less : tie.Need-loop-less Inv-loop μ-loop
+loop-less c = omega (arith, first (c .before .before .before .before .before .before) .inside)
+
+loop-again : tie.Need-loop-again Inv-loop μ-loop
+loop-again c = (first (c .before .before .before .before .before .before) .inside, second (c .before .before) .inside, sym (words-on (first (c .before .before .before .before .before .before)) (second (c .before .before)) (c .before .if1 .left) (c .if2 .left)) ∙ c .before .before .before .before .before .before .before .before .before .before .loop .inv .2)
 
 pub compare-spec : {M : Type 1} → statement M
 compare-spec =
@@ -54,13 +121,30 @@ compare-spec =
     Inv-loop
     μ-loop
     loop-holds
+    u64-at-requires
+    enum-known-x
+    enum-told
+    sub-compare-bytes
+    part-compare-bytes-start
+    part-compare-bytes-end
+    sub-compare-bytes-2
+    part-compare-bytes-start-2
+    part-compare-bytes-end-2
+    compare-bytes-requires
     returns
-    shared-slice-read-x
-    shared-slice-read-y
+    u64-at-requires-2
+    enum-known-y
+    enum-told-2
+    sub-compare-bytes-3
+    part-compare-bytes-start-3
+    part-compare-bytes-end-3
+    sub-compare-bytes-4
+    part-compare-bytes-start-4
+    part-compare-bytes-end-4
+    compare-bytes-requires-2
     returns-2
     returns-3
+    returns-4
     add-i
     loop-less
-    loop-again
-    returns-4
-    returns-5)
+    loop-again)

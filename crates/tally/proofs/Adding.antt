@@ -1,0 +1,325 @@
+-- What adding a row answers, by cases.
+use Prim.Native.Nat.{ℕ, _+_, _-_, _<_, _≤_}
+use mathlib.Core.Path.{_≡_, refl, sym, ap, ap₂, _∙_}
+use mathlib.Core.Bool.{true, false, _&&_, and-assoc}
+use mathlib.Core.Logic.{inl, inr}
+use mathlib.Core.List.{List, [], _∷_, _++_, append-assoc}
+use mathlib.Core.Option.{some, none}
+use native.Mathlib.Omega.{arith}
+use lib.Dec.{leb}
+use lib.ListN.{length, take, drop, length-append, length-drop, take-append-drop}
+use lib.Seq.{take-add, take-at, drop-at, length-take-le}
+use borrow.Author.Tests.{le-leb, lt-leb}
+use borrow.Rule.Slice.PartMut.{putMid}
+use Rattle.wire.specs.Answer.{Answer, good, plain, lent, mapAnswer, partsMisfit, tallyMalformed}
+use Rattle.wire.specs.Bytes.{Bytes, spell, bytes-take}
+use Rattle.wire.specs.Formats.{u32, u64}
+use Rattle.wire.specs.Order.{order, order-refl}
+use Rattle.wire.specs.declared.order.Order.the-variants.{Same}
+use Rattle.wire.specs.Store.{laid, stored}
+use Rattle.wire.specs.Told.{short}
+use Rattle.wire.specs.Choice.{and-yes, yes-and, and-no, three-yes, yes-three}
+use Rattle.wire.proofs.Puts.{put-number}
+use Rattle.tally.specs.Rows.{Row, Rows, joined, addRow}
+use Rattle.tally.specs.Tally.{Kind, KindRow, KindRows, headLength, headBytes, fields, tally, rowsOf, limited, countable, most, ones, one}
+use Rattle.tally.specs.Operations.{checkOf, tallied, addOf}
+use Rattle.tally.specs.Told.{toldAdd}
+use Rattle.tally.specs.Walks.{rowsBytes, Holds}
+use Rattle.tally.specs.Sought.{Ready, AddedRow, AddedAs}
+use Rattle.tally.specs.declared.add.AddAnswer.{AddAnswer}
+use Rattle.tally.specs.Sought as Sought
+use Rattle.tally.specs.declared.add.AddAnswer.the-variants as answers
+use Rattle.tally.specs.declared.add.Found.the-variants as founds
+use Rattle.tally.proofs.Held.{same-some, Opened, opened, rows-append, tally-bytes, head-size, tally-size, one-size}
+use Rattle.tally.proofs.Checks.{Checked, checked, check-long}
+use Rattle.tally.proofs.Opening.{count-laid, rows-laid, part-opened}
+use Rattle.tally.proofs.Steps as Steps
+use Rattle.tally.proofs.Fitting.{tallied-good, tallied-room, tallied-many}
+
+-- ---- the answer by cases
+module _ (k : Kind) (d : List ℕ) (n : ℕ) (r : KindRow k) where
+  pub add-long : 65535 < length (r .name) → addOf k d n r ≡ plain partsMisfit
+  unfolding addOf
+  add-long h = rw (lt-leb (length (r .name)) 65535 h)
+
+  module _ (h : length (r .name) ≤ 65535) where
+    pub add-beyond : length d < n → addOf k d n r ≡ plain tallyMalformed
+    unfolding addOf
+    add-beyond i = rw (le-leb (length (r .name)) 65535 h, lt-leb n (length d) i)
+
+    module _ (i : n ≤ length d) where
+      pub add-malformed : rowsOf k (take n d) ≡ none → addOf k d n r ≡ plain tallyMalformed
+      unfolding addOf
+      add-malformed e = rw (le-leb (length (r .name)) 65535 h, le-leb n (length d) i, e)
+
+      module _ (L : KindRows k) (e : rowsOf k (take n d) ≡ some L) where
+        pub add-nothing : k .counts .stands (r .count) ≡ false → addOf k d n r ≡ good (take n d)
+        unfolding addOf
+        add-nothing s = rw (le-leb (length (r .name)) 65535 h, le-leb n (length d) i, e, s)
+
+        pub add-some : k .counts .stands (r .count) ≡ true → addOf k d n r ≡ tallied k (length d) (addRow (k .counts) r L)
+        unfolding addOf
+        add-some s = rw (le-leb (length (r .name)) 65535 h, le-leb n (length d) i, e, s)
+
+-- ---- a checked tally, and a row that may be added
+-- an answer and what the buffer then holds
+abbrev Answered : Answer ℕ → List ℕ → List ℕ → Answer (List ℕ) → Type 0
+Answered a before after t = (a ≡ mapAnswer length t) × (after ≡ lent t before)
+
+module _ (d : List ℕ) (n rows : ℕ) (r : Row ℕ) (h : length (r .name) ≤ 65535) (i : n ≤ length d) (c : good rows ≡ checkOf one (take n d)) where
+  abbrev there : Checked one (take n d) rows
+  there = checked one (take n d) c
+
+  -- nothing is added
+  pub nothing-added : r .count ≡ 0 → Answered (good n) d d (addOf one d n r)
+  nothing-added z =
+      rw (add-nothing one d n r h i (there .l) (there .is) (lt-leb 1 (r .count) (omega arith)), length-take-le n d i) (refl, sym (take-append-drop n d))
+
+  pub may-add : Bytes d → 0 < r .count → Ready d n rows r
+  may-add b s = record {
+    long = rw (length-take-le n d i) at (check-long (take n d) (bytes-take n d b) c);
+    inside = i;
+    counts = λ L e. there .counts ∙ ap length (same-some (sym (there .is) ∙ e));
+    name = omega (arith, h);
+    stands = s;
+  }
+
+  pub row-added : (e : List ℕ) (a : AddAnswer) → 0 < r .count → AddedAs d e n r a → Answered (toldAdd a) d e (addOf one d n r)
+  row-added e a s f =
+      let g = f (there .l) (there .is) in
+      rw (add-some one d n r h i (there .l) (there .is) (le-leb 1 (r .count) s)) (g .told, g .holds)
+
+-- ---- rows with one more among them
+module _ (k : Kind) where
+  limited-append : (D R : KindRows k) → limited k (D ++ R) ≡ (limited k D && limited k R)
+  limited-append [] R = refl
+  limited-append (x ∷ D) R = rw (limited-append D R) (sym (and-assoc (k .limit (x .count)) (limited k D) (limited k R)))
+
+  module _ (D R : KindRows k) (x : KindRow k) where
+    limited-more : limited k (D ++ R) ≡ true → k .limit (x .count) ≡ true → limited k (D ++ x ∷ R) ≡ true
+    limited-more h c =
+        let p = and-yes (limited k D) (limited k R) (sym (limited-append D R) ∙ h) in
+        limited-append D (x ∷ R) ∙ yes-three (p .0) c (p .1)
+
+    limited-less : limited k (D ++ x ∷ R) ≡ true → limited k (D ++ R) ≡ true
+    limited-less h =
+        let p = three-yes (limited k D) (k .limit (x .count)) (limited k R) (sym (limited-append D (x ∷ R)) ∙ h) in
+        limited-append D R ∙ yes-and (p .0) (p .2)
+
+    limited-not : k .limit (x .count) ≡ false → limited k (D ++ x ∷ R) ≡ false
+    limited-not h = limited-append D (x ∷ R) ∙ and-no (limited k D) (k .limit (x .count) && limited k R) (inr (and-no (k .limit (x .count)) (limited k R) (inl h)))
+
+  -- its bytes, up to a row and from there on
+  tally-parts : (L D R : KindRows k) → L ≡ D ++ R → tally k .encode L ≡ (headBytes k (length L) ++ rowsBytes k D) ++ rowsBytes k R
+  tally-parts L D R s =
+      tally-bytes k L ∙ ap (λ (y : List ℕ). headBytes k (length L) ++ y) (ap (rowsBytes k) s ∙ rows-append k D R)
+      ∙ sym (append-assoc (headBytes k (length L)) (rowsBytes k D) (rowsBytes k R))
+
+  parts-size : (L D R : KindRows k) → L ≡ D ++ R → length (tally k .encode L) ≡ headLength + (length (rowsBytes k D) + length (rowsBytes k R))
+  parts-size L D R s = tally-size k L ∙ ap (λ (j : ℕ). headLength + j) (ap length (ap (rowsBytes k) s ∙ rows-append k D R) ∙ length-append (rowsBytes k D) (rowsBytes k R))
+
+below-is : (n : List ℕ) (D : Rows ones) → Sought.Below n D → Steps.Below ones n D
+below-is n [] b = tt
+below-is n (r ∷ D) b = (b .0, below-is n D (b .1))
+
+-- ---- what is answered, by the rows T of the sum
+module _ (d : List ℕ) (n : ℕ) (r : Row ℕ) (L T : Rows ones) (e : addRow ones r L ≡ T) where
+  too-many : countable one T ≡ false → AddedRow d d n r answers.TooMany L
+  too-many h = let a = tallied-many one (length d) T h in record { told = rw (e, a); holds = rw (e, a) }
+
+  no-room : countable one T ≡ true → length d < length (tally one .encode T) → AddedRow d d n r answers.NoRoom L
+  no-room h l = let a = tallied-room one (length d) T h l in record { told = rw (e, a); holds = rw (e, a) }
+
+  all-added : (m : ℕ) (a : List ℕ) → countable one T ≡ true → length (tally one .encode T) ≡ m → m ≤ length d → a ≡ tally one .encode T ++ drop m d
+      → AddedRow d a n r (answers.Added m) L
+  all-added m a h l i q =
+      let s = tallied-good one (length d) T (h, rw l i) in
+      record { told = rw (e, s, l); holds = rw (e, s, l) q }
+
+-- ---- a row added to the tally in the first n bytes of d
+module _ (d : List ℕ) (n rows : ℕ) (r : Row ℕ) (w : Ready d n rows r) where
+  -- the bytes behind the head
+  abbrev part : List ℕ
+  part = take (n - headLength) (drop headLength d)
+
+  part-size : length part ≡ n - headLength
+  part-size = length-take-le (n - headLength) (drop headLength d) (rw length-drop (omega (arith, w .inside)))
+
+  part-is : part ≡ drop headLength (take n d)
+  part-is =
+      let z : headLength + (n - headLength) ≡ n = omega (arith, w .long) in
+      sym (ap (λ (j : ℕ). drop headLength (take j d)) (sym z) ∙ ap (drop headLength) (take-add headLength (n - headLength) d)
+      ∙ drop-at (take headLength d) part headLength (length-take-le headLength d (omega (arith, w .long, w .inside))))
+
+  -- a place in them
+  pub row-place : (at before : ℕ) → Sought.Sought part (r .name) (founds.Row at before) → at + (length (r .name) + 10) + headLength ≤ n
+  row-place at before q = omega (arith, q .0, part-size, w .long)
+
+  pub new-place : (at : ℕ) → Sought.Sought part (r .name) (founds.Place at) → at + headLength ≤ n
+  new-place at q = omega (arith, q .0, part-size, w .long)
+
+  module _ (b : Bytes d) (L : Rows ones) (e : rowsOf one (take n d) ≡ some L) where
+    opens : Opened one (take n d) L
+    opens = opened one (take n d) L (bytes-take n d b) e
+
+    holds : Holds one part L
+    holds = rw part-is (opens .holds)
+
+    fits : (limited one L ≡ true) × (leb (length L) 4294967295 ≡ true)
+    fits = and-yes (limited one L) (leb (length L) 4294967295) (opens .counts)
+
+    -- what stands around a place
+    module _ (D R : Rows ones) (s : L ≡ D ++ R) where
+      abbrev front : List ℕ
+      front = headBytes one (length L) ++ rowsBytes one D
+
+      front-size : length front ≡ length (rowsBytes one D) + headLength
+      front-size = omega (arith, length-append (headBytes one (length L)) (rowsBytes one D), head-size one (length L))
+
+      around : d ≡ front ++ (rowsBytes one R ++ drop n d)
+      around =
+          sym (take-append-drop n d) ∙ ap (λ (x : List ℕ). x ++ drop n d) (opens .bytes ∙ tally-parts one L D R s)
+          ∙ append-assoc front (rowsBytes one R) (drop n d)
+
+      sizes : n ≡ headLength + (length (rowsBytes one D) + length (rowsBytes one R))
+      sizes = sym (length-take-le n d (w .inside)) ∙ ap length (opens .bytes) ∙ parts-size one L D R s
+
+    -- ---- to the count of its row
+    module _ (at before : ℕ) (q : Sought.Sought part (r .name) (founds.Row at before)) where
+      abbrev f : Sought.FoundRow (r .name) at before L
+      f = q .1 L holds
+
+      abbrev more : Row ℕ
+      more = record { name = f .r .name; count = before + r .count }
+
+      abbrev T : Rows ones
+      T = f .D ++ more ∷ f .R
+
+      sum : addRow ones r L ≡ T
+      sum =
+          let same : order (r .name) (f .r .name) ≡ Same = rw (f .name) (order-refl (r .name)) in
+          let c : r .count + f .r .count ≡ before + r .count = omega (arith, f .counts) in
+          let joins : joined ones r (f .r) ≡ more = λ i. record { name = sym (f .name) i; count = c i } in
+          ap (addRow ones r) (f .split) ∙ Steps.add-at ones r (f .r) (f .D) (f .R) (below-is (r .name) (f .D) (f .below)) same ∙ ap (λ (y : Row ℕ). f .D ++ y ∷ f .R) joins
+
+      -- as many rows, of as many bytes
+      same-rows : length T ≡ length L
+      same-rows = omega (arith, ap length (f .split), length-append (f .D) (f .r ∷ f .R), length-append (f .D) (more ∷ f .R))
+
+      same-size : length (tally one .encode T) ≡ n
+      same-size =
+          omega (
+            arith,
+            parts-size one T (f .D) (more ∷ f .R) refl,
+            sizes (f .D) (f .r ∷ f .R) (f .split),
+            one-size more,
+            one-size (f .r),
+            length-append (fields one .encode more) (rowsBytes one (f .R)),
+            length-append (fields one .encode (f .r)) (rowsBytes one (f .R)),
+          )
+
+      sum-fits : before + r .count ≤ most → countable one T ≡ true
+      sum-fits h =
+          yes-and (limited-more one (f .D) (f .R) more (limited-less one (f .D) (f .R) (f .r) (ap (limited one) (sym (f .split)) ∙ fits .0)) (le-leb (before + r .count) most h))
+          (rw same-rows (fits .1))
+
+      sum-laid : laid (((at + headLength) + 2) + length (r .name)) (spell 8 (before + r .count)) d ≡ tally one .encode T ++ drop n d
+      sum-laid =
+          let A = front (f .D) (f .r ∷ f .R) (f .split) in
+          let old = fields one .encode (f .r) in
+          let new = fields one .encode more in
+          let rest = rowsBytes one (f .R) in
+          let place : ((at + headLength) + 2) + length (r .name) ≡ length A + (2 + length (f .r .name)) =
+          omega (arith, front-size (f .D) (f .r ∷ f .R) (f .split), f .place, ap length (f .name)) in
+          let was : d ≡ A ++ (old ++ (rest ++ drop n d)) = around (f .D) (f .r ∷ f .R) (f .split) ∙ ap (λ (y : List ℕ). A ++ y) (append-assoc old rest (drop n d)) in
+          let bytes : tally one .encode T ≡ A ++ (new ++ rest) = tally-parts one T (f .D) (more ∷ f .R) refl ∙ rw same-rows in
+          ap₂ (λ (j : ℕ) (y : List ℕ). laid j (spell 8 (before + r .count)) y) place was ∙ count-laid A (rest ++ drop n d) (f .r) (before + r .count)
+          ∙ sym (ap (λ (y : List ℕ). y ++ drop n d) bytes ∙ append-assoc A (new ++ rest) (drop n d) ∙ ap (λ (y : List ℕ). A ++ y) (append-assoc new rest (drop n d)))
+
+      pub row-full : most - before < r .count → AddedRow d d n r answers.TooMany L
+      row-full h =
+          too-many d n r L T sum
+          (and-no (limited one T) (leb (length T) 4294967295) (inl (limited-not one (f .D) (f .R) more (lt-leb (before + r .count) most (omega arith)))))
+
+      pub row-counted : (a : List ℕ) → r .count ≤ most - before → before ≤ most
+          → a ≡ stored (((at + headLength) + 2) + length (r .name)) (u64 {ends = short} .encode (before + r .count)) d → AddedRow d a n r (answers.Added n) L
+      row-counted a h i g =
+          all-added d n r L T sum n a (sum-fits (omega arith)) same-size (w .inside)
+          (put-number (((at + headLength) + 2) + length (r .name)) 8 (before + r .count) (omega (arith, row-place at before q, w .inside)) g .lays ∙ sum-laid)
+
+    -- ---- as a row of its own
+    module _ (at : ℕ) (q : Sought.Sought part (r .name) (founds.Place at)) where
+      abbrev g : Sought.FoundPlace (r .name) at L
+      g = q .1 L holds
+
+      abbrev U : Rows ones
+      U = g .D ++ r ∷ g .R
+
+      new-sum : addRow ones r L ≡ U
+      new-sum = ap (addRow ones r) (g .split) ∙ Steps.add-between ones r (g .D) (g .R) (below-is (r .name) (g .D) (g .below)) (g .above)
+
+      new-rows : length U ≡ rows + 1
+      new-rows = omega (arith, ap length (g .split), length-append (g .D) (g .R), length-append (g .D) (r ∷ g .R), w .counts L e)
+
+      new-size : length (tally one .encode U) ≡ n + (length (r .name) + 10)
+      new-size = omega (arith, parts-size one U (g .D) (r ∷ g .R) refl, sizes (g .D) (g .R) (g .split), one-size r, length-append (fields one .encode r) (rowsBytes one (g .R)))
+
+      new-fits : rows < 4294967295 → r .count ≤ most → countable one U ≡ true
+      new-fits h c =
+          yes-and (limited-more one (g .D) (g .R) r (ap (limited one) (sym (g .split)) ∙ fits .0) (le-leb (r .count) most c))
+          (le-leb (length U) 4294967295 (omega (arith, new-rows)))
+
+      -- the bytes before the place and behind it
+      front-ends : length (front (g .D) (g .R) (g .split)) ≡ at + headLength
+      front-ends = omega (arith, front-size (g .D) (g .R) (g .split), g .place)
+
+      front-is : take (at + headLength) d ≡ front (g .D) (g .R) (g .split)
+      front-is =
+          ap (take (at + headLength)) (around (g .D) (g .R) (g .split))
+          ∙ take-at (front (g .D) (g .R) (g .split)) (rowsBytes one (g .R) ++ drop n d) (at + headLength) front-ends
+
+      behind-is : take (n - (at + headLength)) (drop (at + headLength) d) ≡ rowsBytes one (g .R)
+      behind-is =
+          let k = n - (at + headLength) in
+          let rest : length (rowsBytes one (g .R)) ≡ n - (at + headLength) = omega (arith, sizes (g .D) (g .R) (g .split), g .place) in
+          ap (λ (y : List ℕ). take k (drop (at + headLength) y)) (around (g .D) (g .R) (g .split))
+          ∙ ap (take k) (drop-at (front (g .D) (g .R) (g .split)) (rowsBytes one (g .R) ++ drop n d) (at + headLength) front-ends)
+          ∙ take-at (rowsBytes one (g .R)) (drop n d) k rest
+
+      -- what stands behind the head when the row is there
+      abbrev behind : List ℕ
+      behind = rowsBytes one (g .D) ++ (fields one .encode r ++ (rowsBytes one (g .R) ++ drop (n + (length (r .name) + 10)) d))
+
+      new-bytes : tally one .encode U ++ drop (n + (length (r .name) + 10)) d ≡ headBytes one (rows + 1) ++ behind
+      new-bytes =
+          let z = drop (n + (length (r .name) + 10)) d in
+          let D = rowsBytes one (g .D) in
+          let row = fields one .encode r in
+          let R = rowsBytes one (g .R) in
+          let head = headBytes one (rows + 1) in
+          ap (λ (y : List ℕ). y ++ z) (tally-parts one U (g .D) (r ∷ g .R) refl ∙ ap (λ (m : ℕ). (headBytes one m ++ D) ++ (row ++ R)) new-rows)
+          ∙ append-assoc (head ++ D) (row ++ R) z ∙ append-assoc head D ((row ++ R) ++ z) ∙ ap (λ (y : List ℕ). head ++ (D ++ y)) (append-assoc row R z)
+
+      pub new-many : rows ≡ 4294967295 → AddedRow d d n r answers.TooMany L
+      new-many h = too-many d n r L U new-sum (and-no (limited one U) (leb (length U) 4294967295) (inr (lt-leb (length U) 4294967295 (omega (arith, new-rows)))))
+
+      pub new-full : rows < 4294967295 → r .count ≤ most → length d - n < length (r .name) + 10 → AddedRow d d n r answers.NoRoom L
+      new-full h c l = no-room d n r L U new-sum (new-fits h c) (omega (arith, new-size, w .inside))
+
+      module _ (room : n + (length (r .name) + 10) ≤ length d) (ys : List ℕ) (o : ys ≡ Sought.opened (n - (at + headLength)) r (take (length d - (at + headLength)) (drop (at + headLength) d))) where
+        abbrev now-there : List ℕ
+        now-there = putMid (at + headLength) (length d - (at + headLength)) d ys
+
+        now-is : now-there ≡ headBytes one (length L) ++ behind
+        now-is =
+            let z = drop (n + (length (r .name) + 10)) d in
+            part-opened d (at + headLength) n r ys (new-place at q) room o ∙ ap₂ (λ (x y : List ℕ). x ++ (fields one .encode r ++ (y ++ z))) front-is behind-is
+            ∙ append-assoc (headBytes one (length L)) (rowsBytes one (g .D)) (fields one .encode r ++ (rowsBytes one (g .R) ++ z))
+
+        pub new-added : (a : List ℕ) → rows < 4294967295 → r .count ≤ most → a ≡ stored 5 (u32 {ends = short} .encode (rows + 1)) now-there
+            → AddedRow d a n r (answers.Added (n + (length (r .name) + 10))) L
+        new-added a h c p =
+            let number = u32 {ends = short} .encode (rows + 1) in
+            let head : 5 + 4 ≤ length (headBytes one (length L) ++ behind) = omega (arith, length-append (headBytes one (length L)) behind, head-size one (length L)) in
+            all-added d n r L U new-sum (n + (length (r .name) + 10)) a (new-fits h c) new-size room
+            (put-number 5 4 (rows + 1) head (p ∙ ap (stored 5 number) now-is) .lays ∙ rows-laid (length L) (rows + 1) behind ∙ sym new-bytes)

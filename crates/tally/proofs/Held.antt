@@ -1,0 +1,279 @@
+-- Bytes that hold rows: what their front says, what is behind it, and when bytes are a tally.
+use Prim.Native.Nat.{ℕ, zero, suc, _+_, _-_, _^_, _<_, _≤_}
+use mathlib.Core.Path.{_≡_, refl, ap, ap₂, sym, subst, _∙_}
+use mathlib.Core.Bool.{Bool, true, false, _&&_}
+use mathlib.Core.List.{List, [], _∷_, _++_, append-assoc}
+use mathlib.Core.Option.{Option, some, none}
+use native.Mathlib.Omega.{arith}
+use lib.Dec.{leb, eqb, lit<}
+use lib.ListN.{length, take, drop, length-append, length-drop}
+use lib.Seq.{drop-append-seam, take-at, drop-at, length-take-le}
+use borrow.Author.Tests.{le-leb, leb-true, eqb-true, eq-eqb}
+use Rattle.wire.specs.Choice.{pick, no-true, and-yes, yes-and, three-yes, yes-three}
+use Rattle.wire.specs.Bytes.{Bytes, spell, spell-length, bytes-nil, bytes-cons}
+use Rattle.wire.specs.Order.{order}
+use Rattle.wire.specs.Read.{Read, done, refused}
+use Rattle.wire.specs.Format.{run, such, _⨾_, along, items, OkItems, encodeItems, ends-in}
+use Rattle.wire.specs.Formats.{number, counted, listed, behind}
+use Rattle.wire.proofs.EveryFormat.{every-format}
+use Rattle.tally.specs.Rows.{Counts, Row, Rows, isName, choose, Above, Canonical}
+use Rattle.tally.specs.Tally.{Malformed, malformed, Kind, KindRow, KindRows, tallyMark, headLength, headBytes, rises, found, whole, fields, mayStand, row, tally, rowsOf, limited, countable, ones, one}
+use Rattle.tally.specs.Told.{toldRow}
+use Rattle.tally.specs.Walks.{rowsBytes, Holds}
+use Rattle.tally.proofs.Canon.{above-weak}
+use Rattle.tally.specs.declared.rows.RowRead.the-variants as rows
+use Rattle.wire.specs.declared.order.Order.{Order}
+use Rattle.wire.specs.declared.order.Order.the-variants.{Before, Same, After}
+
+-- ---- options and orders
+pub no-some {ℓ} : {A : Type 0} {C : Type ℓ} {a : A} → none ≡ some a → C
+no-some e = let z : _≡_ {A = ℕ} 0 1 = cc in absurd (omega arith)
+
+pub same-some : {A : Type 0} {a b : A} → some a ≡ some b → a ≡ b
+same-some h = cc
+
+-- what was found was read
+pub found-some : {A : Type 0} (r : Read Malformed A) (a : A) (n : ℕ) → found r ≡ some (a, n) → r ≡ done a n
+found-some {A} (done b m) a n h =
+    let e : _≡_ {A = A × ℕ} (b, m) (a, n) = same-some h in
+    λ i. done (e i .0) (e i .1)
+found-some (refused e p) a n h = no-some h
+
+pub whole-some : {A : Type 0} (s : List ℕ) (r : Read Malformed A) (a : A) → whole s r ≡ some a → r ≡ done a (length s)
+whole-some {A} s (done b m) a h = go (eqb m (length s)) refl h
+  where
+    go : (t : Bool) → eqb m (length s) ≡ t → pick t (some b) none ≡ some a → _≡_ {A = Read Malformed A} (done b m) (done a (length s))
+    go true e g = ap₂ done (same-some g) (eqb-true m (length s) e)
+    go false e g = no-some g
+whole-some s (refused e p) a h = no-some h
+
+pub before-yes : (o : Order) → choose o true false false ≡ true → o ≡ Before
+before-yes Before e = refl
+before-yes Same e = no-true e
+before-yes After e = no-true e
+
+mark-bytes : Bytes tallyMark
+mark-bytes = bytes-cons 84 (76 ∷ 89 ∷ []) (lit< tt) (bytes-cons 76 (89 ∷ []) (lit< tt) (bytes-cons 89 [] (lit< tt) bytes-nil))
+
+module _ (k : Kind) where
+  -- ---- the bytes of a row
+  pub row-bytes : (r : KindRow k) → fields k .encode r ≡ counted {ends = malformed} 2 .encode (r .name) ++ k .count .encode (r .count)
+  unfolding fields along _⨾_
+  row-bytes r = refl
+
+  pub name-bytes : (n : List ℕ) → counted {ends = malformed} 2 .encode n ≡ spell 2 (length n) ++ n
+  unfolding counted along _⨾_ number run
+  name-bytes n = refl
+
+  pub row-size : (r : KindRow k) → length (fields k .encode r) ≡ length (r .name) + (2 + k .width)
+  row-size r =
+      rw (row-bytes r, name-bytes (r .name), length-append, k .count-length (r .count), length-append, spell-length) (omega arith)
+
+  -- ---- the bytes of rows
+  pub rows-append : (a b : KindRows k) → rowsBytes k (a ++ b) ≡ rowsBytes k a ++ rowsBytes k b
+  rows-append [] b = refl
+  rows-append (r ∷ a) b = rw (rows-append a b, append-assoc)
+
+  item-bytes : (seen : KindRows k) (r : KindRow k) → row k seen .encode r ≡ fields k .encode r
+  unfolding row such
+  item-bytes seen r = refl
+
+  items-bytes : (seen l : KindRows k) → encodeItems (row k) seen l ≡ rowsBytes k l
+  items-bytes seen [] = refl
+  items-bytes seen (r ∷ l) = ap₂ (λ (x y : List ℕ). x ++ y) (item-bytes seen r) (items-bytes (r ∷ seen) l)
+
+  pub tally-bytes : (l : KindRows k) → tally k .encode l ≡ headBytes k (length l) ++ rowsBytes k l
+  unfolding tally behind along _⨾_ such number run listed items
+  tally-bytes l = rw (items-bytes [] l, append-assoc)
+
+  pub head-size : (n : ℕ) → length (headBytes k n) ≡ headLength
+  head-size n = refl
+
+  pub tally-size : (l : KindRows k) → length (tally k .encode l) ≡ headLength + length (rowsBytes k l)
+  tally-size l = rw (tally-bytes l, length-append, head-size (length l))
+
+  -- ---- rows as a tally has them are those that its format writes
+  -- rows after the last of those seen
+  abbrev pub Follows : KindRows k → KindRows k → Type 0
+  Follows [] l = Unit {0}
+  Follows (r ∷ seen) l = Above (k .counts) (r .name) l
+
+  follows-on : (seen : KindRows k) (r : KindRow k) (l : KindRows k) → rises seen (r .name) ≡ true → Above (k .counts) (r .name) l → Follows seen (r ∷ l)
+  follows-on [] r l e h = tt
+  follows-on (s ∷ seen) r l e h =
+      let b = before-yes (order (s .name) (r .name)) e in
+      (b, above-weak (k .counts) (s .name) (r .name) l b h)
+
+  rises-on : (seen : KindRows k) (r : KindRow k) (l : KindRows k) → Follows seen (r ∷ l) → rises seen (r .name) ≡ true
+  rises-on [] r l h = refl
+  rises-on (s ∷ seen) r l h = ap (λ (o : Order). choose o true false false) (h .0)
+
+  fields-ok : (r : KindRow k) → (fields k .Ok r → Bytes (r .name) × (k .limit (r .count) ≡ true))
+  unfolding fields along _⨾_ counted
+  fields-ok r h = (h .0 .1, k .limit-ok (r .count) .1 (h .1))
+
+  ok-fields : (r : KindRow k) → isName (r .name) ≡ true → Bytes (r .name) → k .limit (r .count) ≡ true → fields k .Ok r
+  unfolding fields along _⨾_ counted
+  ok-fields r n b l = let p = leb-true (length (r .name)) 65535 n in ((omega arith, b), k .limit-ok (r .count) .0 l)
+
+  row-ok : (seen : KindRows k) (r : KindRow k) → row k seen .Ok r → fields k .Ok r × (mayStand k seen r ≡ true)
+  unfolding row such
+  row-ok seen r h = h
+
+  ok-row : (seen : KindRows k) (r : KindRow k) → fields k .Ok r → mayStand k seen r ≡ true → row k seen .Ok r
+  unfolding row such
+  ok-row seen r f m = (f, m)
+
+  pub record Judged (seen l : KindRows k) : Type 0 where
+    pub canonical : Canonical (k .counts) l
+    pub limit : limited k l ≡ true
+    pub follows : Follows seen l
+
+  nothing-follows : (seen : KindRows k) → Follows seen []
+  nothing-follows [] = tt
+  nothing-follows (r ∷ seen) = tt
+
+  judged : (n : ℕ) (seen l : KindRows k) → OkItems (row k) n seen l → Judged seen l
+  judged zero seen [] h = record { canonical = tt; limit = refl; follows = nothing-follows seen }
+  judged zero seen (r ∷ l) h = absurd h
+  judged (suc n) seen [] h = absurd h
+  judged (suc n) seen (r ∷ l) h =
+      let j = judged n (r ∷ seen) l (h .1) in
+      let o = row-ok seen r (h .0) in
+      let m = three-yes (rises seen (r .name)) (isName (r .name)) (k .counts .stands (r .count)) (o .1) in
+      let f = fields-ok r (o .0) in
+      record {
+        canonical = (m .1, f .0, m .2, j .follows, j .canonical);
+        limit = yes-and (f .1) (j .limit);
+        follows = follows-on seen r l (m .0) (j .follows);
+      }
+
+  judged-back : (seen l : KindRows k) → Judged seen l → OkItems (row k) (length l) seen l
+  judged-back seen [] j = tt
+  judged-back seen (r ∷ l) j =
+      let c = j .canonical in
+      let f = and-yes (k .limit (r .count)) (limited k l) (j .limit) in
+      (ok-row seen r (ok-fields r (c .0) (c .1) (f .0)) (yes-three (rises-on seen r l (j .follows)) (c .0) (c .2)),
+      judged-back (r ∷ seen) l record { canonical = c .4; limit = f .1; follows = c .3 })
+
+  tally-ok : (l : KindRows k) → tally k .Ok l → Canonical (k .counts) l × (countable k l ≡ true)
+  unfolding tally behind along _⨾_ such number run listed items
+  tally-ok l h =
+      let j = judged (length l) [] l (h .1 .1 .1) in
+      let few : length l < 256 ^ 4 = h .1 .1 .0 in
+      (j .canonical, yes-and (j .limit) (le-leb (length l) 4294967295 (omega arith)))
+
+  ok-tally : (l : KindRows k) → Canonical (k .counts) l → countable k l ≡ true → tally k .Ok l
+  unfolding tally behind along _⨾_ such number run listed items
+  ok-tally l c h =
+      let f = and-yes (limited k l) (leb (length l) 4294967295) h in
+      let few : length l < 256 ^ 4 = (let p = leb-true (length l) 4294967295 (f .1) in omega arith) in
+      let rest = judged-back [] l record { canonical = c; limit = f .0; follows = tt } in
+      (((refl, mark-bytes), refl), ((k .version-fits, eq-eqb (k .version) (k .version) refl), (few, rest)))
+
+  -- ---- rows in front
+  pub holds-front : (s : List ℕ) (r : KindRow k) (l : KindRows k) → Holds k s (r ∷ l) → found (row k [] .read s) ≡ some (r, length (fields k .encode r))
+  holds-front s r l h =
+      let c = h .canonical in
+      let f = and-yes (k .limit (r .count)) (limited k l) (h .limit) in
+      let ok = ok-row [] r (ok-fields r (c .0) (c .1) (f .0)) (yes-and (c .0) (c .2)) in
+      let e : row k [] .read s ≡ done r (length (row k [] .encode r)) =
+      ap (row k [] .read) (h .bytes ∙ ap (λ (x : List ℕ). x ++ rowsBytes k l) (sym (item-bytes [] r))) ∙ row k [] .forward r ok (rowsBytes k l) in
+      ap found (e ∙ ap (λ (x : List ℕ). done r (length x)) (item-bytes [] r))
+
+  pub holds-rest : (s : List ℕ) (r : KindRow k) (l : KindRows k) → Holds k s (r ∷ l) → Holds k (drop (length (fields k .encode r)) s) l
+  holds-rest s r l h = record {
+    bytes = ap (drop (length (fields k .encode r))) (h .bytes) ∙ drop-append-seam (fields k .encode r) (rowsBytes k l);
+    canonical = h .canonical .4;
+    limit = and-yes (k .limit (r .count)) (limited k l) (h .limit) .1;
+  }
+
+  -- ---- bytes that are a tally
+  pub record Opened (t : List ℕ) (l : KindRows k) : Type 0 where
+    pub bytes : t ≡ tally k .encode l
+    pub canonical : Canonical (k .counts) l
+    pub counts : countable k l ≡ true
+    pub long : headLength ≤ length t
+    pub holds : Holds k (drop headLength t) l
+
+  rows-of-read : (t : List ℕ) (l : KindRows k) → rowsOf k t ≡ some l → tally k .read t ≡ done l (length t)
+  unfolding rowsOf
+  rows-of-read t l h = whole-some t (tally k .read t) l h
+
+  read-rows-of : (t : List ℕ) (l : KindRows k) → tally k .read t ≡ done l (length t) → rowsOf k t ≡ some l
+  unfolding rowsOf
+  read-rows-of t l h = rw (h, eq-eqb (length t) (length t) refl)
+
+  pub opened : (t : List ℕ) (l : KindRows k) → Bytes t → rowsOf k t ≡ some l → Opened t l
+  opened t l b h =
+      let w = every-format (tally k) .accepted t l b .0 (rows-of-read t l h) in
+      let c = tally-ok l (w .0) in
+      record {
+        bytes = w .1;
+        canonical = c .0;
+        counts = c .1;
+        long = rw (w .1, tally-size l) (omega arith);
+        holds = record {
+          bytes = ap (drop headLength) (w .1 ∙ tally-bytes l) ∙ drop-at (headBytes k (length l)) (rowsBytes k l) headLength (head-size (length l));
+          canonical = c .0;
+          limit = and-yes (limited k l) (leb (length l) 4294967295) (c .1) .0;
+        };
+      }
+
+  pub tally-bytewise : (l : KindRows k) → Canonical (k .counts) l → countable k l ≡ true → Bytes (tally k .encode l)
+  tally-bytewise l c f = tally k .bytes l (ok-tally l c f)
+
+  pub rows-of-tally : (l : KindRows k) → Canonical (k .counts) l → countable k l ≡ true → rowsOf k (tally k .encode l) ≡ some l
+  rows-of-tally l c f = read-rows-of (tally k .encode l) l (every-format (tally k) .reads-back l (ok-tally l c f))
+
+-- ---- version 1, as the code reads it
+-- the bytes of a row of version 1
+pub one-bytes : (r : Row ℕ) → fields one .encode r ≡ spell 2 (length (r .name)) ++ (r .name ++ spell 8 (r .count))
+unfolding fields along _⨾_ counted number run
+one-bytes r = append-assoc (spell 2 (length (r .name))) (r .name) (spell 8 (r .count))
+
+pub one-size : (r : Row ℕ) → length (fields one .encode r) ≡ length (r .name) + 10
+one-size r = row-size one r
+
+pub record FirstRow (s : List ℕ) (n c : ℕ) (L : Rows ones) : Type 0 where
+  pub r : Row ℕ
+  pub R : Rows ones
+  pub split : L ≡ r ∷ R
+  pub name : take n (drop 2 s) ≡ r .name
+  pub long : length (r .name) ≡ n
+  pub counts : r .count ≡ c
+  pub lead : take (n + 2) s ≡ counted {ends = malformed} 2 .encode (r .name)
+  pub rest : Holds one (drop (n + 10) s) R
+  pub canonical : Canonical ones (r ∷ R)
+  pub limit : limited one (r ∷ R) ≡ true
+
+-- a row that was read lies in the bytes
+pub row-inside : (s : List ℕ) (n c : ℕ) → toldRow s (rows.Row n c) ≡ found (row one [] .read s) → n + 10 ≤ length s
+row-inside s n c h = ends-in (row one []) (found-some (row one [] .read s) (record { name = take n (drop 2 s); count = c }) (n + 10) (sym h))
+
+pub first-row : (s : List ℕ) (n c : ℕ) (L : Rows ones) → toldRow s (rows.Row n c) ≡ found (row one [] .read s) → Holds one s L → FirstRow s n c L
+first-row s n c [] h k = let z : length s ≡ 0 = ap length (k .bytes) in absurd (omega (arith, row-inside s n c h))
+first-row s n c (r ∷ R) h k =
+    let name = counted {ends = malformed} 2 .encode (r .name) in
+    let count = one .count .encode (r .count) in
+    let e = same-some (h ∙ holds-front one s r R k) in
+    let size : n + 10 ≡ length (fields one .encode r) = ap (λ (x : Row ℕ × ℕ). x .1) e in
+    let long : length (r .name) ≡ n = omega (arith, one-size r) in
+    record {
+      r = r;
+      R = R;
+      split = refl;
+      name = ap (λ (x : Row ℕ × ℕ). x .0 .name) e;
+      long = long;
+      counts = ap (λ (x : Row ℕ × ℕ). x .0 .count) (sym e);
+      lead = ap (take (n + 2)) (k .bytes ∙ ap (λ (x : List ℕ). x ++ rowsBytes one R) (row-bytes one r) ∙ append-assoc name count (rowsBytes one R))
+          ∙ take-at name (count ++ rowsBytes one R) (n + 2) (rw (name-bytes one (r .name), length-append, spell-length) (omega arith));
+      rest = subst (λ (m : ℕ). Holds one (drop m s) R) (sym size) (holds-rest one s r R k);
+      canonical = k .canonical;
+      limit = k .limit;
+    }
+
+-- where no row was read, there is none
+pub no-row : (s : List ℕ) (L : Rows ones) → toldRow s rows.Malformed ≡ found (row one [] .read s) → Holds one s L → L ≡ []
+no-row s [] h k = refl
+no-row s (r ∷ R) h k = no-some (h ∙ holds-front one s r R k)

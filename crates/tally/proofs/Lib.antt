@@ -1,0 +1,22 @@
+-- Sums of rows.
+pub mod Canon
+pub mod Steps
+-- Bytes that are rows, and tallies.
+pub mod Held
+pub mod FrontRows
+pub mod Checking
+pub mod Heads
+pub mod Checks
+pub mod WellFormed
+-- What fits, and lists of merges.
+pub mod Fitting
+pub mod MergeLaw
+-- Merging.
+pub mod Nexts
+pub mod Measuring
+pub mod PutSums
+pub mod Merging
+-- Adding.
+pub mod Seeking
+pub mod Opening
+pub mod Adding

@@ -1,0 +1,245 @@
+-- Lists of merges: whatever their order and grouping, what is left adds up to the start, and one that is left is the sum.
+use Prim.Native.Nat.{ℕ, zero, suc, _+_, _≤_}
+use mathlib.Core.Path.{_≡_, refl, sym, ap, subst, _∙_}
+use mathlib.Core.List.{List, [], _∷_}
+use mathlib.Core.Logic.{_⊎_}
+use mathlib.Core.Option.{some}
+use native.Mathlib.Omega.{arith}
+use lib.ListN.{length, take}
+use lib.Seq.{take-append-seam}
+use Rattle.wire.specs.Answer.{Answer, good, refusal, mapAnswer, lent, no-good, noRoom, tooMany}
+use Rattle.tally.specs.Rows.{plus, countIn, Canonical}
+use Rattle.tally.specs.Tally.{Kind, KindRows, tally, rowsOf}
+use Rattle.tally.specs.Operations.{tallied, mergeOf}
+use Rattle.tally.specs.Theorems.{Merger, merged, Taken, here, there, Merges, stop, done, refused, IsTally, AllTallies, orNone, sumOf, Fits, Overfull, MergeLawOf, MergeLaw, SumCounts, EmptyChangesNothing, ShutOut}
+use Rattle.tally.proofs.Held.{opened, rows-of-tally, tally-size, tally-bytewise, tally-bytes}
+use Rattle.tally.proofs.Canon.{count-plus, canonical-plus, plus-comm, plus-assoc, plus-unit}
+use Rattle.tally.proofs.Fitting.{Tallying, fit, overfull, tallying, tallied-good, merge-both, fits-left}
+
+pub sum-counts : (k : Kind) → SumCounts k
+sum-counts k [] n = refl
+sum-counts k (t ∷ ts) n = rw (count-plus (k .counts) (orNone k (rowsOf k t)) (sumOf k ts) n, sum-counts k ts n)
+
+module _ (k : Kind) where
+  -- ---- the rows of tallies
+  abbrev rowsIn : List ℕ → KindRows k
+  rowsIn t = orNone k (rowsOf k t)
+
+  abbrev sum : KindRows k → KindRows k → KindRows k
+  sum a b = plus (k .counts) a b
+
+  rows-are : (t : List ℕ) → IsTally k t → rowsOf k t ≡ some (rowsIn t)
+  rows-are t h = rw (h .1 .1)
+
+  rows-canonical : (t : List ℕ) → IsTally k t → Canonical (k .counts) (rowsIn t)
+  rows-canonical t h = opened k t (rowsIn t) (h .0) (rows-are t h) .canonical
+
+  sum-canonical : (ts : List (List ℕ)) → AllTallies k ts → Canonical (k .counts) (sumOf k ts)
+  sum-canonical [] h = tt
+  sum-canonical (t ∷ ts) h = canonical-plus (k .counts) (rowsIn t) (sumOf k ts) (rows-canonical t (h .0)) (sum-canonical ts (h .1))
+
+  -- ---- a tally taken out of a list
+  record Took (a : List ℕ) (ts us : List (List ℕ)) : Type 0 where
+    adds : sumOf k ts ≡ sum (rowsIn a) (sumOf k us)
+    fewer : length ts ≡ suc (length us)
+    one : IsTally k a
+    rest : AllTallies k us
+
+  swap : (x y z : KindRows k) → Canonical (k .counts) x → Canonical (k .counts) y → Canonical (k .counts) z
+      → sum x (sum y z) ≡ sum y (sum x z)
+  swap x y z g h i =
+      sym (plus-assoc (k .counts) x y z g h i) ∙ ap (λ (t : KindRows k). sum t z) (plus-comm (k .counts) x y g h) ∙ plus-assoc (k .counts) y x z h g i
+
+  took : {a : List ℕ} {ts us : List (List ℕ)} → Taken a ts us → AllTallies k ts → Took a ts us
+  took here h = record { adds = refl; fewer = refl; one = h .0; rest = h .1 }
+  took {a} (there {x = x} {m = m} t) h =
+      let r = took t (h .1) in
+      record {
+        adds = ap (sum (rowsIn x)) (r .adds) ∙ swap (rowsIn x) (rowsIn a) (sumOf k m) (rows-canonical x (h .0)) (rows-canonical a (r .one)) (sum-canonical m (r .rest));
+        fewer = ap suc (r .fewer);
+        one = r .one;
+        rest = (h .0, r .rest);
+      }
+
+  -- two of them
+  record Pair (a b : List ℕ) (ts vs : List (List ℕ)) : Type 0 where
+    adds : sumOf k ts ≡ sum (sum (rowsIn a) (rowsIn b)) (sumOf k vs)
+    fewer : length ts ≡ suc (suc (length vs))
+    one : IsTally k a
+    two : IsTally k b
+    both : Canonical (k .counts) (sum (rowsIn a) (rowsIn b))
+    rest : AllTallies k vs
+
+  pair : {a b : List ℕ} {ts us vs : List (List ℕ)} → Taken a ts us → Taken b us vs → AllTallies k ts → Pair a b ts vs
+  pair {a} {b} {vs = vs} p q h =
+      let r = took p h in
+      let s = took q (r .rest) in
+      let g = rows-canonical a (r .one) in
+      let i = rows-canonical b (s .one) in
+      record {
+        adds = r .adds ∙ ap (sum (rowsIn a)) (s .adds) ∙ sym (plus-assoc (k .counts) (rowsIn a) (rowsIn b) (sumOf k vs) g i (sum-canonical vs (s .rest)));
+        fewer = r .fewer ∙ ap suc (s .fewer);
+        one = r .one;
+        two = s .one;
+        both = canonical-plus (k .counts) (rowsIn a) (rowsIn b) g i;
+        rest = s .rest;
+      }
+
+  -- ---- one merge
+  -- bytes of rows that fit
+  record Made (room : ℕ) (l : KindRows k) (t : List ℕ) : Type 0 where
+    bytes : t ≡ tally k .encode l
+    fits : Fits k room l
+
+  -- what stands in front of an output where the answer is good
+  made-of : (room n : ℕ) (l : KindRows k) (out : List ℕ) → mapAnswer length (tallied k room l) ≡ good n → Made room l (take n (lent (tallied k room l) out))
+  made-of room n l out e = go (tallying k room l)
+    where
+      go : Tallying k room l → Made room l (take n (lent (tallied k room l) out))
+      go (fit h f) =
+          let z : n ≡ length (tally k .encode l) = cc in
+          record { bytes = rw (f, z, take-append-seam); fits = h }
+      go (overfull w f) = no-good (sym (ap (mapAnswer length) f) ∙ e)
+
+  -- why they are refused
+  record Why (room number : ℕ) (l : KindRows k) : Type 0 where
+    known : (number ≡ tooMany) ⊎ (number ≡ noRoom)
+    big : Fits k room l → ⊥
+
+  why : (room n r o : ℕ) (l : KindRows k) → mapAnswer length (tallied k room l) ≡ refusal n r o → Why room n l
+  why room n r o l e = record { known = go (tallying k room l); big = λ h. no-good (sym e ∙ ap (mapAnswer length) (tallied-good k room l h)) }
+    where
+      go : Tallying k room l → (n ≡ tooMany) ⊎ (n ≡ noRoom)
+      go (fit h f) = no-good (sym e ∙ ap (mapAnswer length) f)
+      go (overfull {n = m} w f) = let z : m ≡ n = cc in subst (λ (i : ℕ). (i ≡ tooMany) ⊎ (i ≡ noRoom)) z w
+
+  -- the answer is about the sum of the rows
+  both-told : {a b : List ℕ} {ts vs : List (List ℕ)} {room : ℕ} (out : List ℕ) → length out ≡ room → Pair a b ts vs
+      → mergeOf k (length out) a b ≡ tallied k room (sum (rowsIn a) (rowsIn b))
+  both-told {a} {b} out e p = rw (← e) (merge-both k (length out) a b (rows-are a (p .one)) (rows-are b (p .two)))
+
+  -- a result in the place of both
+  record Step (room : ℕ) (ts : List (List ℕ)) (t : List ℕ) (vs : List (List ℕ)) : Type 0 where
+    adds : sumOf k (t ∷ vs) ≡ sumOf k ts
+    all : AllTallies k (t ∷ vs)
+    made : Made room (rowsIn t) t
+
+  step : {a b : List ℕ} {ts vs : List (List ℕ)} (room : ℕ) (t : List ℕ) → Pair a b ts vs → Made room (sum (rowsIn a) (rowsIn b)) t → Step room ts t vs
+  step {a} {b} room t p m =
+      let l = sum (rowsIn a) (rowsIn b) in
+      let e : rowsOf k t ≡ some l = rw (m .bytes) (rows-of-tally k l (p .both) (m .fits .0)) in
+      record {
+        adds = rw (e, p .adds);
+        all = ((rw (m .bytes) (tally-bytewise k l (p .both) (m .fits .0)), (l, e)), p .rest);
+        made = rw e m;
+      }
+
+  -- ---- a list of merges
+  -- where one is left, it was made
+  abbrev Ready : ℕ → List (List ℕ) → Type 0
+  Ready room ts = (t : List ℕ) → ts ≡ t ∷ [] → Made room (rowsIn t) t
+
+  record Kept (room : ℕ) (start : List (List ℕ)) (made : ℕ) (log : List ℕ) (left : List (List ℕ)) : Type 0 where
+    adds : sumOf k left ≡ sumOf k start
+    all : AllTallies k left
+    fewer : made + length left ≡ length start
+    full : Overfull k log
+    none-refused : Fits k room (sumOf k start) → log ≡ []
+    ready : Ready room start → Ready room left
+
+  kept : {room made : ℕ} {log : List ℕ} {ts left : List (List ℕ)} → Merges (merged k) room ts made log left → AllTallies k ts → Kept room ts made log left
+  kept stop h = record { adds = refl; all = h; fewer = omega arith; full = tt; none-refused = λ f. refl; ready = λ r. r }
+  kept {room} (done {a = a} {b = b} {out = out} {n = n} p q o e m) h =
+      let x = pair p q h in
+      let y = both-told out o x in
+      let t = take n (lent (mergeOf k (length out) a b) out) in
+      let s = step room t x (rw y (made-of room n _ out (rw y at e))) in
+      let i = kept m (s .all) in
+      record {
+        adds = i .adds ∙ s .adds;
+        all = i .all;
+        fewer = omega (arith, x .fewer, i .fewer);
+        full = i .full;
+        none-refused = λ f. i .none-refused (rw (s .adds) f);
+        ready = λ r. i .ready (λ u w. (let v : t ≡ u = cc in subst (λ (y : List ℕ). Made room (rowsIn y) y) v (s .made)));
+      }
+  kept {room} (refused {out = out} {vs = vs} {number = number} {record₀ = record₀} {offset = offset} p q o e m) h =
+      let x = pair p q h in
+      let w = why room number record₀ offset _ (rw (both-told out o x) at e) in
+      let i = kept m h in
+      record {
+        adds = i .adds;
+        all = i .all;
+        fewer = i .fewer;
+        full = (w .known, i .full);
+        none-refused = λ f. absurd (w .big (fits-left k room _ (sumOf k vs) (x .both) (sum-canonical vs (x .rest)) (rw (x .adds) at f)));
+        ready = i .ready;
+      }
+
+-- from two tallies or more, by any list of merges
+pub merge-law : (k : Kind) → MergeLaw k
+merge-law k room a b more made log left h m =
+    let i = kept k m h in
+    let r = i .ready (λ t e. absurd (two t e)) in
+    record {
+      same = λ n. sym (sum-counts k left n) ∙ ap (λ (l : KindRows k). countIn (k .counts) l n) (i .adds) ∙ sum-counts k (a ∷ b ∷ more) n;
+      fewer = i .fewer;
+      overfull = i .full;
+      none-refused = i .none-refused;
+      one-left = λ t e.
+          let g : AllTallies k (t ∷ []) = subst (AllTallies k) e (i .all) in
+          let whole : rowsIn k t ≡ sumOf k (a ∷ b ∷ more) = sym (plus-unit (k .counts) (rowsIn k t) (rows-canonical k t (g .0))) ∙ ap (sumOf k) (sym e) ∙ i .adds in
+          (rw (← whole) (r t e .fits), rw (← whole) (r t e .bytes));
+    }
+  where
+    two : (t : List ℕ) → a ∷ b ∷ more ≡ t ∷ [] → ⊥
+    two t e = let z : _≡_ {A = ℕ} 0 1 = cc in omega arith
+
+-- ---- the empty tally
+abbrev empty : Kind → List ℕ
+empty k = tally k .encode []
+
+no-rows : (k : Kind) → rowsOf k (empty k) ≡ some []
+no-rows k = rows-of-tally k [] tt refl
+
+pub empty-changes-nothing : (k : Kind) → EmptyChangesNothing k
+empty-changes-nothing k t room h f =
+    let l = h .1 .0 in
+    let e = h .1 .1 in
+    let o = opened k t l (h .0) e in
+    let g : tallied k room l ≡ good t = tallied-good k room l (o .counts, subst (λ (x : List ℕ). length x ≤ room) (o .bytes) f) ∙ ap good (sym (o .bytes)) in
+    (merge-both k room t (empty k) e (no-rows k) ∙ rw (plus-unit (k .counts) l (o .canonical)) g, merge-both k room (empty k) t (no-rows k) e ∙ g)
+
+-- ---- what the law shuts out, by two empty tallies and an output of as many zeros
+abbrev zeros : List ℕ
+zeros = 0 ∷ 0 ∷ 0 ∷ 0 ∷ 0 ∷ 0 ∷ 0 ∷ 0 ∷ 0 ∷ []
+
+-- a tally starts with its mark
+not-zeros : (k : Kind) (n : ℕ) → take n zeros ≡ empty k → ⊥
+not-zeros k n e = go n (e ∙ tally-bytes k [])
+  where
+    go : (n : ℕ) {t : List ℕ} → take n zeros ≡ 84 ∷ t → ⊥
+    go zero e = let z : _≡_ {A = ℕ} 0 1 = cc in omega arith
+    go (suc n) e = let z : _≡_ {A = ℕ} 0 84 = cc in omega arith
+
+module _ (k : Kind) (m : Merger) (law : MergeLawOf k m) where
+  two-empty : AllTallies k (empty k ∷ empty k ∷ [])
+  two-empty = let t : IsTally k (empty k) = (tally-bytewise k [] tt refl, ([], no-rows k)) in (t, (t, tt))
+
+  no-sum : sumOf k (empty k ∷ empty k ∷ []) ≡ []
+  no-sum = rw (no-rows k)
+
+  not-refused : {n r o : ℕ} → m (empty k) (empty k) zeros .0 ≡ refusal n r o → ⊥
+  not-refused {n} e =
+      let fits : Fits k 9 (sumOf k (empty k ∷ empty k ∷ [])) = rw no-sum (refl, omega (arith, tally-size k [])) in
+      let none = law 9 (empty k) (empty k) [] 0 (n ∷ []) _ two-empty (refused here here refl e stop) .none-refused fits in
+      let z : _≡_ {A = ℕ} 0 1 = cc in omega arith
+
+  not-idle : (r : Answer ℕ) → m (empty k) (empty k) zeros .0 ≡ r → m (empty k) (empty k) zeros .1 ≡ zeros → ⊥
+  not-idle (refusal n r o) e f = not-refused e
+  not-idle (good n) e f =
+      let one = law 9 (empty k) (empty k) [] 1 [] _ two-empty (done here here refl e stop) .one-left _ refl in
+      not-zeros k n (ap (take n) (sym f) ∙ one .1 ∙ ap (tally k .encode) no-sum)
+
+pub shut-out : (k : Kind) → ShutOut k
+shut-out k m law = (λ idle. not-idle k m law _ refl (idle _ _ _), λ refuses. not-refused k m law (refuses _ _ _ .3))

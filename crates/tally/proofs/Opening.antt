@@ -1,0 +1,77 @@
+-- A row laid at the front of a part, and a row opened in front of bytes that move back.
+use Prim.Native.Nat.{ℕ, _+_, _-_, _≤_}
+use mathlib.Core.Path.{_≡_, refl, ap, sym, _∙_}
+use mathlib.Core.List.{List, [], _++_, append-assoc, append-nil}
+use native.Mathlib.Nat.{add-comm}
+use native.Mathlib.Omega.{arith}
+use lib.ListN.{length, take, drop, length-append}
+use lib.Seq.{drop-drop, drop-length, take-at, drop-at, length-take-le}
+use borrow.Rule.Slice.PartMut.{putMid, post-is}
+use Rattle.wire.specs.Lists.{rest-is}
+use Rattle.wire.specs.Bytes.{spell, spell-length}
+use Rattle.wire.specs.Formats.{u16, u64}
+use Rattle.wire.specs.Store.{laid, stored, movedBack}
+use Rattle.wire.specs.Told.{short}
+use Rattle.wire.proofs.Laid.{moved-fits}
+use Rattle.wire.proofs.Puts.{put-run, put-number, put-two}
+use Rattle.tally.specs.Rows.{Row}
+use Rattle.tally.specs.Tally.{headBytes, fields, one}
+use Rattle.tally.specs.Sought.{opened}
+use Rattle.tally.proofs.Held.{one-bytes, one-size}
+
+-- ---- the three pieces of a row, one behind the other
+pub row-laid : (r : Row ℕ) (d a b e : List ℕ) → length (r .name) + 10 ≤ length d
+    → a ≡ stored 0 (u16 {ends = short} .encode (length (r .name))) d → b ≡ stored 2 (r .name) a
+    → e ≡ stored (length (r .name) + 2) (u64 {ends = short} .encode (r .count)) b → e ≡ laid 0 (fields one .encode r) d
+row-laid r d a b e room p q s =
+    let n = r .name in
+    let size : length (spell 2 (length n) ++ (n ++ spell 8 (r .count))) ≡ length n + 10 = sym (ap length (one-bytes r)) ∙ one-size r in
+    let s′ : e ≡ stored (2 + length n) (u64 {ends = short} .encode (r .count)) b = rw (add-comm 2 (length n)) s in
+    rw one-bytes (put-two {at = 0} {u = spell 2 (length n)} (omega (arith, size)) (put-number 0 2 (length n) (omega arith) p)
+    (λ h. put-two {at = 2} {u = n} h (put-run 2 n (omega (arith, length-append n (spell 8 (r .count)))) q)
+    (λ k. put-number (2 + length n) 8 (r .count) (omega (arith, spell-length 8 (r .count))) s′)) .lays)
+
+-- ---- n bytes moved back, and a row before them
+pub row-opened : (n : ℕ) (r : Row ℕ) (d a e : List ℕ) → n + (length (r .name) + 10) ≤ length d
+    → a ≡ movedBack n (length (r .name) + 10) d → e ≡ laid 0 (fields one .encode r) a → e ≡ opened n r d
+row-opened n r d a e room p q =
+    let k = length (r .name) + 10 in
+    let size : 0 + length (fields one .encode r) ≡ k = omega (arith, one-size r) in
+    let ends : k + length (take n d) ≡ n + length (fields one .encode r) = omega (arith, one-size r, length-take-le n d (omega arith)) in
+    let behind : drop (0 + length (fields one .encode r)) a ≡ take n d ++ drop (n + length (fields one .encode r)) d =
+    rw (size, p ∙ moved-fits n k d (omega arith), ends) (drop-at (take k d) (take n d ++ drop (n + length (fields one .encode r)) d) k (length-take-le k d (omega arith))) in
+    q ∙ ap (λ (x : List ℕ). fields one .encode r ++ x) behind
+
+-- ---- bytes laid over as many others
+shape : (A u m v Z : List ℕ) → A ++ ((u ++ (m ++ v)) ++ Z) ≡ (A ++ (u ++ m)) ++ (v ++ Z)
+shape A u m v Z = simp append-assoc
+
+laid-over : (A u m o v Z : List ℕ) → length o ≡ length v
+    → laid (length A + (length u + length m)) v (A ++ ((u ++ (m ++ o)) ++ Z)) ≡ A ++ ((u ++ (m ++ v)) ++ Z)
+laid-over A u m o v Z h =
+    let size : length (A ++ (u ++ m)) ≡ length A + (length u + length m) = rw (length-append, length-append) in
+    let past : length ((A ++ (u ++ m)) ++ o) ≡ length A + (length u + length m) + length v = rw (length-append, size, h) in
+    rw (shape A u m o Z, shape A u m v Z, take-at (A ++ (u ++ m)) (o ++ Z) (length A + (length u + length m)) size, ← append-assoc (A ++ (u ++ m)) o Z)
+    (ap (λ (y : List ℕ). (A ++ (u ++ m)) ++ (v ++ y)) (drop-at ((A ++ (u ++ m)) ++ o) Z (length A + (length u + length m) + length v) past))
+
+-- another count of a row behind A
+pub count-laid : (A Z : List ℕ) (s : Row ℕ) (c : ℕ) → laid (length A + (2 + length (s .name))) (spell 8 c) (A ++ (fields one .encode s ++ Z))
+    ≡ A ++ (fields one .encode (record { name = s .name; count = c }) ++ Z)
+count-laid A Z s c =
+    rw (one-bytes s, one-bytes (record { name = s .name; count = c })) (laid-over A (spell 2 (length (s .name))) (s .name) (spell 8 (s .count)) (spell 8 c) Z refl)
+
+-- another number of rows
+pub rows-laid : (m n : ℕ) (Z : List ℕ) → laid 5 (spell 4 n) (headBytes one m ++ Z) ≡ headBytes one n ++ Z
+rows-laid m n Z = refl
+
+-- ---- a row opened at a place of a buffer, in front of what is there up to n
+pub part-opened : (d : List ℕ) (p n : ℕ) (r : Row ℕ) (ys : List ℕ) → p ≤ n → n + (length (r .name) + 10) ≤ length d
+    → ys ≡ opened (n - p) r (take (length d - p) (drop p d))
+    → putMid p (length d - p) d ys ≡ take p d ++ (fields one .encode r ++ (take (n - p) (drop p d) ++ drop (n + (length (r .name) + 10)) d))
+part-opened d p n r ys h room e =
+    let none : drop (length d - p) (drop p d) ≡ [] = post-is p (length d) d (omega arith) ∙ drop-length d in
+    let past : p + (n - p + length (fields one .encode r)) ≡ n + (length (r .name) + 10) = omega (arith, one-size r) in
+    ap (λ (y : List ℕ). take p d ++ (ys ++ y)) none
+    ∙ ap (λ (y : List ℕ). take p d ++ y)
+    (append-nil ys ∙ e ∙ ap (opened (n - p) r) (rest-is p d)
+    ∙ ap (λ (y : List ℕ). fields one .encode r ++ (take (n - p) (drop p d) ++ y)) (drop-drop (n - p + length (fields one .encode r)) p d ∙ ap (λ (j : ℕ). drop j d) past))

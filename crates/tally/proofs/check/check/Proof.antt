@@ -1,0 +1,67 @@
+use mathlib.Core.Path.{_≡_, sym, _∙_}
+use native.Mathlib.Omega.{arith}
+use denote.Ref.{now}
+use Rattle.wire.specs.Lists.{rest-is}
+use Rattle.tally.specs.Walks.{StatedRows, takes}
+use Rattle.tally.specs.Tally.{row, one}
+use Rattle.wire.specs.Format.{items}
+use mathlib.Core.Path.{subst, ap}
+use mathlib.Core.Bool.{Bool}
+use lib.ListN.{drop}
+use Rattle.tally.specs.declared.head.Stated.the-variants as heads
+use Rattle.tally.proofs.Checks.{check-unstated, check-good, check-bad}
+use borrow.Author.Needs.{needs}
+use Rattle.tally.proofs.check.check.Statement.{statement}
+use Rattle.tally.proofs.check.check.Tie as tie
+
+-- the number of rows that the head states, and whether they are there
+stated : (c : tie.After-known-told) → StatedRows (now (c .before .before .before .before .before .args .t)) (heads.Rows (c .before .count .given .0 .0))
+stated c = subst (StatedRows _) (c .before .count .given .1) (c .before .before .before .stated-rows .ensures)
+
+taken : (c : tie.After-are-rows) {b : Bool} → c .are-rows .result ≡ b → takes (items (row one) (c .before .before .before .count .given .0 .0)) (drop 9 (now (c .before .before .before .before .before .before .before .args .t))) ≡ b
+taken c e = ap (takes (items (row one) (c .before .before .before .count .given .0 .0))) (sym (rest-is 9 (now (c .before .before .before .before .before .before .before .args .t)))) ∙ sym (c .are-rows .ensures) ∙ e
+
+stated-rows-requires : tie.Need-stated-rows-requires
+stated-rows-requires c κs = search needs
+
+enum-known-count : tie.Need-enum-known-count
+enum-known-count c = search needs
+
+enum-told : tie.Need-enum-told
+enum-told c = search needs
+
+returns : tie.Need-returns
+returns c = check-unstated _ (subst (StatedRows _) (c .enum-told .given .1) (c .before .before .stated-rows .ensures))
+
+sub-are-rows : tie.Need-sub-are-rows
+sub-are-rows c = stated c .0
+
+part-are-rows-start : tie.Need-part-are-rows-start
+part-are-rows-start c = stated c .0
+
+part-are-rows-end : tie.Need-part-are-rows-end
+part-are-rows-end c = search needs
+
+are-rows-requires : tie.Need-are-rows-requires
+are-rows-requires c κs = search needs
+
+returns-2 : tie.Need-returns-2
+returns-2 c = check-good (now (c .before .before .before .before .before .before .before .before .args .t)) (c .before .before .before .before .count .given .0 .0) (λ i. c .before .before .before .before .before .before .before .shared-slice-known .given i .fits) (stated (c .before .before .before) .1) (taken (c .before) (c .if1 .taken))
+
+returns-3 : tie.Need-returns-3
+returns-3 c = check-bad (now (c .before .before .before .before .before .before .before .before .args .t)) (c .before .before .before .before .count .given .0 .0) (λ i. c .before .before .before .before .before .before .before .shared-slice-known .given i .fits) (stated (c .before .before .before) .1) (taken (c .before) (c .if1 .left))
+
+pub check-spec : {M : Type 1} → statement M
+check-spec =
+    tie.close
+    (tie.spec
+    stated-rows-requires
+    enum-known-count
+    enum-told
+    returns
+    sub-are-rows
+    part-are-rows-start
+    part-are-rows-end
+    are-rows-requires
+    returns-2
+    returns-3)

@@ -1,0 +1,110 @@
+-- The invariant: the rows that are written, with those that are left, make the sum.
+use borrow.Author.Needs.{needs}
+use Prim.Native.Nat.{_+_}
+use mathlib.Core.Path.{subst}
+use native.Mathlib.Omega.{arith}
+use denote.Ref.{now}
+use lib.ListN.{length}
+use Rattle.tally.specs.Sums.{NextOf}
+use Rattle.tally.specs.declared.merge.Next.{Next}
+use Rattle.tally.specs.declared.merge.Next.the-variants as nexts
+use Rattle.tally.proofs.Nexts.{left-less}
+use Rattle.tally.proofs.PutSums.{Writing, writing-start, writing-room, writing-end, writing-many, writing-on}
+use Rattle.tally.proofs.merge.put_rows.Statement.{statement}
+use Rattle.tally.proofs.merge.put_rows.Tie as tie
+
+abbrev Inv-loop : tie.InvT-loop
+Inv-loop out₀ a b x₀ y₀ at₀ out x y at = Writing a b x y out₀ out at
+
+abbrev μ-loop : tie.MeasureT-loop
+μ-loop out₀ a b x₀ y₀ at₀ out x y at = length x + length y
+
+-- the next row
+abbrev Here : tie.At-loop Inv-loop μ-loop → Next → Type 0
+Here l n = NextOf (now (l .loop .x)) (now (l .loop .y)) n
+
+next : (c : tie.After-known-told Inv-loop μ-loop) → (let v = c .before .first .given .0 in Here (c .before .before .before .before) (nexts.Row (v .0) (v .1 .0) (v .1 .1 .0) (v .1 .1 .1 .0)))
+next c = subst (Here (c .before .before .before .before)) (c .before .first .given .1) (c .before .before .before .next-of .ensures)
+
+loop-holds : tie.Need-loop-holds Inv-loop μ-loop
+loop-holds c = writing-start _ _ _
+
+next-of-requires : tie.Need-next-of-requires Inv-loop μ-loop
+next-of-requires c κs = search needs
+
+enum-told : tie.Need-enum-told Inv-loop μ-loop
+enum-told c = search needs
+
+same-length : tie.Need-same-length Inv-loop μ-loop
+same-length c = c .before .before .before .loop .inv .same
+
+returns : tie.Need-returns Inv-loop μ-loop
+returns c = writing-end (c .before .before .before .loop .inv) (subst (Here (c .before .before .before)) (c .enum-told .given .1) (c .before .before .next-of .ensures))
+
+enum-told-2 : tie.Need-enum-told-2 Inv-loop μ-loop
+enum-told-2 c = search needs
+
+same-length-2 : tie.Need-same-length-2 Inv-loop μ-loop
+same-length-2 c = c .before .before .before .loop .inv .same
+
+returns-2 : tie.Need-returns-2 Inv-loop μ-loop
+returns-2 c = writing-many (c .before .before .before .loop .inv) (subst (Here (c .before .before .before)) (c .enum-told2 .given .1) (c .before .before .next-of .ensures))
+
+enum-known-first : tie.Need-enum-known-first Inv-loop μ-loop
+enum-known-first c = search needs
+
+put-next-requires : tie.Need-put-next-requires Inv-loop μ-loop
+put-next-requires c κs = let n = next (c .before) .0 in (omega (arith, n .long), n .side-in, omega (arith, writing-room (c .before .before .before .before .before .loop .inv) n, c .before .before .before .before .before .before .before .before .before .good))
+
+sub-x : tie.Need-sub-x Inv-loop μ-loop
+sub-x c = next (c .before .before .before .before) .0 .first-in
+
+part-x-start : tie.Need-part-x-start Inv-loop μ-loop
+part-x-start c = next (c .before .before .before .before) .0 .first-in
+
+part-x-end : tie.Need-part-x-end Inv-loop μ-loop
+part-x-end c = search needs
+
+sub-y : tie.Need-sub-y Inv-loop μ-loop
+sub-y c = next (c .before .before .before .before .before) .0 .second-in
+
+part-y-start : tie.Need-part-y-start Inv-loop μ-loop
+part-y-start c = next (c .before .before .before .before .before) .0 .second-in
+
+part-y-end : tie.Need-part-y-end Inv-loop μ-loop
+part-y-end c = search needs
+
+add-at : tie.Need-add-at Inv-loop μ-loop
+add-at c = omega (arith, writing-room (c .before .before .before .before .before .before .before .before .before .before .loop .inv) (next (c .before .before .before .before .before .before) .0), c .before .before .before .before .before .before .before .before .before .before .before .before .before .before .good)
+
+loop-less : tie.Need-loop-less Inv-loop μ-loop
+loop-less c = left-less (next (c .before .before .before .before .before .before) .0)
+
+loop-again : tie.Need-loop-again Inv-loop μ-loop
+loop-again c = writing-on (c .before .before .before .before .before .before .before .before .before .before .loop .inv) (next (c .before .before .before .before .before .before)) (omega (arith, c .before .before .before .before .before .before .known-told .given)) (c .before .before .before .before .put-next .ensures) (omega arith)
+
+pub put-rows-spec : {M : Type 1} → statement M
+put-rows-spec =
+    tie.close
+    (tie.spec
+    Inv-loop
+    μ-loop
+    loop-holds
+    next-of-requires
+    enum-told
+    same-length
+    returns
+    enum-told-2
+    same-length-2
+    returns-2
+    enum-known-first
+    put-next-requires
+    sub-x
+    part-x-start
+    part-x-end
+    sub-y
+    part-y-start
+    part-y-end
+    add-at
+    loop-less
+    loop-again)

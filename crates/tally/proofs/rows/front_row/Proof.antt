@@ -1,0 +1,73 @@
+use Prim.Native.Nat.{_+_}
+use native.Mathlib.Omega.{arith}
+use denote.Ref.{now}
+use Rattle.wire.specs.Bytes.{Bytes}
+use Rattle.wire.specs.Told.{short, toldCounted, toldU64}
+use Rattle.wire.specs.Formats.{counted, u64}
+use mathlib.Core.Path.{_≡_}
+use lib.ListN.{drop}
+use Rattle.wire.specs.declared.fields.Counted.the-variants as runs
+use Rattle.wire.specs.declared.fields.U64.the-variants as u64s
+use Rattle.tally.proofs.FrontRows.{told-as, front-no-name, name-inside, front-no-count, front-none, front-some}
+use borrow.Author.Needs.{needs}
+use Rattle.tally.proofs.rows.front_row.Statement.{statement}
+use Rattle.tally.proofs.rows.front_row.Tie as tie
+
+-- the name's length, the count, and that the part is bytes
+run : (c : tie.After-known-told) → toldCounted 2 (now (c .before .before .before .before .before .args .s)) (runs.Bytes (c .before .n .given .0 .0)) ≡ counted {ends = short} 2 .read (now (c .before .before .before .before .before .args .s))
+run c = told-as (toldCounted 2 _) (c .before .before .before .counted16-at .ensures) (c .before .n .given .1)
+
+count : (c : tie.After-known-told2) → toldU64 (u64s.Value (c .before .count .given .0 .0)) ≡ u64 {ends = short} .read (drop (c .before .before .before .before .before .n .given .0 .0 + 2) (now (c .before .before .before .before .before .before .before .before .before .args .s)))
+count c = told-as toldU64 (c .before .before .before .u64-at .ensures) (c .before .count .given .1)
+
+bytes : (c : tie.After-known-told2) → Bytes (now (c .before .before .before .before .before .before .before .before .before .args .s))
+bytes c = λ i. c .before .before .before .before .before .before .before .before .shared-slice-known .given i .fits
+
+counted16-at-requires : tie.Need-counted16-at-requires
+counted16-at-requires c κs = search needs
+
+enum-known-n : tie.Need-enum-known-n
+enum-known-n c = search needs
+
+enum-told : tie.Need-enum-told
+enum-told c = search needs
+
+returns : tie.Need-returns
+returns c = front-no-name _ (told-as (toldCounted 2 _) (c .before .before .counted16-at .ensures) (c .enum-told .given .1))
+
+add-u64-at : tie.Need-add-u64-at
+add-u64-at c = omega (arith, name-inside _ (c .before .n .given .0 .0) (run c))
+
+u64-at-requires : tie.Need-u64-at-requires
+u64-at-requires c κs = search needs
+
+enum-known-count : tie.Need-enum-known-count
+enum-known-count c = search needs
+
+enum-told-2 : tie.Need-enum-told-2
+enum-told-2 c = search needs
+
+returns-2 : tie.Need-returns-2
+returns-2 c = front-no-count _ (c .before .before .before .before .n .given .0 .0) (run (c .before .before .before)) (told-as toldU64 (c .before .before .u64-at .ensures) (c .enum-told2 .given .1))
+
+returns-3 : tie.Need-returns-3
+returns-3 c = front-none _ (c .before .before .before .before .before .before .n .given .0 .0) (run (c .before .before .before .before .before)) (c .before .before .count .given .0 .0) (count (c .before)) (bytes (c .before)) (c .if1 .taken)
+
+returns-4 : tie.Need-returns-4
+returns-4 c = front-some _ (c .before .before .before .before .before .before .n .given .0 .0) (run (c .before .before .before .before .before)) (c .before .before .count .given .0 .0) (count (c .before)) (bytes (c .before)) (omega arith)
+
+pub front-row-spec : {M : Type 1} → statement M
+front-row-spec =
+    tie.close
+    (tie.spec
+    counted16-at-requires
+    enum-known-n
+    enum-told
+    returns
+    add-u64-at
+    u64-at-requires
+    enum-known-count
+    enum-told-2
+    returns-2
+    returns-3
+    returns-4)

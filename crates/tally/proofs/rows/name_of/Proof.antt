@@ -1,0 +1,66 @@
+use mathlib.Core.Path.{_≡_, ap, sym, _∙_}
+use mathlib.Core.List.{[]}
+use native.Mathlib.Omega.{arith}
+use denote.Ref.{now}
+use Rattle.tally.specs.Tally.{found, row, one}
+use Rattle.tally.specs.Told.{toldRow}
+use Rattle.tally.specs.declared.rows.RowRead.the-variants as rows
+use Rattle.tally.proofs.Held.{row-inside}
+use Rattle.tally.specs.Operations.{partOf}
+use Rattle.tally.specs.Tally.{KindRow}
+use Prim.Native.Nat.{ℕ, _+_}
+use lib.ListN.{drop}
+use Rattle.wire.specs.Lists.{rest-is}
+use Rattle.tally.proofs.FrontRows.{told-as, name-part, front-is, front-isnt}
+use borrow.Author.Needs.{needs}
+use Rattle.tally.proofs.rows.name_of.Statement.{statement}
+use Rattle.tally.proofs.rows.name_of.Tie as tie
+
+-- the row that was read
+front : (c : tie.After-known-told) → toldRow (now (c .before .before .before .before .before .args .part)) (rows.Row (c .before .n .given .0 .0) (c .before .n .given .0 .1 .0)) ≡ found (row one [] .read (now (c .before .before .before .before .before .args .part)))
+front c = told-as (toldRow _) (c .before .before .before .front-row .ensures) (c .before .n .given .1)
+
+front-row-requires : tie.Need-front-row-requires
+front-row-requires c κs = search needs
+
+enum-known-n : tie.Need-enum-known-n
+enum-known-n c = search needs
+
+add-result : tie.Need-add-result
+add-result c = omega (arith, row-inside (now (c .before .before .before .before .before .args .part)) (c .before .n .given .0 .0) (c .before .n .given .0 .1 .0) (front c))
+
+sub-result : tie.Need-sub-result
+sub-result c = search needs
+
+part-result-start : tie.Need-part-result-start
+part-result-start c = search needs
+
+part-result-end : tie.Need-part-result-end
+part-result-end c = omega (arith, row-inside (now (c .before .before .before .before .before .args .part)) (c .before .n .given .0 .0) (c .before .n .given .0 .1 .0) (front c))
+
+enum-told : tie.Need-enum-told
+enum-told c = search needs
+
+slice-aggregate-result : tie.Need-slice-aggregate-result
+slice-aggregate-result c = search needs
+
+returns : tie.Need-returns
+returns c = name-part (c .before .before .n .given .0 .0) (now (c .before .before .before .before .before .before .args .part)) ∙ ap (partOf (λ (x : KindRow one × ℕ). x .0 .name)) (sym (front-is (now (c .before .before .before .before .before .before .args .part)) (c .before .before .n .given .0 .0) (c .before .before .n .given .0 .1 .0) (front (c .before))))
+
+returns-2 : tie.Need-returns-2
+returns-2 c = front-isnt _ (told-as (toldRow _) (c .before .before .before .front-row .ensures) (c .before .enum-told .given .1)) (λ (x : KindRow one × ℕ). x .0 .name)
+
+pub name-of-spec : {M : Type 1} → statement M
+name-of-spec =
+    tie.close
+    (tie.spec
+    front-row-requires
+    enum-known-n
+    add-result
+    sub-result
+    part-result-start
+    part-result-end
+    enum-told
+    slice-aggregate-result
+    returns
+    returns-2)

@@ -1,0 +1,85 @@
+-- The sum of two lists of rows, as merging walks it: a row at a time from the front of both.
+use Prim.Native.Nat.{ℕ, _+_, _-_, _≤_}
+use mathlib.Core.Path.{_≡_}
+use mathlib.Core.Bool.{true, false}
+use mathlib.Core.List.{List, [], _∷_}
+use lib.Dec.{eqb}
+use lib.ListN.{length, take, drop}
+use Rattle.wire.specs.Answer.{lent, mapAnswer}
+use Rattle.wire.specs.Choice.{pick}
+use Rattle.wire.specs.Bytes.{spell}
+use Rattle.wire.specs.Store.{laid, stored}
+use Rattle.wire.specs.Formats.{counted}
+use Rattle.tally.specs.Rows.{Row, Rows, plus}
+use Rattle.tally.specs.Tally.{malformed, fields, limited, ones, one}
+use Rattle.tally.specs.Operations.{tallied}
+use Rattle.tally.specs.Told.{toldMerge}
+use Rattle.tally.specs.Walks.{rowsBytes, Holds}
+use Rattle.tally.specs.declared.merge.Next.{Next}
+use Rattle.tally.specs.declared.merge.Next.the-variants as nexts
+use Rattle.tally.specs.declared.merge.Measured.{Measured}
+use Rattle.tally.specs.declared.merge.Measured.the-variants as measures
+use Rattle.tally.specs.declared.merge.MergeAnswer.{MergeAnswer}
+
+-- the list that the name of the next row stands in
+abbrev pub side : ℕ → List ℕ → List ℕ → List ℕ
+side first x y = pick (eqb first 0) y x
+
+-- where that row stands: what the code may slice
+pub record NextInside (x y : List ℕ) (first second size : ℕ) : Type 0 where
+  pub first-in : first ≤ length x
+  pub second-in : second ≤ length y
+  pub side-in : size ≤ length (side first x y)
+  pub long : 10 ≤ size
+  pub short : size ≤ first + second
+
+-- what it is, where the lists are the rows X and Y: P and Q are left
+pub record NextRow (x y : List ℕ) (first second size count : ℕ) (X Y : Rows ones) : Type 0 where
+  pub r : Row ℕ
+  pub P : Rows ones
+  pub Q : Rows ones
+  pub sum : plus ones X Y ≡ r ∷ plus ones P Q
+  pub left : Holds one (drop first x) P
+  pub right : Holds one (drop second y) Q
+  pub counts : r .count ≡ count
+  pub sized : length (fields one .encode r) ≡ size
+  pub lead : take (size - 8) (side first x y) ≡ counted {ends = malformed} 2 .encode (r .name)
+
+abbrev pub NextOf : List ℕ → List ℕ → Next → Type 0
+NextOf x y nexts.End = (X Y : Rows ones) → Holds one x X → Holds one y Y → plus ones X Y ≡ []
+NextOf x y nexts.TooMany = (X Y : Rows ones) → Holds one x X → Holds one y Y → limited one (plus ones X Y) ≡ false
+NextOf x y (nexts.Row first second size count) =
+    NextInside x y first second size × ((X Y : Rows ones) → Holds one x X → Holds one y Y → NextRow x y first second size count X Y)
+
+-- ---- the measuring pass
+pub record MeasuredRows (a b : List ℕ) (rows size : ℕ) (A B : Rows ones) : Type 0 where
+  pub fits : limited one (plus ones A B) ≡ true
+  pub counts : rows ≡ length (plus ones A B)
+  pub sized : size ≡ length (rowsBytes one (plus ones A B))
+
+abbrev pub MeasuredAs : List ℕ → List ℕ → Measured → Type 0
+MeasuredAs a b (measures.Rows rows size) = (A B : Rows ones) → Holds one a A → Holds one b B → MeasuredRows a b rows size A B
+MeasuredAs a b measures.TooMany = (A B : Rows ones) → Holds one a A → Holds one b B → limited one (plus ones A B) ≡ false
+
+-- ---- the writing pass
+-- the row of so many bytes at the front of s, with another count, put where it fits
+abbrev pub putCounted : ℕ → List ℕ → ℕ → ℕ → List ℕ → List ℕ
+putCounted at s size count d = stored (at + (size - 8)) (spell 8 count) (stored at (take (size - 8) s) d)
+
+-- a sum that can be written into a buffer
+pub record SumFits (a b d : List ℕ) (A B : Rows ones) : Type 0 where
+  pub left : Holds one a A
+  pub right : Holds one b B
+  pub limit : limited one (plus ones A B) ≡ true
+  pub room : length (rowsBytes one (plus ones A B)) ≤ length d
+
+abbrev pub SumPut : List ℕ → List ℕ → List ℕ → List ℕ → Type 0
+SumPut a b before after = (A B : Rows ones) → SumFits a b before A B → after ≡ laid 0 (rowsBytes one (plus ones A B)) before
+
+-- ---- the sum of two lists of rows as a tally in a room
+pub record MergedRows (a b before after : List ℕ) (r : MergeAnswer) (A B : Rows ones) : Type 0 where
+  pub told : toldMerge r ≡ mapAnswer length (tallied one (length before) (plus ones A B))
+  pub holds : after ≡ lent (tallied one (length before) (plus ones A B)) before
+
+abbrev pub MergedAs : List ℕ → List ℕ → List ℕ → List ℕ → MergeAnswer → Type 0
+MergedAs a b before after r = (A B : Rows ones) → Holds one a A → Holds one b B → MergedRows a b before after r A B

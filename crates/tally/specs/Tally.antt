@@ -1,0 +1,145 @@
+-- The bytes of a tally: document 01, 'Tallies, lots, spans, sheets'.
+use Prim.Native.Nat.{ℕ, _+_, _^_, _≤_, _<_}
+use mathlib.Core.Path.{_≡_, refl}
+use mathlib.Core.Bool.{Bool, true, false, _&&_}
+use mathlib.Core.List.{List, [], _∷_, _++_}
+use mathlib.Core.Logic.{_↔_}
+use mathlib.Core.Option.{Option, some, none}
+use native.Mathlib.Omega.{arith}
+use lib.Dec.{leb, eqb, lit<}
+use lib.ListN.{length}
+use borrow.Author.Tests.{leb-true, le-leb}
+use Rattle.wire.specs.Choice.{pick}
+use Rattle.wire.specs.Bytes.{spell, spell-length}
+use Rattle.wire.specs.Order.{order}
+use Rattle.wire.specs.Read.{Read, done, refused}
+use Rattle.wire.specs.Format.{Format, such, run, along}
+use Rattle.wire.specs.Formats.{_▹_, u64, number, counted, listed, fixed, mark, into, Shape}
+use Rattle.tally.specs.Rows.{Counts, Row, Rows, isName, choose}
+
+-- The one fault of a tally: document 01 gives 13 no offset and tells no two of them apart.
+pub data Malformed : Type 0 where
+  malformed : Malformed
+
+abbrev pub Form : Type 0 → Type 1
+Form A = Format Malformed malformed A
+
+-- A kind of tally: the version that names it, what its counts are, their bytes, and the limit up to which a count has bytes.
+pub record Kind : Type 1 where
+  pub counts : Counts
+  pub version : ℕ
+  pub version-fits : version < 65536
+  pub count : Form (counts .C)
+  pub width : ℕ
+  pub count-length : (c : counts .C) → length (count .encode c) ≡ width
+  pub limit : counts .C → Bool
+  pub limit-ok : (c : counts .C) → (limit c ≡ true) ↔ count .Ok c
+  pub limit-part : (c d : counts .C) → limit (counts .add c d) ≡ true → limit d ≡ true
+
+-- ---- the bytes
+abbrev pub tallyMark : List ℕ  -- TLY
+tallyMark = 84 ∷ 76 ∷ 89 ∷ []
+
+-- the mark, the version and the number of rows
+abbrev pub headLength : ℕ
+headLength = 9
+
+-- a name may follow the rows before it, the last one first: names rise strictly
+abbrev pub rises : {C : Type 0} → List (Row C) → List ℕ → Bool
+rises [] n = true
+rises (r ∷ seen) n = choose (order (r .name) n) true false false
+
+abbrev pub rowParts : {C : Type 0} → Shape (List ℕ × C) (Row C)
+rowParts {C} = record {
+  make = λ (x : List ℕ × C). record { name = x .0; count = x .1 };
+  parts = λ (r : Row C). (r .name, r .count);
+  there = λ b. refl;
+  back = λ a. refl;
+}
+
+-- what reading found, with its end, whatever the fault
+abbrev pub found : {A : Type 0} → Read Malformed A → Option (A × ℕ)
+found (done a n) = some (a, n)
+found (refused e p) = none
+
+-- the same where it ends with the bytes
+abbrev pub whole : {A : Type 0} → List ℕ → Read Malformed A → Option A
+whole s (done a n) = pick (eqb n (length s)) (some a) none
+whole s (refused e p) = none
+
+module _ (k : Kind) where
+  abbrev pub KindRow : Type 0
+  KindRow = Row (k .counts .C)
+
+  abbrev pub KindRows : Type 0
+  KindRows = Rows (k .counts)
+
+  -- a row's fields, not judged
+  unfoldable pub fields : Form KindRow
+  fields = into rowParts
+      (counted 2  -- name
+      ▹ k .count)
+
+  -- what a row must be after those before it
+  abbrev pub mayStand : KindRows → KindRow → Bool
+  mayStand seen r = rises seen (r .name) && (isName (r .name) && k .counts .stands (r .count))
+
+  unfoldable pub row : KindRows → Form KindRow
+  row seen = such (mayStand seen) malformed fields
+
+  unfoldable pub tally : Form KindRows
+  tally = mark tallyMark malformed (fixed 2 (k .version) malformed (listed 4 row))
+
+  -- what stands before n rows
+  abbrev pub headBytes : ℕ → List ℕ
+  headBytes n = tallyMark ++ (spell 2 (k .version) ++ spell 4 n)
+
+  -- the rows of bytes that are a tally, with no byte after
+  unfoldable pub rowsOf : List ℕ → Option KindRows
+  rowsOf s = whole s (tally .read s)
+
+  -- ---- no count above the limit, at most 2^32-1 rows
+  abbrev pub limited : KindRows → Bool
+  limited [] = true
+  limited (r ∷ l) = k .limit (r .count) && limited l
+
+  abbrev pub countable : KindRows → Bool
+  countable l = limited l && leb (length l) 4294967295
+
+-- ---- version 1: one u64 to a row
+abbrev pub ones : Counts
+ones = record {
+  C = ℕ;
+  none = 0;
+  add = λ a b. a + b;
+  add-none = λ c. omega arith;
+  add-comm = λ c d. omega arith;
+  add-assoc = λ c d e. omega arith;
+  stands = λ c. leb 1 c;
+  stands-add = λ c d h k. let p = leb-true 1 c h in le-leb 1 (c + d) (omega arith);
+  none-stands = refl;
+}
+
+abbrev pub most : ℕ  -- 2^64-1
+most = 18446744073709551615
+
+pub u64-length : (c : ℕ) → length (u64 {ends = malformed} .encode c) ≡ 8
+unfolding number along run
+u64-length c = spell-length 8 c
+
+pub u64-limit : (c : ℕ) → (leb c most ≡ true) ↔ u64 {ends = malformed} .Ok c
+unfolding number along
+u64-limit c = (λ h. (let p = leb-true c most h in omega arith), λ (h : c < 256 ^ 8). le-leb c most (omega arith))
+
+abbrev pub one : Kind
+one = record {
+  counts = ones;
+  version = 1;
+  version-fits = lit< tt;
+  count = u64;
+  width = 8;
+  count-length = u64-length;
+  limit = λ c. leb c most;
+  limit-ok = u64-limit;
+  limit-part = λ c d h. let p = leb-true (c + d) most h in le-leb d most (omega arith);
+}

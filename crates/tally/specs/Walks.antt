@@ -1,0 +1,42 @@
+-- Bytes that are rows, as the functions of this crate walk them.
+use Prim.Native.Nat.{ℕ, _≤_}
+use mathlib.Core.Path.{_≡_}
+use mathlib.Core.Bool.{Bool, true, false}
+use mathlib.Core.List.{List, [], _∷_, _++_}
+use mathlib.Core.Option.{Option, some, none}
+use lib.ListN.{length, drop}
+use Rattle.wire.specs.Choice.{pick}
+use Rattle.wire.specs.Order.{order}
+use Rattle.wire.specs.Format.{items}
+use Rattle.tally.specs.Rows.{Canonical, choose}
+use Rattle.tally.specs.Tally.{Form, Kind, KindRows, headLength, whole, fields, row, rowsOf, limited, one}
+use Rattle.tally.specs.declared.head.Stated.{Stated}
+use Rattle.tally.specs.declared.head.Stated.the-variants as stated
+
+-- a name after the last one, unless it is the first
+abbrev pub mayFollow : Bool → List ℕ → List ℕ → Bool
+mayFollow first last name = pick first true (choose (order last name) true false false)
+
+-- the format takes the bytes to their end
+abbrev pub isSome : {A : Type 0} → Option A → Bool
+isSome (some a) = true
+isSome none = false
+
+abbrev pub takes : {A : Type 0} → Form A → List ℕ → Bool
+takes f s = isSome (whole s (f .read s))
+
+-- a head that states n rows, and then they decide; or none
+abbrev pub StatedRows : List ℕ → Stated → Type 0
+StatedRows t (stated.Rows n) = (headLength ≤ length t) × (rowsOf one t ≡ whole (drop headLength t) (items (row one) n .read (drop headLength t)))
+StatedRows t stated.Malformed = rowsOf one t ≡ none
+
+module _ (k : Kind) where
+  abbrev pub rowsBytes : KindRows k → List ℕ
+  rowsBytes [] = []
+  rowsBytes (r ∷ l) = fields k .encode r ++ rowsBytes l
+
+  -- the bytes are these rows, as a tally has them, and nothing else
+  pub record Holds (s : List ℕ) (l : KindRows k) : Type 0 where
+    pub bytes : s ≡ rowsBytes l
+    pub canonical : Canonical (k .counts) l
+    pub limit : limited k l ≡ true

@@ -1,0 +1,88 @@
+// Rows of a tally, from the front of a part: the front row's count, its name as a part of what was given, and the rows behind it handed on
+// as what remains. A call that hands back a part hands back an empty one when refused; its number is asked by the row's own question.
+use wire::fields::Counted;
+use wire::fields::U64;
+use wire::fields::counted16_at;
+use wire::fields::u64_at;
+ghost use mathlib.Core.Path.{_≡_};
+ghost use mathlib.Core.List.{[]};
+ghost use Prim.Native.Nat.{ℕ};
+ghost use lib.ListN.{drop};
+ghost use Rattle.wire.specs.Answer.{mapAnswer};
+ghost use Rattle.tally.specs.Tally.{KindRow, found, row, one};
+ghost use Rattle.tally.specs.Operations.{frontOf, partOf};
+ghost use Rattle.tally.specs.Told.{toldRow, toldFront, shownRow};
+
+// Where a row's name begins, behind its length; the size of its count; and both together, which is what a row has beside its name.
+pub const NAME_AT: usize = 2;
+
+pub const COUNT: usize = 8;
+
+pub const AROUND: usize = 10;
+
+// The longest name, the largest count and the most rows.
+pub const LONGEST: usize = 65535;
+
+pub const MOST: u64 = 18446744073709551615;
+
+pub const MOST_ROWS: u32 = 4294967295;
+
+// The length of the name and the count, or that no row stands there.
+pub enum RowRead {
+    Row(usize, u64),
+    Malformed,
+}
+
+// The row at the front of a part, judged alone.
+pub fn front_row(s: &[u8]) -> RowRead
+    ensures { λ r. ⌜ toldRow (now (s .entry)) r ≡ found (row one [] .read (now (s .entry))) ⌝ }
+{
+    let Counted::Bytes(n) = counted16_at(s, 0) else {
+        return RowRead::Malformed;
+    };
+    let U64::Value(count) = u64_at(s, n + NAME_AT) else {
+        return RowRead::Malformed;
+    };
+    if count == 0 {
+        return RowRead::Malformed;
+    }
+    RowRead::Row(n, count)
+}
+
+pub enum RowAnswer {
+    // The count, and the row's length.
+    Row(u64, usize),
+    NoSuchRow,
+    Malformed,
+}
+
+pub fn row_of(part: &[u8]) -> RowAnswer
+    ensures { λ r. ⌜ toldFront r ≡ mapAnswer shownRow (frontOf one (now (part .entry))) ⌝ }
+{
+    if part.len() == 0 {
+        return RowAnswer::NoSuchRow;
+    }
+    match front_row(part) {
+        RowRead::Row(n, count) => RowAnswer::Row(count, n + AROUND),
+        RowRead::Malformed => RowAnswer::Malformed,
+    }
+}
+
+// The name in the front row.
+pub fn name_of(part: &[u8]) -> &[u8]
+    ensures { λ r. ⌜ now r ≡ partOf (λ (x : KindRow one × ℕ). x .0 .name) (frontOf one (now (part .entry))) ⌝ }
+{
+    match front_row(part) {
+        RowRead::Row(n, _) => &part[NAME_AT..n + NAME_AT],
+        RowRead::Malformed => &part[..0],
+    }
+}
+
+pub fn behind_row(part: &[u8]) -> &[u8]
+    ensures { λ r. ⌜ now r ≡ partOf (λ (x : KindRow one × ℕ). drop (x .1) (now (part .entry))) (frontOf one (now (part .entry))) ⌝ }
+{
+    match front_row(part) {
+        RowRead::Row(n, _) => &part[n + AROUND..],
+        RowRead::Malformed => &part[..0],
+    }
+}
