@@ -1,0 +1,95 @@
+use mathlib.Core.Path.{ap, sym, _∙_}
+use Rattle.anowhetele.specs.Answers.{handed}
+use Rattle.tally.specs.Told.{toldAdd}
+use borrow.Author.Needs.{needs}
+use Rattle.anowhetele.proofs.tallies.anow_tally_add.Statement.{statement}
+use Rattle.anowhetele.proofs.tallies.anow_tally_add.Tie as tie
+
+add-requires : tie.Need-add-requires
+add-requires c κs = search needs
+
+enum-known-n : tie.Need-enum-known-n
+enum-known-n c = search needs
+
+done-requires : tie.Need-done-requires
+done-requires c κs = search needs
+
+enum-told : tie.Need-enum-told
+enum-told c = search needs
+
+plain-requires : tie.Need-plain-requires
+plain-requires c κs = search needs
+
+enum-told-2 : tie.Need-enum-told-2
+enum-told-2 c = search needs
+
+plain-requires-2 : tie.Need-plain-requires-2
+plain-requires-2 c κs = search needs
+
+enum-told-3 : tie.Need-enum-told-3
+enum-told-3 c = search needs
+
+plain-requires-3 : tie.Need-plain-requires-3
+plain-requires-3 c κs = search needs
+
+enum-told-4 : tie.Need-enum-told-4
+enum-told-4 c = search needs
+
+plain-requires-4 : tie.Need-plain-requires-4
+plain-requires-4 c κs = search needs
+
+same-length : tie.Need-same-length
+same-length c = search needs
+
+returns : tie.Need-returns
+returns c = let e = c .before .before .before .before .before .before .add .ensures in (rw (c .done .ensures) (ap handed (sym (ap toldAdd (c .before .before .n .given .1)) ∙ e .0)), e .1)
+
+same-length-2 : tie.Need-same-length-2
+same-length-2 c = search needs
+
+returns-2 : tie.Need-returns-2
+returns-2 c = let e = c .before .before .before .before .before .add .ensures in (rw (c .plain .ensures) (ap handed (sym (ap toldAdd (c .before .enum-told .given .1)) ∙ e .0)), e .1)
+
+same-length-3 : tie.Need-same-length-3
+same-length-3 c = search needs
+
+returns-3 : tie.Need-returns-3
+returns-3 c = let e = c .before .before .before .before .before .add .ensures in (rw (c .plain2 .ensures) (ap handed (sym (ap toldAdd (c .before .enum-told2 .given .1)) ∙ e .0)), e .1)
+
+same-length-4 : tie.Need-same-length-4
+same-length-4 c = search needs
+
+returns-4 : tie.Need-returns-4
+returns-4 c = let e = c .before .before .before .before .before .add .ensures in (rw (c .plain3 .ensures) (ap handed (sym (ap toldAdd (c .before .enum-told3 .given .1)) ∙ e .0)), e .1)
+
+same-length-5 : tie.Need-same-length-5
+same-length-5 c = search needs
+
+returns-5 : tie.Need-returns-5
+returns-5 c = let e = c .before .before .before .before .before .add .ensures in (rw (c .plain4 .ensures) (ap handed (sym (ap toldAdd (c .before .enum-told4 .given .1)) ∙ e .0)), e .1)
+
+pub anow-tally-add-spec : {M : Type 1} → statement M
+anow-tally-add-spec =
+    tie.close
+    (tie.spec
+    add-requires
+    enum-known-n
+    done-requires
+    enum-told
+    plain-requires
+    enum-told-2
+    plain-requires-2
+    enum-told-3
+    plain-requires-3
+    enum-told-4
+    plain-requires-4
+    same-length
+    returns
+    same-length-2
+    returns-2
+    same-length-3
+    returns-3
+    same-length-4
+    returns-4
+    same-length-5
+    returns-5)
