@@ -30,7 +30,12 @@ pub extern "C" fn anow_tally_check(tally: &[u8]) -> AnowAnswer
 }
 
 #[no_mangle]
-pub extern "C" fn anow_tally_add(buffer: &mut [u8], used: u64, name: &[u8], count: u64) -> AnowAnswer
+pub extern "C" fn anow_tally_add(
+    buffer: &mut [u8],
+    used: u64,
+    name: &[u8],
+    count: u64,
+) -> AnowAnswer
     ensures { λ r. ⌜ r ≡ handed (mapAnswer length (addOf one (now (buffer .entry)) used (record { name = now (name .entry); count = count }))) ⌝ }
     ensures { λ _. ⌜ now (buffer .exit) ≡ lent (addOf one (now (buffer .entry)) used (record { name = now (name .entry); count = count })) (now (buffer .entry)) ⌝ }
 {

@@ -2,14 +2,13 @@
 use Prim.Native.Nat.{ℕ, _+_, _-_, _<_, _≤_}
 use mathlib.Core.Path.{_≡_, refl, ap, sym, _∙_}
 use mathlib.Core.List.{List, [], _∷_, _++_}
-use mathlib.Core.Bool.{Bool, true}
 use native.Mathlib.Nat.{zero-add, add-assoc}
 use native.Mathlib.Omega.{arith}
 use lib.ListN.{length, drop, length-drop}
 use lib.Seq.{drop-drop}
-use Rattle.wire.specs.Read.{Read, done, refused, bind, mapRead, onward, reach, bind-done, map-done, map-refused, pick-done}
-use Rattle.wire.specs.Format.{tested, such, _⨾_, next, pair, along, items, readItems, ends-in}
-use Rattle.wire.specs.Formats.{_▹_, number, counted, listed}
+use Rattle.wire.specs.Read.{Read, done, refused, bind, mapRead, onward, reach, map-done, map-refused}
+use Rattle.wire.specs.Format.{_⨾_, next, pair, items, readItems, ends-in}
+use Rattle.wire.specs.Formats.{_▹_, number, counted}
 use Rattle.wire.proofs.Items.{after, items-start, items-on, items-refused, items-end}
 use Rattle.mapblock.specs.Inventory.{Form}
 use Rattle.mapblock.proofs.Leaves.{told-in}

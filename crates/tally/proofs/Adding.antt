@@ -11,7 +11,7 @@ use lib.ListN.{length, take, drop, length-append, length-drop, take-append-drop}
 use lib.Seq.{take-add, take-at, drop-at, length-take-le}
 use borrow.Author.Tests.{le-leb, lt-leb}
 use borrow.Rule.Slice.PartMut.{putMid}
-use Rattle.wire.specs.Answer.{Answer, good, plain, lent, mapAnswer, partsMisfit, tallyMalformed}
+use Rattle.wire.specs.Answer.{good, plain, partsMisfit, tallyMalformed}
 use Rattle.wire.specs.Bytes.{Bytes, spell, bytes-take}
 use Rattle.wire.specs.Formats.{u32, u64}
 use Rattle.wire.specs.Order.{order, order-refl}
@@ -24,17 +24,16 @@ use Rattle.tally.specs.Rows.{Row, Rows, joined, addRow}
 use Rattle.tally.specs.Tally.{Kind, KindRow, KindRows, headLength, headBytes, fields, tally, rowsOf, limited, countable, most, ones, one}
 use Rattle.tally.specs.Operations.{checkOf, tallied, addOf}
 use Rattle.tally.specs.Told.{toldAdd}
-use Rattle.tally.specs.Walks.{rowsBytes, Holds}
-use Rattle.tally.specs.Sought.{Ready, AddedRow, AddedAs}
+use Rattle.tally.specs.Walks.{rowsBytes, Holds, Answered}
+use Rattle.tally.specs.Sought.{Ready, Sought, FoundRow, FoundPlace, opened, AddedAs}
 use Rattle.tally.specs.declared.add.AddAnswer.{AddAnswer}
-use Rattle.tally.specs.Sought as Sought
 use Rattle.tally.specs.declared.add.AddAnswer.the-variants as answers
 use Rattle.tally.specs.declared.add.Found.the-variants as founds
-use Rattle.tally.proofs.Held.{same-some, Opened, opened, rows-append, tally-bytes, head-size, tally-size, one-size}
+use Rattle.tally.proofs.Held.{same-some, Opened, opened as tally-opened, rows-append, tally-bytes, head-size, tally-size, one-size}
 use Rattle.tally.proofs.Checks.{Checked, checked, check-long}
 use Rattle.tally.proofs.Opening.{count-laid, rows-laid, part-opened}
-use Rattle.tally.proofs.Steps as Steps
-use Rattle.tally.proofs.Fitting.{tallied-good, tallied-room, tallied-many}
+use Rattle.tally.proofs.Steps.{add-at, add-between}
+use Rattle.tally.proofs.Fitting.{many-answered, room-answered, good-answered}
 
 -- ---- the answer by cases
 module _ (k : Kind) (d : List ℕ) (n : ℕ) (r : KindRow k) where
@@ -62,10 +61,6 @@ module _ (k : Kind) (d : List ℕ) (n : ℕ) (r : KindRow k) where
         add-some s = rw (le-leb (length (r .name)) 65535 h, le-leb n (length d) i, e, s)
 
 -- ---- a checked tally, and a row that may be added
--- an answer and what the buffer then holds
-abbrev Answered : Answer ℕ → List ℕ → List ℕ → Answer (List ℕ) → Type 0
-Answered a before after t = (a ≡ mapAnswer length t) × (after ≡ lent t before)
-
 module _ (d : List ℕ) (n rows : ℕ) (r : Row ℕ) (h : length (r .name) ≤ 65535) (i : n ≤ length d) (c : good rows ≡ checkOf one (take n d)) where
   abbrev there : Checked one (take n d) rows
   there = checked one (take n d) c
@@ -85,9 +80,7 @@ module _ (d : List ℕ) (n rows : ℕ) (r : Row ℕ) (h : length (r .name) ≤ 6
   }
 
   pub row-added : (e : List ℕ) (a : AddAnswer) → 0 < r .count → AddedAs d e n r a → Answered (toldAdd a) d e (addOf one d n r)
-  row-added e a s f =
-      let g = f (there .l) (there .is) in
-      rw (add-some one d n r h i (there .l) (there .is) (le-leb 1 (r .count) s)) (g .told, g .holds)
+  row-added e a s f = rw (add-some one d n r h i (there .l) (there .is) (le-leb 1 (r .count) s)) (f (there .l) (there .is))
 
 -- ---- rows with one more among them
 module _ (k : Kind) where
@@ -118,26 +111,12 @@ module _ (k : Kind) where
   parts-size : (L D R : KindRows k) → L ≡ D ++ R → length (tally k .encode L) ≡ headLength + (length (rowsBytes k D) + length (rowsBytes k R))
   parts-size L D R s = tally-size k L ∙ ap (λ (j : ℕ). headLength + j) (ap length (ap (rowsBytes k) s ∙ rows-append k D R) ∙ length-append (rowsBytes k D) (rowsBytes k R))
 
-below-is : (n : List ℕ) (D : Rows ones) → Sought.Below n D → Steps.Below ones n D
-below-is n [] b = tt
-below-is n (r ∷ D) b = (b .0, below-is n D (b .1))
-
--- ---- what is answered, by the rows T of the sum
-module _ (d : List ℕ) (n : ℕ) (r : Row ℕ) (L T : Rows ones) (e : addRow ones r L ≡ T) where
-  too-many : countable one T ≡ false → AddedRow d d n r answers.TooMany L
-  too-many h = let a = tallied-many one (length d) T h in record { told = rw (e, a); holds = rw (e, a) }
-
-  no-room : countable one T ≡ true → length d < length (tally one .encode T) → AddedRow d d n r answers.NoRoom L
-  no-room h l = let a = tallied-room one (length d) T h l in record { told = rw (e, a); holds = rw (e, a) }
-
-  all-added : (m : ℕ) (a : List ℕ) → countable one T ≡ true → length (tally one .encode T) ≡ m → m ≤ length d → a ≡ tally one .encode T ++ drop m d
-      → AddedRow d a n r (answers.Added m) L
-  all-added m a h l i q =
-      let s = tallied-good one (length d) T (h, rw l i) in
-      record { told = rw (e, s, l); holds = rw (e, s, l) q }
-
 -- ---- a row added to the tally in the first n bytes of d
 module _ (d : List ℕ) (n rows : ℕ) (r : Row ℕ) (w : Ready d n rows r) where
+  -- what is answered, and what the buffer then holds, where the rows are L
+  abbrev Added : AddAnswer → List ℕ → Rows ones → Type 0
+  Added a after L = Answered (toldAdd a) d after (tallied one (length d) (addRow ones r L))
+
   -- the bytes behind the head
   abbrev part : List ℕ
   part = take (n - headLength) (drop headLength d)
@@ -152,15 +131,15 @@ module _ (d : List ℕ) (n rows : ℕ) (r : Row ℕ) (w : Ready d n rows r) wher
       ∙ drop-at (take headLength d) part headLength (length-take-le headLength d (omega (arith, w .long, w .inside))))
 
   -- a place in them
-  pub row-place : (at before : ℕ) → Sought.Sought part (r .name) (founds.Row at before) → at + (length (r .name) + 10) + headLength ≤ n
+  pub row-place : (at before : ℕ) → Sought part (r .name) (founds.Row at before) → at + (length (r .name) + 10) + headLength ≤ n
   row-place at before q = omega (arith, q .0, part-size, w .long)
 
-  pub new-place : (at : ℕ) → Sought.Sought part (r .name) (founds.Place at) → at + headLength ≤ n
+  pub new-place : (at : ℕ) → Sought part (r .name) (founds.Place at) → at + headLength ≤ n
   new-place at q = omega (arith, q .0, part-size, w .long)
 
   module _ (b : Bytes d) (L : Rows ones) (e : rowsOf one (take n d) ≡ some L) where
     opens : Opened one (take n d) L
-    opens = opened one (take n d) L (bytes-take n d b) e
+    opens = tally-opened one (take n d) L (bytes-take n d b) e
 
     holds : Holds one part L
     holds = rw part-is (opens .holds)
@@ -185,8 +164,8 @@ module _ (d : List ℕ) (n rows : ℕ) (r : Row ℕ) (w : Ready d n rows r) wher
       sizes = sym (length-take-le n d (w .inside)) ∙ ap length (opens .bytes) ∙ parts-size one L D R s
 
     -- ---- to the count of its row
-    module _ (at before : ℕ) (q : Sought.Sought part (r .name) (founds.Row at before)) where
-      abbrev f : Sought.FoundRow (r .name) at before L
+    module _ (at before : ℕ) (q : Sought part (r .name) (founds.Row at before)) where
+      abbrev f : FoundRow (r .name) at before L
       f = q .1 L holds
 
       abbrev more : Row ℕ
@@ -200,7 +179,7 @@ module _ (d : List ℕ) (n rows : ℕ) (r : Row ℕ) (w : Ready d n rows r) wher
           let same : order (r .name) (f .r .name) ≡ Same = rw (f .name) (order-refl (r .name)) in
           let c : r .count + f .r .count ≡ before + r .count = omega (arith, f .counts) in
           let joins : joined ones r (f .r) ≡ more = λ i. record { name = sym (f .name) i; count = c i } in
-          ap (addRow ones r) (f .split) ∙ Steps.add-at ones r (f .r) (f .D) (f .R) (below-is (r .name) (f .D) (f .below)) same ∙ ap (λ (y : Row ℕ). f .D ++ y ∷ f .R) joins
+          ap (addRow ones r) (f .split) ∙ add-at ones r (f .r) (f .D) (f .R) (f .below) same ∙ ap (λ (y : Row ℕ). f .D ++ y ∷ f .R) joins
 
       -- as many rows, of as many bytes
       same-rows : length T ≡ length L
@@ -236,27 +215,27 @@ module _ (d : List ℕ) (n rows : ℕ) (r : Row ℕ) (w : Ready d n rows r) wher
           ap₂ (λ (j : ℕ) (y : List ℕ). laid j (spell 8 (before + r .count)) y) place was ∙ count-laid A (rest ++ drop n d) (f .r) (before + r .count)
           ∙ sym (ap (λ (y : List ℕ). y ++ drop n d) bytes ∙ append-assoc A (new ++ rest) (drop n d) ∙ ap (λ (y : List ℕ). A ++ y) (append-assoc new rest (drop n d)))
 
-      pub row-full : most - before < r .count → AddedRow d d n r answers.TooMany L
+      pub row-full : most - before < r .count → Added answers.TooMany d L
       row-full h =
-          too-many d n r L T sum
-          (and-no (limited one T) (leb (length T) 4294967295) (inl (limited-not one (f .D) (f .R) more (lt-leb (before + r .count) most (omega arith)))))
+          rw sum (many-answered one d T
+          (and-no (limited one T) (leb (length T) 4294967295) (inl (limited-not one (f .D) (f .R) more (lt-leb (before + r .count) most (omega arith))))))
 
       pub row-counted : (a : List ℕ) → r .count ≤ most - before → before ≤ most
-          → a ≡ stored (((at + headLength) + 2) + length (r .name)) (u64 {ends = short} .encode (before + r .count)) d → AddedRow d a n r (answers.Added n) L
+          → a ≡ stored (((at + headLength) + 2) + length (r .name)) (u64 {ends = short} .encode (before + r .count)) d → Added (answers.Added n) a L
       row-counted a h i g =
-          all-added d n r L T sum n a (sum-fits (omega arith)) same-size (w .inside)
-          (put-number (((at + headLength) + 2) + length (r .name)) 8 (before + r .count) (omega (arith, row-place at before q, w .inside)) g .lays ∙ sum-laid)
+          rw sum (good-answered one d T (sum-fits (omega arith)) same-size (w .inside)
+          (put-number (((at + headLength) + 2) + length (r .name)) 8 (before + r .count) (omega (arith, row-place at before q, w .inside)) g .lays ∙ sum-laid))
 
     -- ---- as a row of its own
-    module _ (at : ℕ) (q : Sought.Sought part (r .name) (founds.Place at)) where
-      abbrev g : Sought.FoundPlace (r .name) at L
+    module _ (at : ℕ) (q : Sought part (r .name) (founds.Place at)) where
+      abbrev g : FoundPlace (r .name) at L
       g = q .1 L holds
 
       abbrev U : Rows ones
       U = g .D ++ r ∷ g .R
 
       new-sum : addRow ones r L ≡ U
-      new-sum = ap (addRow ones r) (g .split) ∙ Steps.add-between ones r (g .D) (g .R) (below-is (r .name) (g .D) (g .below)) (g .above)
+      new-sum = ap (addRow ones r) (g .split) ∙ add-between ones r (g .D) (g .R) (g .below) (g .above)
 
       new-rows : length U ≡ rows + 1
       new-rows = omega (arith, ap length (g .split), length-append (g .D) (g .R), length-append (g .D) (r ∷ g .R), w .counts L e)
@@ -300,13 +279,13 @@ module _ (d : List ℕ) (n rows : ℕ) (r : Row ℕ) (w : Ready d n rows r) wher
           ap (λ (y : List ℕ). y ++ z) (tally-parts one U (g .D) (r ∷ g .R) refl ∙ ap (λ (m : ℕ). (headBytes one m ++ D) ++ (row ++ R)) new-rows)
           ∙ append-assoc (head ++ D) (row ++ R) z ∙ append-assoc head D ((row ++ R) ++ z) ∙ ap (λ (y : List ℕ). head ++ (D ++ y)) (append-assoc row R z)
 
-      pub new-many : rows ≡ 4294967295 → AddedRow d d n r answers.TooMany L
-      new-many h = too-many d n r L U new-sum (and-no (limited one U) (leb (length U) 4294967295) (inr (lt-leb (length U) 4294967295 (omega (arith, new-rows)))))
+      pub new-many : rows ≡ 4294967295 → Added answers.TooMany d L
+      new-many h = rw new-sum (many-answered one d U (and-no (limited one U) (leb (length U) 4294967295) (inr (lt-leb (length U) 4294967295 (omega (arith, new-rows))))))
 
-      pub new-full : rows < 4294967295 → r .count ≤ most → length d - n < length (r .name) + 10 → AddedRow d d n r answers.NoRoom L
-      new-full h c l = no-room d n r L U new-sum (new-fits h c) (omega (arith, new-size, w .inside))
+      pub new-full : rows < 4294967295 → r .count ≤ most → length d - n < length (r .name) + 10 → Added answers.NoRoom d L
+      new-full h c l = rw new-sum (room-answered one d U (new-fits h c) (omega (arith, new-size, w .inside)))
 
-      module _ (room : n + (length (r .name) + 10) ≤ length d) (ys : List ℕ) (o : ys ≡ Sought.opened (n - (at + headLength)) r (take (length d - (at + headLength)) (drop (at + headLength) d))) where
+      module _ (room : n + (length (r .name) + 10) ≤ length d) (ys : List ℕ) (o : ys ≡ opened (n - (at + headLength)) r (take (length d - (at + headLength)) (drop (at + headLength) d))) where
         abbrev now-there : List ℕ
         now-there = putMid (at + headLength) (length d - (at + headLength)) d ys
 
@@ -317,9 +296,9 @@ module _ (d : List ℕ) (n rows : ℕ) (r : Row ℕ) (w : Ready d n rows r) wher
             ∙ append-assoc (headBytes one (length L)) (rowsBytes one (g .D)) (fields one .encode r ++ (rowsBytes one (g .R) ++ z))
 
         pub new-added : (a : List ℕ) → rows < 4294967295 → r .count ≤ most → a ≡ stored 5 (u32 {ends = short} .encode (rows + 1)) now-there
-            → AddedRow d a n r (answers.Added (n + (length (r .name) + 10))) L
+            → Added (answers.Added (n + (length (r .name) + 10))) a L
         new-added a h c p =
             let number = u32 {ends = short} .encode (rows + 1) in
             let head : 5 + 4 ≤ length (headBytes one (length L) ++ behind) = omega (arith, length-append (headBytes one (length L)) behind, head-size one (length L)) in
-            all-added d n r L U new-sum (n + (length (r .name) + 10)) a (new-fits h c) new-size room
-            (put-number 5 4 (rows + 1) head (p ∙ ap (stored 5 number) now-is) .lays ∙ rows-laid (length L) (rows + 1) behind ∙ sym new-bytes)
+            rw new-sum (good-answered one d U (new-fits h c) new-size room
+            (put-number 5 4 (rows + 1) head (p ∙ ap (stored 5 number) now-is) .lays ∙ rows-laid (length L) (rows + 1) behind ∙ sym new-bytes))

@@ -1,12 +1,12 @@
 -- What checking answers, and what its answer says of the bytes.
 use Prim.Native.Nat.{ℕ, _≤_}
-use mathlib.Core.Path.{_≡_, refl, ap, sym, _∙_}
+use mathlib.Core.Path.{_≡_, refl, ap, sym}
 use mathlib.Core.Bool.{true, false}
 use mathlib.Core.List.{List, []}
 use mathlib.Core.Option.{Option, some, none}
 use lib.ListN.{length, drop}
 use Rattle.wire.specs.Choice.{no-true, no-false}
-use Rattle.wire.specs.Answer.{Answer, good, plain, no-good, tallyMalformed}
+use Rattle.wire.specs.Answer.{good, plain, no-good, tallyMalformed}
 use Rattle.wire.specs.Bytes.{Bytes, bytes-drop}
 use Rattle.wire.specs.Format.{items, items-length}
 use Rattle.tally.specs.Tally.{Kind, KindRows, headLength, whole, row, rowsOf, one}

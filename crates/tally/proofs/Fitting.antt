@@ -2,12 +2,12 @@
 use Prim.Native.Nat.{ℕ, _<_, _≤_}
 use mathlib.Core.Path.{_≡_, refl}
 use mathlib.Core.Bool.{Bool, true, false}
-use mathlib.Core.List.{List, [], _∷_}
+use mathlib.Core.List.{List, [], _∷_, _++_}
 use mathlib.Core.Logic.{_⊎_, inl, inr}
 use mathlib.Core.Option.{some, none}
 use native.Mathlib.Omega.{arith}
 use lib.Dec.{leb}
-use lib.ListN.{length, length-append}
+use lib.ListN.{length, drop, length-append}
 use borrow.Author.Tests.{leb-true, leb-false, le-leb, lt-leb}
 use Rattle.wire.specs.Answer.{good, plain, noRoom, tallyMalformed, tooMany}
 use Rattle.wire.specs.Choice.{and-yes, yes-and}
@@ -18,7 +18,7 @@ use Rattle.tally.specs.Rows.{choose, joined, addRow, plus, Canonical}
 use Rattle.tally.specs.Tally.{Kind, KindRow, KindRows, fields, tally, rowsOf, limited, countable}
 use Rattle.tally.specs.Operations.{tallied, mergeOf}
 use Rattle.tally.specs.Theorems.{Fits}
-use Rattle.tally.specs.Walks.{rowsBytes}
+use Rattle.tally.specs.Walks.{rowsBytes, Answered}
 use Rattle.tally.proofs.Held.{row-size, tally-size}
 use Rattle.tally.proofs.Canon.{plus-comm}
 
@@ -35,6 +35,18 @@ module _ (k : Kind) where
   pub tallied-many : (room : ℕ) (l : KindRows k) → countable k l ≡ false → tallied k room l ≡ plain tooMany
   unfolding tallied
   tallied-many room l e = rw e
+
+  -- the same of a call that puts them into the buffer d
+  module _ (d : List ℕ) (l : KindRows k) where
+    pub many-answered : countable k l ≡ false → Answered (plain tooMany) d d (tallied k (length d) l)
+    many-answered h = rw (tallied-many (length d) l h) (refl, refl)
+
+    pub room-answered : countable k l ≡ true → length d < length (tally k .encode l) → Answered (plain noRoom) d d (tallied k (length d) l)
+    room-answered h i = rw (tallied-room (length d) l h i) (refl, refl)
+
+    pub good-answered : {m : ℕ} {a : List ℕ} → countable k l ≡ true → length (tally k .encode l) ≡ m → m ≤ length d → a ≡ tally k .encode l ++ drop m d
+        → Answered (good m) d a (tallied k (length d) l)
+    good-answered h e i q = rw (tallied-good (length d) l (h, rw e i), e) (refl, q)
 
   -- which of the three it is
   pub data Tallying (room : ℕ) (l : KindRows k) : Type 0 where

@@ -1,27 +1,26 @@
 -- The row at the front of a part, as the code reads it: the name behind its length, then the count.
 use Prim.Native.Nat.{ℕ, _+_, _-_, _^_, _<_, _≤_}
-use mathlib.Core.Path.{_≡_, refl, ap, ap₂, sym, _∙_}
+use mathlib.Core.Path.{_≡_, refl, ap, sym, _∙_}
 use mathlib.Core.Bool.{Bool, true, false}
 use mathlib.Core.List.{List, []}
 use mathlib.Core.Option.{some, none}
-use native.Mathlib.Nat.{add-assoc}
 use native.Mathlib.Omega.{arith}
-use lib.Dec.{leb, eqb}
-use lib.ListN.{length, take, drop, length-drop}
+use lib.Dec.{eqb}
+use lib.ListN.{length, take, drop}
 use borrow.Author.Tests.{le-leb, lt-leb, eq-eqb, ne-eqb}
 use Rattle.wire.specs.Choice.{pick}
 use Rattle.wire.specs.Answer.{good, plain, tallyMalformed, noSuch}
 use Rattle.wire.specs.Bytes.{Bytes}
-use Rattle.wire.specs.Read.{Read, done, refused, bind}
+use Rattle.wire.specs.Read.{done, refused}
 use Rattle.wire.specs.Format.{such, along, ends-in}
-use Rattle.wire.specs.Formats.{_▹_, number, counted, u64}
+use Rattle.wire.specs.Formats.{counted, u64}
 use Rattle.wire.specs.Told.{short, toldCounted, toldU64}
 use Rattle.wire.specs.declared.fields.Counted.the-variants as run
 use Rattle.wire.specs.declared.fields.U64.the-variants as u64s
 use Rattle.wire.proofs.Steps.{number-told, counted-told}
 use Rattle.wire.proofs.Joints.{then-refused, then-done}
 use Rattle.tally.specs.Rows.{Row, isName}
-use Rattle.tally.specs.Tally.{Malformed, malformed, Form, Kind, KindRow, KindRows, rises, found, fields, mayStand, row, one}
+use Rattle.tally.specs.Tally.{Malformed, malformed, Form, Kind, KindRow, KindRows, found, fields, mayStand, row, one}
 use Rattle.tally.specs.Operations.{frontOf, partOf}
 use Rattle.tally.specs.Told.{toldRow}
 use Rattle.tally.proofs.Held.{row-inside}

@@ -2,9 +2,8 @@
 use Prim.Native.Nat.{ℕ, _+_, _-_, _<_, _≤_}
 use mathlib.Core.Path.{_≡_, refl, ap, sym, _∙_}
 use mathlib.Core.Bool.{Bool, true, false}
-use mathlib.Core.List.{List, [], _∷_, _++_}
-use mathlib.Core.Option.{Option, some, none}
-use native.Mathlib.Nat.{zero-add}
+use mathlib.Core.List.{List, _++_}
+use mathlib.Core.Option.{some, none}
 use native.Mathlib.Omega.{arith}
 use lib.Dec.{leb, eqb}
 use lib.ListN.{length, drop, length-drop}
@@ -15,7 +14,7 @@ use Rattle.wire.specs.Bytes.{spell}
 use Rattle.wire.specs.Marks.{starts}
 use Rattle.wire.specs.Read.{Read, done, refused, onward}
 use Rattle.wire.specs.Format.{items, ends-in}
-use Rattle.wire.specs.Formats.{number, listed, fixed, mark, u16, u32}
+use Rattle.wire.specs.Formats.{listed, fixed, mark, u16, u32}
 use Rattle.wire.specs.Store.{stored}
 use Rattle.wire.specs.Told.{short, toldU16, toldU32}
 use Rattle.wire.specs.declared.fields.U16.the-variants as u16s
@@ -80,6 +79,7 @@ module _ (t : List ℕ) where
             where
               yes : eqb (3 + (2 + (4 + i))) (length t) ≡ true → eqb i (length (drop headLength t)) ≡ true
               yes q = let p = eqb-true (3 + (2 + (4 + i))) (length t) q in eq-eqb i (length (drop headLength t)) (omega (arith, length-drop headLength t))
+
               no : eqb (3 + (2 + (4 + i))) (length t) ≡ false → eqb i (length (drop headLength t)) ≡ false
               no q =
                   let p = eqb-false (3 + (2 + (4 + i))) (length t) q in

@@ -1,13 +1,13 @@
 -- Bytes that hold rows: what their front says, what is behind it, and when bytes are a tally.
 use Prim.Native.Nat.{ℕ, zero, suc, _+_, _-_, _^_, _<_, _≤_}
 use mathlib.Core.Path.{_≡_, refl, ap, ap₂, sym, subst, _∙_}
-use mathlib.Core.Bool.{Bool, true, false, _&&_}
+use mathlib.Core.Bool.{Bool, true, false}
 use mathlib.Core.List.{List, [], _∷_, _++_, append-assoc}
-use mathlib.Core.Option.{Option, some, none}
+use mathlib.Core.Option.{some, none}
 use native.Mathlib.Omega.{arith}
 use lib.Dec.{leb, eqb, lit<}
-use lib.ListN.{length, take, drop, length-append, length-drop}
-use lib.Seq.{drop-append-seam, take-at, drop-at, length-take-le}
+use lib.ListN.{length, take, drop, length-append}
+use lib.Seq.{drop-append-seam, take-at, drop-at}
 use borrow.Author.Tests.{le-leb, leb-true, eqb-true, eq-eqb}
 use Rattle.wire.specs.Choice.{pick, no-true, and-yes, yes-and, three-yes, yes-three}
 use Rattle.wire.specs.Bytes.{Bytes, spell, spell-length, bytes-nil, bytes-cons}
@@ -16,7 +16,7 @@ use Rattle.wire.specs.Read.{Read, done, refused}
 use Rattle.wire.specs.Format.{run, such, _⨾_, along, items, OkItems, encodeItems, ends-in}
 use Rattle.wire.specs.Formats.{number, counted, listed, behind}
 use Rattle.wire.proofs.EveryFormat.{every-format}
-use Rattle.tally.specs.Rows.{Counts, Row, Rows, isName, choose, Above, Canonical}
+use Rattle.tally.specs.Rows.{Row, Rows, isName, choose, Above, Canonical}
 use Rattle.tally.specs.Tally.{Malformed, malformed, Kind, KindRow, KindRows, tallyMark, headLength, headBytes, rises, found, whole, fields, mayStand, row, tally, rowsOf, limited, countable, ones, one}
 use Rattle.tally.specs.Told.{toldRow}
 use Rattle.tally.specs.Walks.{rowsBytes, Holds}
@@ -152,9 +152,10 @@ module _ (k : Kind) where
   judged-back seen [] j = tt
   judged-back seen (r ∷ l) j =
       let c = j .canonical in
-      let f = and-yes (k .limit (r .count)) (limited k l) (j .limit) in
-      (ok-row seen r (ok-fields r (c .0) (c .1) (f .0)) (yes-three (rises-on seen r l (j .follows)) (c .0) (c .2)),
-      judged-back (r ∷ seen) l record { canonical = c .4; limit = f .1; follows = c .3 })
+      let f = and-yes (k .limit (r .count)) (limited k l) (j .limit) in (
+        ok-row seen r (ok-fields r (c .0) (c .1) (f .0)) (yes-three (rises-on seen r l (j .follows)) (c .0) (c .2)),
+        judged-back (r ∷ seen) l record { canonical = c .4; limit = f .1; follows = c .3 },
+      )
 
   tally-ok : (l : KindRows k) → tally k .Ok l → Canonical (k .counts) l × (countable k l ≡ true)
   unfolding tally behind along _⨾_ such number run listed items

@@ -24,6 +24,7 @@ use Rattle.tally.specs.declared.rows.RowRead.the-variants as rows
 use Rattle.tally.specs.declared.merge.Next.{Next}
 use Rattle.tally.specs.declared.merge.Next.the-variants as nexts
 use Rattle.tally.proofs.Held.{FirstRow, row-inside, first-row, no-row, one-size}
+use Rattle.tally.proofs.FrontRows.{name-part}
 use Rattle.tally.proofs.Steps.{step-before, step-after, step-same}
 use Rattle.tally.proofs.Canon.{plus-unit}
 
@@ -72,7 +73,7 @@ both-ended y f X Y hx hy = rw (no-rows X hx, no-row y Y f hy)
 module _ {s : List ℕ} {n c : ℕ} {L : Rows ones} (f : FirstRow s n c L) where
   -- the code compares parts
   front-name : take (n + 2 - 2) (drop 2 s) ≡ f .r .name
-  front-name = let e : n + 2 - 2 ≡ n = omega arith in rw e (f .name)
+  front-name = name-part n s ∙ f .name
 
   front-lead : take (n + 10 - 8) s ≡ counted {ends = malformed} 2 .encode (f .r .name)
   front-lead = let e : n + 10 - 8 ≡ n + 2 = omega arith in rw e (f .lead)

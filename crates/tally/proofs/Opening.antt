@@ -1,18 +1,18 @@
 -- A row laid at the front of a part, and a row opened in front of bytes that move back.
 use Prim.Native.Nat.{ℕ, _+_, _-_, _≤_}
 use mathlib.Core.Path.{_≡_, refl, ap, sym, _∙_}
-use mathlib.Core.List.{List, [], _++_, append-assoc, append-nil}
+use mathlib.Core.List.{List, _++_, append-assoc}
 use native.Mathlib.Nat.{add-comm}
 use native.Mathlib.Omega.{arith}
 use lib.ListN.{length, take, drop, length-append}
-use lib.Seq.{drop-drop, drop-length, take-at, drop-at, length-take-le}
-use borrow.Rule.Slice.PartMut.{putMid, post-is}
+use lib.Seq.{drop-drop, take-at, drop-at, length-take-le}
+use borrow.Rule.Slice.PartMut.{putMid}
 use Rattle.wire.specs.Lists.{rest-is}
 use Rattle.wire.specs.Bytes.{spell, spell-length}
 use Rattle.wire.specs.Formats.{u16, u64}
 use Rattle.wire.specs.Store.{laid, stored, movedBack}
 use Rattle.wire.specs.Told.{short}
-use Rattle.wire.proofs.Laid.{moved-fits}
+use Rattle.wire.proofs.Laid.{moved-fits, part-back}
 use Rattle.wire.proofs.Puts.{put-run, put-number, put-two}
 use Rattle.tally.specs.Rows.{Row}
 use Rattle.tally.specs.Tally.{headBytes, fields, one}
@@ -69,9 +69,8 @@ pub part-opened : (d : List ℕ) (p n : ℕ) (r : Row ℕ) (ys : List ℕ) → p
     → ys ≡ opened (n - p) r (take (length d - p) (drop p d))
     → putMid p (length d - p) d ys ≡ take p d ++ (fields one .encode r ++ (take (n - p) (drop p d) ++ drop (n + (length (r .name) + 10)) d))
 part-opened d p n r ys h room e =
-    let none : drop (length d - p) (drop p d) ≡ [] = post-is p (length d) d (omega arith) ∙ drop-length d in
     let past : p + (n - p + length (fields one .encode r)) ≡ n + (length (r .name) + 10) = omega (arith, one-size r) in
-    ap (λ (y : List ℕ). take p d ++ (ys ++ y)) none
+    part-back p d ys (omega arith)
     ∙ ap (λ (y : List ℕ). take p d ++ y)
-    (append-nil ys ∙ e ∙ ap (opened (n - p) r) (rest-is p d)
+    (e ∙ ap (opened (n - p) r) (rest-is p d)
     ∙ ap (λ (y : List ℕ). fields one .encode r ++ (take (n - p) (drop p d) ++ y)) (drop-drop (n - p + length (fields one .encode r)) p d ∙ ap (λ (j : ℕ). drop j d) past))

@@ -21,7 +21,7 @@ use Rattle.tally.proofs.Canon.{above-weak}
 use Rattle.tally.proofs.Held.{rows-append, FirstRow, row-inside, first-row, no-row, one-size}
 use Rattle.tally.proofs.FrontRows.{name-part}
 
-below-append : (n : List ℕ) (D E : Rows ones) → Below n D → Below n E → Below n (D ++ E)
+below-append : (n : List ℕ) (D E : Rows ones) → Below ones n D → Below ones n E → Below ones n (D ++ E)
 below-append n [] E b e = e
 below-append n (r ∷ D) E b e = (b .0, below-append n D E (b .1) e)
 
@@ -30,7 +30,7 @@ pub record Passed (name rest : List ℕ) (at : ℕ) (L : Rows ones) : Type 0 whe
   pub D : Rows ones
   pub R : Rows ones
   pub split : L ≡ D ++ R
-  pub below : Below name D
+  pub below : Below ones name D
   pub place : at ≡ length (rowsBytes one D)
   pub left : Holds one rest R
 

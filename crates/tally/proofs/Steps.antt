@@ -5,6 +5,7 @@ use mathlib.Core.List.{List, [], _∷_, _++_}
 use Rattle.wire.specs.Order.{order, flip, order-same, order-flip}
 use Rattle.wire.specs.declared.order.Order.the-variants.{Before, Same, After}
 use Rattle.tally.specs.Rows.{Counts, Row, Rows, joined, addRow, plus, Above, Canonical}
+use Rattle.tally.specs.Sought.{Below}
 use Rattle.tally.proofs.Canon.{above-weak, above-add}
 
 module _ (S : Counts) where
@@ -17,19 +18,15 @@ module _ (S : Counts) where
   add-skip r s l h = rw (order-flip (s .name) (r .name), h)
 
   -- ---- a row added behind rows D whose names come before it
-  abbrev pub Below : List ℕ → Rows S → Type 0
-  Below n [] = Unit {0}
-  Below n (r ∷ l) = (order (r .name) n ≡ Before) × Below n l
-
-  pub add-behind : (r : Row (S .C)) (D L : Rows S) → Below (r .name) D → addRow S r (D ++ L) ≡ D ++ addRow S r L
+  pub add-behind : (r : Row (S .C)) (D L : Rows S) → Below S (r .name) D → addRow S r (D ++ L) ≡ D ++ addRow S r L
   add-behind r [] L h = refl
   add-behind r (d ∷ D) L h = add-skip r d (D ++ L) (h .0) ∙ ap (λ (l : Rows S). d ∷ l) (add-behind r D L (h .1))
 
-  pub add-at : (r s : Row (S .C)) (D R : Rows S) → Below (r .name) D → order (r .name) (s .name) ≡ Same
+  pub add-at : (r s : Row (S .C)) (D R : Rows S) → Below S (r .name) D → order (r .name) (s .name) ≡ Same
       → addRow S r (D ++ s ∷ R) ≡ D ++ joined S r s ∷ R
   add-at r s D R h e = rw (add-behind r D (s ∷ R) h, e)
 
-  pub add-between : (r : Row (S .C)) (D R : Rows S) → Below (r .name) D → Above S (r .name) R → addRow S r (D ++ R) ≡ D ++ r ∷ R
+  pub add-between : (r : Row (S .C)) (D R : Rows S) → Below S (r .name) D → Above S (r .name) R → addRow S r (D ++ R) ≡ D ++ r ∷ R
   add-between r D R h k = rw (add-behind r D R h, add-front r R k)
 
   -- ---- lists of rows added

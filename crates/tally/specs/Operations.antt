@@ -1,13 +1,12 @@
 -- What the operations on tallies answer: document 01, 'Tallies, lots, spans, sheets', 'Cuts and merges' and 'Order'.
-use Prim.Native.Nat.{ℕ, _+_}
-use mathlib.Core.Bool.{_&&_}
+use Prim.Native.Nat.{ℕ}
 use mathlib.Core.List.{List, []}
 use mathlib.Core.Option.{Option, some, none}
 use lib.Dec.{leb, eqb}
 use lib.ListN.{length, take, drop}
 use Rattle.wire.specs.Choice.{pick}
 use Rattle.wire.specs.Answer.{Answer, good, refusal, plain, noRoom, partsMisfit, tallyMalformed, tooMany, noSuch}
-use Rattle.tally.specs.Rows.{Row, Rows, isName, addRow, plus}
+use Rattle.tally.specs.Rows.{isName, addRow, plus}
 use Rattle.tally.specs.Tally.{Kind, KindRow, KindRows, headLength, found, row, tally, rowsOf, countable}
 
 -- 13, or what comes of the rows

@@ -1,6 +1,6 @@
 -- Rows of a name and a count: document 01, 'Tallies, lots, spans, sheets' and 'Cuts and merges'. What a count is stays open here: whatever
 -- adds up the same in any order and grouping.
-use Prim.Native.Nat.{ℕ, _≤_}
+use Prim.Native.Nat.{ℕ}
 use mathlib.Core.Path.{_≡_}
 use mathlib.Core.Bool.{Bool, true, false}
 use mathlib.Core.List.{List, [], _∷_}

@@ -4,22 +4,22 @@ use mathlib.Core.Path.{_≡_}
 use mathlib.Core.List.{List, [], _∷_, _++_}
 use mathlib.Core.Option.{some}
 use lib.ListN.{length, take, drop}
-use Rattle.wire.specs.Answer.{lent, mapAnswer}
 use Rattle.wire.specs.Order.{order}
 use Rattle.wire.specs.declared.order.Order.the-variants.{Before}
-use Rattle.tally.specs.Rows.{Row, Rows, Above, addRow}
+use Rattle.tally.specs.Rows.{Counts, Row, Rows, Above, addRow}
 use Rattle.tally.specs.Tally.{headLength, fields, rowsOf, ones, one}
 use Rattle.tally.specs.Operations.{tallied}
 use Rattle.tally.specs.Told.{toldAdd}
-use Rattle.tally.specs.Walks.{rowsBytes, Holds}
+use Rattle.tally.specs.Walks.{rowsBytes, Holds, Answered}
 use Rattle.tally.specs.declared.add.Found.{Found}
 use Rattle.tally.specs.declared.add.Found.the-variants as founds
 use Rattle.tally.specs.declared.add.AddAnswer.{AddAnswer}
 
 -- every name of the rows comes before n
-abbrev pub Below : List ℕ → Rows ones → Type 0
-Below n [] = Unit {0}
-Below n (r ∷ l) = (order (r .name) n ≡ Before) × Below n l
+module _ (S : Counts) where
+  abbrev pub Below : List ℕ → Rows S → Type 0
+  Below n [] = Unit {0}
+  Below n (r ∷ l) = (order (r .name) n ≡ Before) × Below n l
 
 -- the name's row r stands at a place of the rows L, between D and R
 pub record FoundRow (n : List ℕ) (at count : ℕ) (L : Rows ones) : Type 0 where
@@ -27,7 +27,7 @@ pub record FoundRow (n : List ℕ) (at count : ℕ) (L : Rows ones) : Type 0 whe
   pub r : Row ℕ
   pub R : Rows ones
   pub split : L ≡ D ++ r ∷ R
-  pub below : Below n D
+  pub below : Below ones n D
   pub name : r .name ≡ n
   pub counts : r .count ≡ count
   pub place : at ≡ length (rowsBytes one D)
@@ -37,7 +37,7 @@ pub record FoundPlace (n : List ℕ) (at : ℕ) (L : Rows ones) : Type 0 where
   pub D : Rows ones
   pub R : Rows ones
   pub split : L ≡ D ++ R
-  pub below : Below n D
+  pub below : Below ones n D
   pub above : Above ones n R
   pub place : at ≡ length (rowsBytes one D)
 
@@ -58,9 +58,5 @@ pub record Ready (d : List ℕ) (n rows : ℕ) (r : Row ℕ) : Type 0 where
   pub name : length (r .name) < 65536
   pub stands : 0 < r .count
 
-pub record AddedRow (before after : List ℕ) (n : ℕ) (r : Row ℕ) (a : AddAnswer) (L : Rows ones) : Type 0 where
-  pub told : toldAdd a ≡ mapAnswer length (tallied one (length before) (addRow ones r L))
-  pub holds : after ≡ lent (tallied one (length before) (addRow ones r L)) before
-
 abbrev pub AddedAs : List ℕ → List ℕ → ℕ → Row ℕ → AddAnswer → Type 0
-AddedAs before after n r a = (L : Rows ones) → rowsOf one (take n before) ≡ some L → AddedRow before after n r a L
+AddedAs before after n r a = (L : Rows ones) → rowsOf one (take n before) ≡ some L → Answered (toldAdd a) before after (tallied one (length before) (addRow ones r L))

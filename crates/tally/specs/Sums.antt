@@ -5,7 +5,6 @@ use mathlib.Core.Bool.{true, false}
 use mathlib.Core.List.{List, [], _∷_}
 use lib.Dec.{eqb}
 use lib.ListN.{length, take, drop}
-use Rattle.wire.specs.Answer.{lent, mapAnswer}
 use Rattle.wire.specs.Choice.{pick}
 use Rattle.wire.specs.Bytes.{spell}
 use Rattle.wire.specs.Store.{laid, stored}
@@ -14,7 +13,7 @@ use Rattle.tally.specs.Rows.{Row, Rows, plus}
 use Rattle.tally.specs.Tally.{malformed, fields, limited, ones, one}
 use Rattle.tally.specs.Operations.{tallied}
 use Rattle.tally.specs.Told.{toldMerge}
-use Rattle.tally.specs.Walks.{rowsBytes, Holds}
+use Rattle.tally.specs.Walks.{rowsBytes, Holds, Answered}
 use Rattle.tally.specs.declared.merge.Next.{Next}
 use Rattle.tally.specs.declared.merge.Next.the-variants as nexts
 use Rattle.tally.specs.declared.merge.Measured.{Measured}
@@ -77,9 +76,6 @@ abbrev pub SumPut : List ℕ → List ℕ → List ℕ → List ℕ → Type 0
 SumPut a b before after = (A B : Rows ones) → SumFits a b before A B → after ≡ laid 0 (rowsBytes one (plus ones A B)) before
 
 -- ---- the sum of two lists of rows as a tally in a room
-pub record MergedRows (a b before after : List ℕ) (r : MergeAnswer) (A B : Rows ones) : Type 0 where
-  pub told : toldMerge r ≡ mapAnswer length (tallied one (length before) (plus ones A B))
-  pub holds : after ≡ lent (tallied one (length before) (plus ones A B)) before
-
 abbrev pub MergedAs : List ℕ → List ℕ → List ℕ → List ℕ → MergeAnswer → Type 0
-MergedAs a b before after r = (A B : Rows ones) → Holds one a A → Holds one b B → MergedRows a b before after r A B
+MergedAs a b before after r =
+    (A B : Rows ones) → Holds one a A → Holds one b B → Answered (toldMerge r) before after (tallied one (length before) (plus ones A B))

@@ -106,15 +106,7 @@ fn put_counted(out: &mut [u8], at: usize, s: &[u8], size: usize, count: u64)
 }
 
 // The next row of a sum, whose name stands in x, or in y where it takes the place of nothing in x.
-fn put_next(
-    out: &mut [u8],
-    at: usize,
-    x: &[u8],
-    y: &[u8],
-    first: usize,
-    size: usize,
-    count: u64,
-)
+fn put_next(out: &mut [u8], at: usize, x: &[u8], y: &[u8], first: usize, size: usize, count: u64)
     requires { ⌜ (8 ≤ size) × (size ≤ length (side first (now x) (now y))) × (at + size < 2 ^ 64) ⌝ }
     ensures { λ _. ⌜ now (out .exit) ≡ putCounted at (side first (now (x .entry)) (now (y .entry))) size count (now (out .entry)) ⌝ }
 {

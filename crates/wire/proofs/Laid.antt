@@ -1,12 +1,13 @@
 -- Bytes laid into a buffer: what a store of one byte does at either end of them, and what callers of the stores cite.
 use Prim.Native.Nat.{ℕ, suc, _+_, _-_, _<_, _≤_}
 use mathlib.Core.Path.{_≡_, ap, ap₂, sym, _∙_}
-use mathlib.Core.List.{List, [], _∷_, _++_, append-assoc}
+use mathlib.Core.List.{List, [], _∷_, _++_, append-assoc, append-nil}
 use native.Mathlib.Nat.{add-zero, add-assoc}
 use native.Mathlib.Omega.{arith}
 use lib.ListN.{length, getD, take, drop, set, length-append, length-drop, take-append-drop, List·getD-append}
-use lib.Seq.{drop-cons, drop-drop, drop-at, take-at, take-suc, getD-take, length-take-le, set-at}
+use lib.Seq.{drop-cons, drop-drop, drop-length, drop-at, take-at, take-suc, getD-take, length-take-le, set-at}
 use borrow.Author.Tests.{le-leb, lt-leb}
+use borrow.Rule.Slice.PartMut.{putMid, postOf, post-is}
 use Rattle.wire.specs.Store.{laid, stored, movedBack}
 
 -- ---- what is laid
@@ -76,3 +77,9 @@ module _ (n by : ℕ) (d : List ℕ) where
   pub moved-not : length d < by + n → movedBack n by d ≡ d
   unfolding movedBack
   moved-not h = rw (lt-leb (by + n) (length d) h)
+
+-- a part to the end that was lent on, back in the whole
+pub part-back : (n : ℕ) (t ys : List ℕ) → n ≤ length t → putMid n (length t - n) t ys ≡ take n t ++ ys
+part-back n t ys h =
+    let none : postOf n (length t - n) t ≡ [] = post-is n (length t) t h ∙ drop-length t in
+    ap (λ (z : List ℕ). take n t ++ (ys ++ z)) none ∙ ap (λ (z : List ℕ). take n t ++ z) (append-nil ys)

@@ -53,8 +53,10 @@ order-spelt (suc k) x y u w h l = go (ltb (x / 256) (y / 256)) refl (order-spelt
   where
     high : y / 256 < 256 ^ k
     high = let p : y < 256 ^ k * 256 = rw pow-suc at l in omega arith
+
     apart : order (spell (suc k) x ++ u) (spell (suc k) y ++ w) ≡ order (spell k (x / 256) ++ (x % 256 ∷ u)) (spell k (y / 256) ++ (y % 256 ∷ w))
     apart = ap₂ order (append-assoc (spell k (x / 256)) (x % 256 ∷ []) u) (append-assoc (spell k (y / 256)) (y % 256 ∷ []) w)
+
     go : (b : Bool) → ltb (x / 256) (y / 256) ≡ b
         → (x / 256 < y / 256 → y / 256 < 256 ^ k → order (spell k (x / 256) ++ (x % 256 ∷ u)) (spell k (y / 256) ++ (y % 256 ∷ w)) ≡ Before)
         → order (spell (suc k) x ++ u) (spell (suc k) y ++ w) ≡ Before

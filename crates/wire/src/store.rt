@@ -103,9 +103,9 @@ pub fn move_back(s: &mut [u8], n: usize, by: usize)
     if s.len() - by < n {
         return;
     }
-    let mut i = n;
-    while 0 < i {
-        i -= 1;
-        s[i + by] = s[i];
+    let mut left = n;
+    while 0 < left {
+        left -= 1;
+        s[left + by] = s[left];
     }
 }

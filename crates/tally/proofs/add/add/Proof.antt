@@ -73,7 +73,7 @@ same-length-3 c = search needs
 returns-5 : tie.Need-returns-5
 returns-5 c =
     let s = c .before .before .before .before .before .before .before .before .before .before .before .before .before .before in
-    row-added (now (s .args .buffer)) (s .args .used) _ (asked s) (c .before .before .before .before .before .before .before .before .before .before .before .if1 .left) (c .before .before .before .before .before .before .before .before .before .before .if2 .left) (a-tally (c .before .before .before .before .before)) _ _ (omega arith) (c .before .before .add-row .ensures)
+    row-added (now (s .args .buffer)) (s .args .used) _ (asked s) (c .before .before .before .before .before .before .before .before .before .before .before .if1 .left) (c .before .before .before .before .before .before .before .before .before .before .if2 .left) (a-tally (c .before .before .before .before .before)) _ (c .before .before .add-row .result) (omega arith) (c .before .before .add-row .ensures)
 
 pub add-spec : {M : Type 1} → statement M
 add-spec =

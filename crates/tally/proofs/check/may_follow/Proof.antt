@@ -1,10 +1,4 @@
-use mathlib.Core.Path.{_≡_, ap, sym, _∙_}
-use mathlib.Core.Bool.{Bool, true, false}
 use denote.Ref.{now}
-use borrow.Author.Tests.{not-true, not-false}
-use Rattle.wire.specs.declared.order.Order.{Order}
-use Rattle.wire.specs.Choice.{pick}
-use Rattle.tally.specs.Rows.{choose}
 use Rattle.tally.proofs.Checking.{follow-by}
 use borrow.Author.Needs.{needs}
 use Rattle.tally.proofs.check.may_follow.Statement.{statement}

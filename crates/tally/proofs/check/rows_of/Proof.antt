@@ -1,10 +1,8 @@
-use mathlib.Core.Path.{_≡_, ap, sym, _∙_}
-use native.Mathlib.Omega.{arith}
+use mathlib.Core.Path.{_∙_}
 use denote.Ref.{now}
 use Prim.Native.Nat.{_≤_}
 use lib.ListN.{length}
 use Rattle.wire.specs.Lists.{rest-is}
-use Rattle.wire.specs.Bytes.{Bytes}
 use Rattle.tally.specs.Told.{toldCheck}
 use Rattle.tally.specs.Tally.{headLength}
 use Rattle.tally.proofs.FrontRows.{told-as}

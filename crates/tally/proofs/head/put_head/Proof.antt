@@ -1,4 +1,3 @@
-use native.Mathlib.Omega.{arith}
 use denote.Ref.{now}
 use Rattle.tally.proofs.Heads.{head-put, head-not-put}
 use borrow.Author.Needs.{needs}

@@ -1,14 +1,12 @@
 use mathlib.Core.Path.{_≡_, sym, _∙_}
 use mathlib.Core.Bool.{Bool}
-use Prim.Native.Nat.{ℕ}
 use lib.ListN.{drop}
 use denote.Ref.{now}
 use borrow.Author.Tests.{not-true, not-false}
 use Rattle.wire.specs.Marks.{starts}
-use Rattle.wire.specs.Formats.{u16, u32}
+use Rattle.wire.specs.Formats.{u16}
 use Rattle.wire.specs.Told.{short, toldU16, toldU32}
 use Rattle.wire.specs.declared.fields.U16.the-variants as u16s
-use Rattle.wire.specs.declared.fields.U32.the-variants as u32s
 use Rattle.tally.specs.Tally.{tallyMark}
 use Rattle.tally.proofs.FrontRows.{told-as}
 use Rattle.tally.proofs.Heads.{head-unmarked, head-unversioned, head-other, head-uncounted, head-inside, head-read}

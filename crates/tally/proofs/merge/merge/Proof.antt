@@ -85,7 +85,7 @@ returns-3 c =
     let s = c .before .before .before .before .before .before .before .before .before .before .before .before .before .before .before in
     let f = c .before .before .before .before .before .before .before .before .before in
     let g = c .before .before .before .before .before .before in
-    both-good (a s) (b s) (now (s .args .out)) (first f) (second g) (open-first f) (open-second g) (c .before .before .merge-rows .ensures)
+    both-good (a s) (b s) (now (s .args .out)) (c .before .before .merge-rows .result) (first f) (second g) (open-first f) (open-second g) (c .before .before .merge-rows .ensures)
 
 pub merge-spec : {M : Type 1} → statement M
 merge-spec =

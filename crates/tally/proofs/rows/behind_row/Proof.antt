@@ -11,7 +11,7 @@ use Rattle.tally.specs.Tally.{KindRow}
 use Prim.Native.Nat.{ℕ, _+_}
 use lib.ListN.{drop}
 use Rattle.wire.specs.Lists.{rest-is}
-use Rattle.tally.proofs.FrontRows.{told-as, name-part, front-is, front-isnt}
+use Rattle.tally.proofs.FrontRows.{told-as, front-is, front-isnt}
 use borrow.Author.Needs.{needs}
 use Rattle.tally.proofs.rows.behind_row.Statement.{statement}
 use Rattle.tally.proofs.rows.behind_row.Tie as tie

@@ -8,9 +8,7 @@ use Rattle.tally.specs.declared.rows.RowRead.the-variants as rows
 use Rattle.tally.proofs.Held.{row-inside}
 use Rattle.tally.specs.Operations.{partOf}
 use Rattle.tally.specs.Tally.{KindRow}
-use Prim.Native.Nat.{ℕ, _+_}
-use lib.ListN.{drop}
-use Rattle.wire.specs.Lists.{rest-is}
+use Prim.Native.Nat.{ℕ}
 use Rattle.tally.proofs.FrontRows.{told-as, name-part, front-is, front-isnt}
 use borrow.Author.Needs.{needs}
 use Rattle.tally.proofs.rows.name_of.Statement.{statement}
