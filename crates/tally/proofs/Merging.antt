@@ -30,7 +30,7 @@ use Rattle.tally.proofs.Checks.{Checked, unchecked}
 use Rattle.tally.proofs.Fitting.{many-answered, room-answered, good-answered, merge-first, merge-second, merge-both}
 
 -- ---- a sum that was measured
-module _ {a b : List ℕ} {A B : Rows ones} {rows size : ℕ} (m : MeasuredRows a b rows size A B) where
+module _ {A B : Rows ones} {rows size : ℕ} (m : MeasuredRows rows size A B) where
   measured-size : length (tally one .encode (plus ones A B)) ≡ size + 9
   measured-size = omega (arith, tally-size one (plus ones A B), m .sized)
 

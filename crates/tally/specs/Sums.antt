@@ -51,13 +51,13 @@ NextOf x y (nexts.Row first second size count) =
     NextInside x y first second size × ((X Y : Rows ones) → Holds one x X → Holds one y Y → NextRow x y first second size count X Y)
 
 -- ---- the measuring pass
-pub record MeasuredRows (a b : List ℕ) (rows size : ℕ) (A B : Rows ones) : Type 0 where
+pub record MeasuredRows (rows size : ℕ) (A B : Rows ones) : Type 0 where
   pub fits : limited one (plus ones A B) ≡ true
   pub counts : rows ≡ length (plus ones A B)
   pub sized : size ≡ length (rowsBytes one (plus ones A B))
 
 abbrev pub MeasuredAs : List ℕ → List ℕ → Measured → Type 0
-MeasuredAs a b (measures.Rows rows size) = (A B : Rows ones) → Holds one a A → Holds one b B → MeasuredRows a b rows size A B
+MeasuredAs a b (measures.Rows rows size) = (A B : Rows ones) → Holds one a A → Holds one b B → MeasuredRows rows size A B
 MeasuredAs a b measures.TooMany = (A B : Rows ones) → Holds one a A → Holds one b B → limited one (plus ones A B) ≡ false
 
 -- ---- the writing pass
