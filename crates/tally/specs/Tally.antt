@@ -74,19 +74,20 @@ module _ (k : Kind) where
   abbrev pub KindRows : Type 0
   KindRows = Rows (k .counts)
 
-  -- a row's fields, not judged
+  -- a row's fields, a u16 length with the name and the count, not judged
   unfoldable pub fields : Form KindRow
   fields = into rowParts
       (counted 2  -- name
       ▹ k .count)
 
-  -- what a row must be after those before it
+  -- what a row must be after those before it: its name rises and may stand in a tally, its count is at least 1
   abbrev pub mayStand : KindRows → KindRow → Bool
   mayStand seen r = rises seen (r .name) && (isName (r .name) && k .counts .stands (r .count))
 
   unfoldable pub row : KindRows → Form KindRow
   row seen = such (mayStand seen) malformed fields
 
+  -- document 01's tally: the mark, the u16 version, the u32 number of rows, and the rows
   unfoldable pub tally : Form KindRows
   tally = mark tallyMark malformed (fixed 2 (k .version) malformed (listed 4 row))
 

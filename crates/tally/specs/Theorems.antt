@@ -40,7 +40,7 @@ pub data Taken (a : List ℕ) : List (List ℕ) → List (List ℕ) → Type 0 w
   here : {l : List (List ℕ)} → Taken a (a ∷ l) l
   there : {x : List ℕ} {l m : List (List ℕ)} → Taken a l m → Taken a (x ∷ l) (x ∷ m)
 
--- From a list of tallies, so many merges done and these refused leave a list. Each takes two of those left, in either order, and has an
+-- Document 01's list of merges. From a list of tallies, so many merges done and these refused leave a list. Each takes two of those left, in either order, and has an
 -- output of its own, as long as the room. Its result, at the length told, takes the place of both; a refused merge leaves both.
 pub data Merges (m : Merger) (room : ℕ) : List (List ℕ) → ℕ → List ℕ → List (List ℕ) → Type 0 where
   stop : {ts : List (List ℕ)} → Merges m room ts 0 [] ts
@@ -64,7 +64,7 @@ module _ (k : Kind) where
   orNone none = []
   orNone (some l) = l
 
-  -- the sum of tallies
+  -- document 01's sum of tallies
   abbrev pub sumOf : List (List ℕ) → KindRows k
   sumOf [] = []
   sumOf (t ∷ ts) = plus (k .counts) (orNone (rowsOf k t)) (sumOf ts)
@@ -74,7 +74,7 @@ module _ (k : Kind) where
   countAcross [] n = k .counts .none
   countAcross (t ∷ ts) n = k .counts .add (countIn (k .counts) (orNone (rowsOf k t)) n) (countAcross ts n)
 
-  -- no count above the limit, at most 2^32-1 rows and, written as a tally, no longer than the room
+  -- when it fits, in document 01's sense: no count above the limit, at most 2^32-1 rows and, written as a tally, no longer than the room
   abbrev pub Fits : ℕ → KindRows k → Type 0
   Fits room l = (countable k l ≡ true) × (length (tally k .encode l) ≤ room)
 

@@ -1,4 +1,4 @@
--- Two lists compared byte by byte, from place i.
+-- Two lists compared from a place on, byte by byte and eight bytes at a time.
 use Prim.Native.Nat.{ℕ, zero, suc, _+_, _*_, _/_, _%_, _^_, _<_, _≤_}
 use mathlib.Core.Path.{_≡_, refl, ap, ap₂, sym, _∙_}
 use mathlib.Core.Bool.{Bool, true, false}
