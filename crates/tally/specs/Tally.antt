@@ -80,7 +80,7 @@ module _ (k : Kind) where
       (counted 2  -- name
       ▹ k .count)
 
-  -- what a row must be after those before it: its name rises and may stand in a tally, its count is at least 1
+  -- what a row must be after those before it: its name rises, and its name and its count may stand in a tally
   abbrev pub mayStand : KindRows → KindRow → Bool
   mayStand seen r = rises seen (r .name) && (isName (r .name) && k .counts .stands (r .count))
 
