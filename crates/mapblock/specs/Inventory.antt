@@ -2,7 +2,7 @@
 use Prim.Native.Nat.{ℕ, suc, zero-le, _+_, _≤_}
 use mathlib.Core.Path.{_≡_, refl, ap, sym, _∙_}
 use mathlib.Core.Logic.{inl}
-use mathlib.Core.Option.{Option, some, none}
+use mathlib.Core.Option.{Option, some, none, Option·none-ne-some}
 use mathlib.Core.List.{List, [], _∷_, _++_}
 use mathlib.Core.Bool.{Bool, true, false}
 use native.Mathlib.Omega.{arith}
@@ -39,15 +39,12 @@ sized s none = refused fault.Ends 0
 sized s (some n) = done (take n s) n
 
 -- ---- laws
-not-some : {C : Type 0} {n : ℕ} → none ≡ some n → C
-not-some h = let z : _≡_ {A = ℕ} 0 1 = cc in absurd (omega arith)
-
 after-some : (o : Option ℕ) (n : ℕ) → after o ≡ some n → (m : ℕ) × (o ≡ some m) × (suc m ≡ n)
-after-some none n h = not-some h
+after-some none n h = absurd (Option·none-ne-some n h)
 after-some (some m) n h = (m, refl, (cc))
 
 through-long : (b : Bool) (l : List ℕ) (n : ℕ) → through b l ≡ some n → (13 ≤ n) × (n ≤ length l)
-through-long b [] n h = not-some h
+through-long b [] n h = absurd (Option·none-ne-some n h)
 through-long b (x ∷ xs) n h = go (pick b (starts endLine (x ∷ xs)) false) refl h (λ m. through-long (eqb x 10) xs m)
   where
     go : (c : Bool) → pick b (starts endLine (x ∷ xs)) false ≡ c → pick c (some 13) (after (through (eqb x 10) xs)) ≡ some n
@@ -63,7 +60,7 @@ through-long b (x ∷ xs) n h = go (pick b (starts endLine (x ∷ xs)) false) re
 
 -- more bytes after it change nothing
 through-more : (b : Bool) (l t : List ℕ) (n : ℕ) → through b l ≡ some n → through b (l ++ t) ≡ some n
-through-more b [] t n h = not-some h
+through-more b [] t n h = absurd (Option·none-ne-some n h)
 through-more b (x ∷ xs) t n h =
     let i = through-long b (x ∷ xs) n h in
     let k : starts endLine (x ∷ xs ++ t) ≡ starts endLine (x ∷ xs) = starts-append endLine (x ∷ xs) t (omega arith) in
@@ -80,7 +77,7 @@ through-more b (x ∷ xs) t n h =
 
 -- and none after it are needed
 through-take : (b : Bool) (s : List ℕ) (n : ℕ) → through b s ≡ some n → through b (take n s) ≡ some n
-through-take b [] n h = not-some h
+through-take b [] n h = absurd (Option·none-ne-some n h)
 through-take b (x ∷ xs) n h =
     go (pick b (starts endLine (x ∷ xs)) false) refl h (λ m. through-take (eqb x 10) xs m)
   where

@@ -4,7 +4,7 @@ use mathlib.Core.Path.{_≡_, refl, sym, ap, ap₂, _∙_}
 use mathlib.Core.Bool.{true, false, _&&_, and-assoc}
 use mathlib.Core.Logic.{inl, inr}
 use mathlib.Core.List.{List, [], _∷_, _++_, append-assoc}
-use mathlib.Core.Option.{some, none}
+use mathlib.Core.Option.{some, none, Option·some-injective}
 use native.Mathlib.Omega.{arith}
 use lib.Dec.{leb}
 use lib.ListN.{length, take, drop, length-append, length-drop, take-append-drop}
@@ -20,8 +20,8 @@ use Rattle.wire.specs.Store.{laid, stored}
 use Rattle.wire.specs.Told.{short}
 use Rattle.wire.specs.Choice.{and-yes, yes-and, and-no, three-yes, yes-three}
 use Rattle.wire.proofs.Puts.{put-number}
-use Rattle.tally.specs.Rows.{Row, Rows, joined, addRow}
-use Rattle.tally.specs.Tally.{Kind, KindRow, KindRows, headLength, headBytes, fields, tally, rowsOf, limited, countable, most, ones, one}
+use Rattle.tally.specs.Rows.{Row, Rows, isName, joined, addRow}
+use Rattle.tally.specs.Tally.{Kind, KindRow, KindRows, headLength, headBytes, fields, tally, rowsOf, limited, countable, most, ones, one, mostRows}
 use Rattle.tally.specs.Operations.{checkOf, tallied, addOf}
 use Rattle.tally.specs.Told.{toldAdd}
 use Rattle.tally.specs.Walks.{rowsBytes, Holds, Answered}
@@ -29,7 +29,7 @@ use Rattle.tally.specs.Sought.{Ready, Sought, FoundRow, FoundPlace, open
 use Rattle.tally.specs.declared.add.AddAnswer.{AddAnswer}
 use Rattle.tally.specs.declared.add.AddAnswer.the-variants as answers
 use Rattle.tally.specs.declared.add.Found.the-variants as founds
-use Rattle.tally.proofs.Held.{same-some, Opened, opened as tally-opened, rows-append, tally-bytes, head-size, tally-size, one-size}
+use Rattle.tally.proofs.Held.{Opened, opened as tally-opened, rows-append, tally-bytes, head-size, tally-size, one-size}
 use Rattle.tally.proofs.Checks.{Checked, checked, check-long}
 use Rattle.tally.proofs.Opening.{count-laid, rows-laid, part-opened}
 use Rattle.tally.proofs.Steps.{add-at, add-between}
@@ -42,23 +42,26 @@ module _ (k : Kind) (d : List ℕ) (n : ℕ) (r : KindRow k) where
   add-long h = rw (lt-leb (length (r .name)) 65535 h)
 
   module _ (h : length (r .name) ≤ 65535) where
+    named : isName (r .name) ≡ true
+    named = le-leb (length (r .name)) 65535 h
+
     pub add-beyond : length d < n → addOf k d n r ≡ plain tallyMalformed
     unfolding addOf
-    add-beyond i = rw (le-leb (length (r .name)) 65535 h, lt-leb n (length d) i)
+    add-beyond i = rw (named, lt-leb n (length d) i)
 
     module _ (i : n ≤ length d) where
       pub add-malformed : rowsOf k (take n d) ≡ none → addOf k d n r ≡ plain tallyMalformed
       unfolding addOf
-      add-malformed e = rw (le-leb (length (r .name)) 65535 h, le-leb n (length d) i, e)
+      add-malformed e = rw (named, le-leb n (length d) i, e)
 
       module _ (L : KindRows k) (e : rowsOf k (take n d) ≡ some L) where
         pub add-nothing : k .counts .stands (r .count) ≡ false → addOf k d n r ≡ good (take n d)
         unfolding addOf
-        add-nothing s = rw (le-leb (length (r .name)) 65535 h, le-leb n (length d) i, e, s)
+        add-nothing s = rw (named, le-leb n (length d) i, e, s)
 
         pub add-some : k .counts .stands (r .count) ≡ true → addOf k d n r ≡ tallied k (length d) (addRow (k .counts) r L)
         unfolding addOf
-        add-some s = rw (le-leb (length (r .name)) 65535 h, le-leb n (length d) i, e, s)
+        add-some s = rw (named, le-leb n (length d) i, e, s)
 
 -- ---- a checked tally, and a row that may be added
 module _ (d : List ℕ) (n rows : ℕ) (r : Row ℕ) (h : length (r .name) ≤ 65535) (i : n ≤ length d) (c : good rows ≡ checkOf one (take n d)) where
@@ -74,7 +77,7 @@ module _ (d : List ℕ) (n rows : ℕ) (r : Row ℕ) (h : length (r .name) ≤ 6
   may-add b s = record {
     long = rw (length-take-le n d i) at (check-long (take n d) (bytes-take n d b) c);
     inside = i;
-    counts = λ L e. there .counts ∙ ap length (same-some (sym (there .is) ∙ e));
+    counts = λ L e. there .counts ∙ ap length (Option·some-injective _ _ (sym (there .is) ∙ e));
     name = omega (arith, h);
     stands = s;
   }
@@ -144,8 +147,8 @@ module _ (d : List ℕ) (n rows : ℕ) (r : Row ℕ) (w : Ready d n rows r) wher
     holds : Holds one part L
     holds = rw part-is (opens .holds)
 
-    fits : (limited one L ≡ true) × (leb (length L) 4294967295 ≡ true)
-    fits = and-yes (limited one L) (leb (length L) 4294967295) (opens .counts)
+    fits : (limited one L ≡ true) × (leb (length L) mostRows ≡ true)
+    fits = and-yes (limited one L) (leb (length L) mostRows) (opens .counts)
 
     -- what stands around a place
     module _ (D R : Rows ones) (s : L ≡ D ++ R) where
@@ -218,7 +221,7 @@ module _ (d : List ℕ) (n rows : ℕ) (r : Row ℕ) (w : Ready d n rows r) wher
       pub row-full : most - before < r .count → Added answers.TooMany d L
       row-full h =
           rw sum (many-answered one d T
-          (and-no (limited one T) (leb (length T) 4294967295) (inl (limited-not one (f .D) (f .R) more (lt-leb (before + r .count) most (omega arith))))))
+          (and-no (limited one T) (leb (length T) mostRows) (inl (limited-not one (f .D) (f .R) more (lt-leb (before + r .count) most (omega arith))))))
 
       pub row-counted : (a : List ℕ) → r .count ≤ most - before → before ≤ most
           → a ≡ stored (((at + headLength) + 2) + length (r .name)) (u64 {ends = short} .encode (before + r .count)) d → Added (answers.Added n) a L
@@ -243,10 +246,10 @@ module _ (d : List ℕ) (n rows : ℕ) (r : Row ℕ) (w : Ready d n rows r) wher
       new-size : length (tally one .encode U) ≡ n + (length (r .name) + 10)
       new-size = omega (arith, parts-size one U (g .D) (r ∷ g .R) refl, sizes (g .D) (g .R) (g .split), one-size r, length-append (fields one .encode r) (rowsBytes one (g .R)))
 
-      new-fits : rows < 4294967295 → r .count ≤ most → countable one U ≡ true
+      new-fits : rows < mostRows → r .count ≤ most → countable one U ≡ true
       new-fits h c =
           yes-and (limited-more one (g .D) (g .R) r (ap (limited one) (sym (g .split)) ∙ fits .0) (le-leb (r .count) most c))
-          (le-leb (length U) 4294967295 (omega (arith, new-rows)))
+          (le-leb (length U) mostRows (omega (arith, new-rows)))
 
       -- the bytes before the place and behind it
       front-ends : length (front (g .D) (g .R) (g .split)) ≡ at + headLength
@@ -279,10 +282,10 @@ module _ (d : List ℕ) (n rows : ℕ) (r : Row ℕ) (w : Ready d n rows r) wher
           ap (λ (y : List ℕ). y ++ z) (tally-parts one U (g .D) (r ∷ g .R) refl ∙ ap (λ (m : ℕ). (headBytes one m ++ D) ++ (row ++ R)) new-rows)
           ∙ append-assoc (head ++ D) (row ++ R) z ∙ append-assoc head D ((row ++ R) ++ z) ∙ ap (λ (y : List ℕ). head ++ (D ++ y)) (append-assoc row R z)
 
-      pub new-many : rows ≡ 4294967295 → Added answers.TooMany d L
-      new-many h = rw new-sum (many-answered one d U (and-no (limited one U) (leb (length U) 4294967295) (inr (lt-leb (length U) 4294967295 (omega (arith, new-rows))))))
+      pub new-many : rows ≡ mostRows → Added answers.TooMany d L
+      new-many h = rw new-sum (many-answered one d U (and-no (limited one U) (leb (length U) mostRows) (inr (lt-leb (length U) mostRows (omega (arith, new-rows))))))
 
-      pub new-full : rows < 4294967295 → r .count ≤ most → length d - n < length (r .name) + 10 → Added answers.NoRoom d L
+      pub new-full : rows < mostRows → r .count ≤ most → length d - n < length (r .name) + 10 → Added answers.NoRoom d L
       new-full h c l = rw new-sum (room-answered one d U (new-fits h c) (omega (arith, new-size, w .inside)))
 
       module _ (room : n + (length (r .name) + 10) ≤ length d) (ys : List ℕ) (o : ys ≡ opened (n - (at + headLength)) r (take (length d - (at + headLength)) (drop (at + headLength) d))) where
@@ -295,7 +298,7 @@ module _ (d : List ℕ) (n rows : ℕ) (r : Row ℕ) (w : Ready d n rows r) wher
             part-opened d (at + headLength) n r ys (new-place at q) room o ∙ ap₂ (λ (x y : List ℕ). x ++ (fields one .encode r ++ (y ++ z))) front-is behind-is
             ∙ append-assoc (headBytes one (length L)) (rowsBytes one (g .D)) (fields one .encode r ++ (rowsBytes one (g .R) ++ z))
 
-        pub new-added : (a : List ℕ) → rows < 4294967295 → r .count ≤ most → a ≡ stored 5 (u32 {ends = short} .encode (rows + 1)) now-there
+        pub new-added : (a : List ℕ) → rows < mostRows → r .count ≤ most → a ≡ stored 5 (u32 {ends = short} .encode (rows + 1)) now-there
             → Added (answers.Added (n + (length (r .name) + 10))) a L
         new-added a h c p =
             let number = u32 {ends = short} .encode (rows + 1) in

@@ -3,7 +3,7 @@ use Prim.Native.Nat.{ℕ, _+_, _-_, _<_, _≤_}
 use mathlib.Core.Path.{_≡_, refl, ap, sym, _∙_}
 use mathlib.Core.Bool.{Bool, true, false}
 use mathlib.Core.List.{List, [], _∷_, _++_}
-use mathlib.Core.Option.{some, none}
+use mathlib.Core.Option.{some, none, Option·none-ne-some}
 use mathlib.Core.Logic.{inl, inr}
 use native.Mathlib.Nat.{zero-add}
 use native.Mathlib.Omega.{arith}
@@ -22,7 +22,7 @@ use Rattle.tally.specs.Tally.{Malformed, malformed, rises, found, fields
 use Rattle.tally.specs.Told.{toldRow}
 use Rattle.tally.specs.Walks.{mayFollow, isSome, takes}
 use Rattle.tally.specs.declared.rows.RowRead.the-variants as rows
-use Rattle.tally.proofs.Held.{no-some, found-some, row-inside}
+use Rattle.tally.proofs.Held.{found-some, row-inside}
 use Rattle.tally.proofs.FrontRows.{row-refused, row-good, row-bad}
 
 -- a name after the last one
@@ -46,7 +46,7 @@ module _ (seen : Rows ones) (s : List ℕ) where
   no-row-by (done a n) g h = go (mayStand one [] a) refl
     where
       go : (b : Bool) → mayStand one [] a ≡ b → (e : Malformed) × (p : ℕ) × (row one seen .read s ≡ refused e p)
-      go true j = no-some (h ∙ ap found (row-good one [] s g j))
+      go true j = absurd (Option·none-ne-some _ (h ∙ ap found (row-good one [] s g j)))
       go false j = (malformed, 0, row-bad one seen s g (and-no (rises seen (a .name)) (mayStand one [] a) (inr j)))
   no-row-by (refused e p) g h = (e, p, row-refused one seen s g)
 

@@ -15,7 +15,7 @@ use Rattle.wire.specs.Order.{order, order-same}
 use Rattle.wire.specs.declared.order.Order.{Order}
 use Rattle.wire.specs.declared.order.Order.the-variants.{Before, Same, After}
 use Rattle.tally.specs.Rows.{choose, joined, addRow, plus, Canonical}
-use Rattle.tally.specs.Tally.{Kind, KindRow, KindRows, fields, tally, rowsOf, limited, countable}
+use Rattle.tally.specs.Tally.{Kind, KindRow, KindRows, fields, tally, rowsOf, limited, countable, mostRows}
 use Rattle.tally.specs.Operations.{tallied, mergeOf}
 use Rattle.tally.specs.Theorems.{Fits}
 use Rattle.tally.specs.Walks.{rowsBytes, Answered}
@@ -121,11 +121,11 @@ module _ (k : Kind) where
 
   fits-within : (room : ℕ) (l m : KindRows k) → Within l m → Fits k room m → Fits k room l
   fits-within room l m w h =
-      let c = and-yes (limited k m) (leb (length m) 4294967295) (h .0) in
-      let n = leb-true (length m) 4294967295 (c .1) in
+      let c = and-yes (limited k m) (leb (length m) mostRows) (h .0) in
+      let n = leb-true (length m) mostRows (c .1) in
       let x = tally-size k l in
       let y = tally-size k m in
-      (yes-and (w .limit (c .0)) (le-leb (length l) 4294967295 (omega (arith, w .rows))), omega (arith, h .1, w .size))
+      (yes-and (w .limit (c .0)) (le-leb (length l) mostRows (omega (arith, w .rows))), omega (arith, h .1, w .size))
 
   pub fits-right : (room : ℕ) (a b : KindRows k) → Fits k room (plus (k .counts) a b) → Fits k room b
   fits-right room [] b h = h

@@ -3,7 +3,7 @@ use Prim.Native.Nat.{ℕ, zero, suc, _+_, _-_, _^_, _<_, _≤_}
 use mathlib.Core.Path.{_≡_, refl, ap, ap₂, sym, subst, _∙_}
 use mathlib.Core.Bool.{Bool, true, false}
 use mathlib.Core.List.{List, [], _∷_, _++_, append-assoc}
-use mathlib.Core.Option.{some, none}
+use mathlib.Core.Option.{some, none, Option·some-injective, Option·none-ne-some}
 use native.Mathlib.Omega.{arith}
 use lib.Dec.{leb, eqb, lit<}
 use lib.ListN.{length, take, drop, length-append}
@@ -17,7 +17,7 @@ use Rattle.wire.specs.Format.{run, such, _⨾_, along, items, OkItems, encodeIt
 use Rattle.wire.specs.Formats.{number, counted, listed, behind}
 use Rattle.wire.proofs.EveryFormat.{every-format}
 use Rattle.tally.specs.Rows.{Row, Rows, isName, choose, Above, Canonical}
-use Rattle.tally.specs.Tally.{Malformed, malformed, Kind, KindRow, KindRows, tallyMark, headLength, headBytes, rises, found, whole, fields, mayStand, row, tally, rowsOf, limited, countable, ones, one}
+use Rattle.tally.specs.Tally.{Malformed, malformed, Kind, KindRow, KindRows, tallyMark, headLength, headBytes, rises, found, whole, fields, mayStand, row, tally, rowsOf, limited, countable, ones, one, mostRows}
 use Rattle.tally.specs.Told.{toldRow}
 use Rattle.tally.specs.Walks.{rowsBytes, Holds}
 use Rattle.tally.proofs.Canon.{above-weak}
@@ -25,27 +25,21 @@ use Rattle.tally.specs.declared.rows.RowRead.the-variants as rows
 use Rattle.wire.specs.declared.order.Order.{Order}
 use Rattle.wire.specs.declared.order.Order.the-variants.{Before, Same, After}
 
--- ---- options and orders
-pub no-some {ℓ} : {A : Type 0} {C : Type ℓ} {a : A} → none ≡ some a → C
-no-some e = let z : _≡_ {A = ℕ} 0 1 = cc in absurd (omega arith)
-
-pub same-some : {A : Type 0} {a b : A} → some a ≡ some b → a ≡ b
-same-some h = cc
-
+-- ---- what reading found
 -- what was found was read
 pub found-some : {A : Type 0} (r : Read Malformed A) (a : A) (n : ℕ) → found r ≡ some (a, n) → r ≡ done a n
 found-some {A} (done b m) a n h =
-    let e : _≡_ {A = A × ℕ} (b, m) (a, n) = same-some h in
+    let e : _≡_ {A = A × ℕ} (b, m) (a, n) = Option·some-injective (b, m) (a, n) h in
     λ i. done (e i .0) (e i .1)
-found-some (refused e p) a n h = no-some h
+found-some (refused e p) a n h = absurd (Option·none-ne-some (a, n) h)
 
 pub whole-some : {A : Type 0} (s : List ℕ) (r : Read Malformed A) (a : A) → whole s r ≡ some a → r ≡ done a (length s)
 whole-some {A} s (done b m) a h = go (eqb m (length s)) refl h
   where
     go : (t : Bool) → eqb m (length s) ≡ t → pick t (some b) none ≡ some a → _≡_ {A = Read Malformed A} (done b m) (done a (length s))
-    go true e g = ap₂ done (same-some g) (eqb-true m (length s) e)
-    go false e g = no-some g
-whole-some s (refused e p) a h = no-some h
+    go true e g = ap₂ done (Option·some-injective b a g) (eqb-true m (length s) e)
+    go false e g = absurd (Option·none-ne-some a g)
+whole-some s (refused e p) a h = absurd (Option·none-ne-some a h)
 
 pub before-yes : (o : Order) → choose o true false false ≡ true → o ≡ Before
 before-yes Before e = refl
@@ -162,13 +156,13 @@ module _ (k : Kind) where
   tally-ok l h =
       let j = judged (length l) [] l (h .1 .1 .1) in
       let few : length l < 256 ^ 4 = h .1 .1 .0 in
-      (j .canonical, yes-and (j .limit) (le-leb (length l) 4294967295 (omega arith)))
+      (j .canonical, yes-and (j .limit) (le-leb (length l) mostRows (omega arith)))
 
   ok-tally : (l : KindRows k) → Canonical (k .counts) l → countable k l ≡ true → tally k .Ok l
   unfolding tally behind along _⨾_ such number run listed items
   ok-tally l c h =
-      let f = and-yes (limited k l) (leb (length l) 4294967295) h in
-      let few : length l < 256 ^ 4 = (let p = leb-true (length l) 4294967295 (f .1) in omega arith) in
+      let f = and-yes (limited k l) (leb (length l) mostRows) h in
+      let few : length l < 256 ^ 4 = (let p = leb-true (length l) mostRows (f .1) in omega arith) in
       let rest = judged-back [] l record { canonical = c; limit = f .0; follows = tt } in
       (((refl, mark-bytes), refl), ((k .version-fits, eq-eqb (k .version) (k .version) refl), (few, rest)))
 
@@ -217,7 +211,7 @@ module _ (k : Kind) where
         holds = record {
           bytes = ap (drop headLength) (w .1 ∙ tally-bytes l) ∙ drop-at (headBytes k (length l)) (rowsBytes k l) headLength (head-size (length l));
           canonical = c .0;
-          limit = and-yes (limited k l) (leb (length l) 4294967295) (c .1) .0;
+          limit = and-yes (limited k l) (leb (length l) mostRows) (c .1) .0;
         };
       }
 
@@ -257,7 +251,7 @@ first-row s n c [] h k = let z : length s ≡ 0 = ap length (k .bytes) in absurd
 first-row s n c (r ∷ R) h k =
     let name = counted {ends = malformed} 2 .encode (r .name) in
     let count = one .count .encode (r .count) in
-    let e = same-some (h ∙ holds-front one s r R k) in
+    let e = Option·some-injective _ _ (h ∙ holds-front one s r R k) in
     let size : n + 10 ≡ length (fields one .encode r) = ap (λ (x : Row ℕ × ℕ). x .1) e in
     let long : length (r .name) ≡ n = omega (arith, one-size r) in
     record {
@@ -277,4 +271,4 @@ first-row s n c (r ∷ R) h k =
 -- where no row was read, there is none
 pub no-row : (s : List ℕ) (L : Rows ones) → toldRow s rows.Malformed ≡ found (row one [] .read s) → Holds one s L → L ≡ []
 no-row s [] h k = refl
-no-row s (r ∷ R) h k = no-some (h ∙ holds-front one s r R k)
+no-row s (r ∷ R) h k = absurd (Option·none-ne-some _ (h ∙ holds-front one s r R k))

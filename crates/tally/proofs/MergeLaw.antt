@@ -11,36 +11,33 @@ use Rattle.wire.specs.Answer.{Answer, good, refusal, mapAnswer, lent, no-good, 
 use Rattle.tally.specs.Rows.{plus, countIn, Canonical}
 use Rattle.tally.specs.Tally.{Kind, KindRows, tally, rowsOf}
 use Rattle.tally.specs.Operations.{tallied, mergeOf}
-use Rattle.tally.specs.Theorems.{Merger, merged, Taken, here, there, Merges, stop, done, refused, IsTally, AllTallies, orNone, sumOf, Fits, Overfull, MergeLawOf, MergeLaw, SumCounts, EmptyChangesNothing, ShutOut}
+use Rattle.tally.specs.Theorems.{Merger, merged, Taken, here, there, Merges, stop, done, refused, IsTally, AllTallies, rowsIn, sumOf, Fits, Overfull, MergeLawOf, MergeLaw, SumCounts, EmptyChangesNothing, ShutOut}
 use Rattle.tally.proofs.Held.{opened, rows-of-tally, tally-size, tally-bytewise, tally-bytes}
 use Rattle.tally.proofs.Canon.{count-plus, canonical-plus, plus-comm, plus-assoc, plus-unit}
 use Rattle.tally.proofs.Fitting.{Tallying, fit, overfull, tallying, tallied-good, merge-both, fits-left}
 
 pub sum-counts : (k : Kind) → SumCounts k
 sum-counts k [] n = refl
-sum-counts k (t ∷ ts) n = rw (count-plus (k .counts) (orNone k (rowsOf k t)) (sumOf k ts) n, sum-counts k ts n)
+sum-counts k (t ∷ ts) n = rw (count-plus (k .counts) (rowsIn k t) (sumOf k ts) n, sum-counts k ts n)
 
 module _ (k : Kind) where
   -- ---- the rows of tallies
-  abbrev rowsIn : List ℕ → KindRows k
-  rowsIn t = orNone k (rowsOf k t)
-
   abbrev sum : KindRows k → KindRows k → KindRows k
   sum a b = plus (k .counts) a b
 
-  rows-are : (t : List ℕ) → IsTally k t → rowsOf k t ≡ some (rowsIn t)
+  rows-are : (t : List ℕ) → IsTally k t → rowsOf k t ≡ some (rowsIn k t)
   rows-are t h = rw (h .1 .1)
 
-  rows-canonical : (t : List ℕ) → IsTally k t → Canonical (k .counts) (rowsIn t)
-  rows-canonical t h = opened k t (rowsIn t) (h .0) (rows-are t h) .canonical
+  rows-canonical : (t : List ℕ) → IsTally k t → Canonical (k .counts) (rowsIn k t)
+  rows-canonical t h = opened k t (rowsIn k t) (h .0) (rows-are t h) .canonical
 
   sum-canonical : (ts : List (List ℕ)) → AllTallies k ts → Canonical (k .counts) (sumOf k ts)
   sum-canonical [] h = tt
-  sum-canonical (t ∷ ts) h = canonical-plus (k .counts) (rowsIn t) (sumOf k ts) (rows-canonical t (h .0)) (sum-canonical ts (h .1))
+  sum-canonical (t ∷ ts) h = canonical-plus (k .counts) (rowsIn k t) (sumOf k ts) (rows-canonical t (h .0)) (sum-canonical ts (h .1))
 
   -- ---- a tally taken out of a list
   record Took (a : List ℕ) (ts us : List (List ℕ)) : Type 0 where
-    adds : sumOf k ts ≡ sum (rowsIn a) (sumOf k us)
+    adds : sumOf k ts ≡ sum (rowsIn k a) (sumOf k us)
     fewer : length ts ≡ suc (length us)
     one : IsTally k a
     rest : AllTallies k us
@@ -55,7 +52,7 @@ module _ (k : Kind) where
   took {a} (there {x = x} {m = m} t) h =
       let r = took t (h .1) in
       record {
-        adds = ap (sum (rowsIn x)) (r .adds) ∙ swap (rowsIn x) (rowsIn a) (sumOf k m) (rows-canonical x (h .0)) (rows-canonical a (r .one)) (sum-canonical m (r .rest));
+        adds = ap (sum (rowsIn k x)) (r .adds) ∙ swap (rowsIn k x) (rowsIn k a) (sumOf k m) (rows-canonical x (h .0)) (rows-canonical a (r .one)) (sum-canonical m (r .rest));
         fewer = ap suc (r .fewer);
         one = r .one;
         rest = (h .0, r .rest);
@@ -63,11 +60,11 @@ module _ (k : Kind) where
 
   -- two of them
   record Pair (a b : List ℕ) (ts vs : List (List ℕ)) : Type 0 where
-    adds : sumOf k ts ≡ sum (sum (rowsIn a) (rowsIn b)) (sumOf k vs)
+    adds : sumOf k ts ≡ sum (sum (rowsIn k a) (rowsIn k b)) (sumOf k vs)
     fewer : length ts ≡ suc (suc (length vs))
     one : IsTally k a
     two : IsTally k b
-    both : Canonical (k .counts) (sum (rowsIn a) (rowsIn b))
+    both : Canonical (k .counts) (sum (rowsIn k a) (rowsIn k b))
     rest : AllTallies k vs
 
   pair : {a b : List ℕ} {ts us vs : List (List ℕ)} → Taken a ts us → Taken b us vs → AllTallies k ts → Pair a b ts vs
@@ -77,11 +74,11 @@ module _ (k : Kind) where
       let g = rows-canonical a (r .one) in
       let i = rows-canonical b (s .one) in
       record {
-        adds = r .adds ∙ ap (sum (rowsIn a)) (s .adds) ∙ sym (plus-assoc (k .counts) (rowsIn a) (rowsIn b) (sumOf k vs) g i (sum-canonical vs (s .rest)));
+        adds = r .adds ∙ ap (sum (rowsIn k a)) (s .adds) ∙ sym (plus-assoc (k .counts) (rowsIn k a) (rowsIn k b) (sumOf k vs) g i (sum-canonical vs (s .rest)));
         fewer = r .fewer ∙ ap suc (s .fewer);
         one = r .one;
         two = s .one;
-        both = canonical-plus (k .counts) (rowsIn a) (rowsIn b) g i;
+        both = canonical-plus (k .counts) (rowsIn k a) (rowsIn k b) g i;
         rest = s .rest;
       }
 
@@ -115,18 +112,18 @@ module _ (k : Kind) where
 
   -- the answer is about the sum of the rows
   both-told : {a b : List ℕ} {ts vs : List (List ℕ)} {room : ℕ} (out : List ℕ) → length out ≡ room → Pair a b ts vs
-      → mergeOf k (length out) a b ≡ tallied k room (sum (rowsIn a) (rowsIn b))
+      → mergeOf k (length out) a b ≡ tallied k room (sum (rowsIn k a) (rowsIn k b))
   both-told {a} {b} out e p = rw (← e) (merge-both k (length out) a b (rows-are a (p .one)) (rows-are b (p .two)))
 
   -- a result in the place of both
   record Step (room : ℕ) (ts : List (List ℕ)) (t : List ℕ) (vs : List (List ℕ)) : Type 0 where
     adds : sumOf k (t ∷ vs) ≡ sumOf k ts
     all : AllTallies k (t ∷ vs)
-    made : Made room (rowsIn t) t
+    made : Made room (rowsIn k t) t
 
-  step : {a b : List ℕ} {ts vs : List (List ℕ)} (room : ℕ) (t : List ℕ) → Pair a b ts vs → Made room (sum (rowsIn a) (rowsIn b)) t → Step room ts t vs
+  step : {a b : List ℕ} {ts vs : List (List ℕ)} (room : ℕ) (t : List ℕ) → Pair a b ts vs → Made room (sum (rowsIn k a) (rowsIn k b)) t → Step room ts t vs
   step {a} {b} room t p m =
-      let l = sum (rowsIn a) (rowsIn b) in
+      let l = sum (rowsIn k a) (rowsIn k b) in
       let e : rowsOf k t ≡ some l = rw (m .bytes) (rows-of-tally k l (p .both) (m .fits .0)) in
       record {
         adds = rw (e, p .adds);
@@ -137,7 +134,7 @@ module _ (k : Kind) where
   -- ---- a list of merges
   -- where one is left, it was made
   abbrev Ready : ℕ → List (List ℕ) → Type 0
-  Ready room ts = (t : List ℕ) → ts ≡ t ∷ [] → Made room (rowsIn t) t
+  Ready room ts = (t : List ℕ) → ts ≡ t ∷ [] → Made room (rowsIn k t) t
 
   record Kept (room : ℕ) (start : List (List ℕ)) (made : ℕ) (log : List ℕ) (left : List (List ℕ)) : Type 0 where
     adds : sumOf k left ≡ sumOf k start
@@ -161,7 +158,7 @@ module _ (k : Kind) where
         fewer = omega (arith, x .fewer, i .fewer);
         full = i .full;
         none-refused = λ f. i .none-refused (rw (s .adds) f);
-        ready = λ r. i .ready (λ u w. (let v : t ≡ u = cc in subst (λ (y : List ℕ). Made room (rowsIn y) y) v (s .made)));
+        ready = λ r. i .ready (λ u w. (let v : t ≡ u = cc in subst (λ (y : List ℕ). Made room (rowsIn k y) y) v (s .made)));
       }
   kept {room} (refused {out = out} {vs = vs} {number = number} {record₀ = record₀} {offset = offset} p q o e m) h =
       let x = pair p q h in

@@ -17,7 +17,7 @@ use Rattle.wire.specs.Lists.{rest-is}
 use Rattle.wire.specs.Store.{laid, stored}
 use Rattle.wire.proofs.Laid.{laid-length, laid-two, stored-fits, part-back}
 use Rattle.tally.specs.Rows.{Rows, plus}
-use Rattle.tally.specs.Tally.{headBytes, tally, limited, countable, ones, one}
+use Rattle.tally.specs.Tally.{headBytes, tally, limited, countable, ones, one, mostRows}
 use Rattle.tally.specs.Operations.{checkOf, mergeOf}
 use Rattle.tally.specs.Told.{toldMerge}
 use Rattle.tally.specs.Walks.{rowsBytes, Answered}
@@ -34,11 +34,11 @@ module _ {A B : Rows ones} {rows size : ℕ} (m : MeasuredRows rows size A B) wh
   measured-size : length (tally one .encode (plus ones A B)) ≡ size + 9
   measured-size = omega (arith, tally-size one (plus ones A B), m .sized)
 
-  measured-fits : rows ≤ 4294967295 → countable one (plus ones A B) ≡ true
-  measured-fits h = yes-and (m .fits) (le-leb (length (plus ones A B)) 4294967295 (omega (arith, m .counts)))
+  measured-fits : rows ≤ mostRows → countable one (plus ones A B) ≡ true
+  measured-fits h = yes-and (m .fits) (le-leb (length (plus ones A B)) mostRows (omega (arith, m .counts)))
 
-  measured-many : 4294967295 < rows → countable one (plus ones A B) ≡ false
-  measured-many h = and-no (limited one (plus ones A B)) _ (inr (lt-leb (length (plus ones A B)) 4294967295 (omega (arith, m .counts))))
+  measured-many : mostRows < rows → countable one (plus ones A B) ≡ false
+  measured-many h = and-no (limited one (plus ones A B)) _ (inr (lt-leb (length (plus ones A B)) mostRows (omega (arith, m .counts))))
 
 -- ---- what merging rows answers, by what was measured
 -- what is laid into a part that goes to the end, in the whole
@@ -46,13 +46,13 @@ part-laid : (n : ℕ) (w t ys : List ℕ) → n + length w ≤ length t → ys �
 part-laid n w t ys h e = part-back n t ys (omega arith) ∙ ap (λ (z : List ℕ). take n t ++ z) (e ∙ rw (zero-add, drop-drop (length w) n t))
 
 pub merged-many : (a b d : List ℕ) → MeasuredAs a b measures.TooMany → MergedAs a b d d merge.TooMany
-merged-many a b d m A B p q = many-answered one d (plus ones A B) (and-no _ (leb (length (plus ones A B)) 4294967295) (inl (m A B p q)))
+merged-many a b d m A B p q = many-answered one d (plus ones A B) (and-no _ (leb (length (plus ones A B)) mostRows) (inl (m A B p q)))
 
 module _ (a b d : List ℕ) (rows size : ℕ) (m : MeasuredAs a b (measures.Rows rows size)) where
-  pub merged-rows : 4294967295 < rows → MergedAs a b d d merge.TooMany
+  pub merged-rows : mostRows < rows → MergedAs a b d d merge.TooMany
   merged-rows h A B p q = many-answered one d (plus ones A B) (measured-many (m A B p q) h)
 
-  module _ (h : rows ≤ 4294967295) where
+  module _ (h : rows ≤ mostRows) where
     pub merged-room : length d < size + 9 → MergedAs a b d d merge.NoRoom
     merged-room k A B p q = let n = m A B p q in room-answered one d (plus ones A B) (measured-fits n h) (omega (arith, measured-size n))
 

@@ -40,6 +40,9 @@ pub record Kind : Type 1 where
 abbrev pub tallyMark : List ℕ  -- TLY
 tallyMark = 84 ∷ 76 ∷ 89 ∷ []
 
+abbrev pub mostRows : ℕ  -- 2^32-1
+mostRows = 4294967295
+
 -- the mark, the version and the number of rows
 abbrev pub headLength : ℕ
 headLength = 9
@@ -99,13 +102,13 @@ module _ (k : Kind) where
   unfoldable pub rowsOf : List ℕ → Option KindRows
   rowsOf s = whole s (tally .read s)
 
-  -- ---- no count above the limit, at most 2^32-1 rows
+  -- ---- no count above the limit, and no more rows than a u32 counts
   abbrev pub limited : KindRows → Bool
   limited [] = true
   limited (r ∷ l) = k .limit (r .count) && limited l
 
   abbrev pub countable : KindRows → Bool
-  countable l = limited l && leb (length l) 4294967295
+  countable l = limited l && leb (length l) mostRows
 
 -- ---- version 1: one u64 to a row
 abbrev pub ones : Counts

@@ -4,7 +4,7 @@ use mathlib.Core.Path.{_≡_}
 use mathlib.Core.Logic.{_↔_, _⊎_}
 use mathlib.Core.Bool.{true}
 use mathlib.Core.List.{List, [], _∷_}
-use mathlib.Core.Option.{Option, some, none}
+use mathlib.Core.Option.{some, Option·getD}
 use lib.ListN.{length, take}
 use Rattle.wire.specs.Bytes.{Bytes}
 use Rattle.wire.specs.Answer.{Answer, good, refusal, mapAnswer, lent, noRoom, tooMany}
@@ -40,8 +40,9 @@ pub data Taken (a : List ℕ) : List (List ℕ) → List (List ℕ) → Type 0 w
   here : {l : List (List ℕ)} → Taken a (a ∷ l) l
   there : {x : List ℕ} {l m : List (List ℕ)} → Taken a l m → Taken a (x ∷ l) (x ∷ m)
 
--- Document 01's list of merges. From a list of tallies, so many merges done and these refused leave a list. Each takes two of those left, in either order, and has an
--- output of its own, as long as the room. Its result, at the length told, takes the place of both; a refused merge leaves both.
+-- Document 01's list of merges. From a list of tallies, so many merges done and these refused leave a list. Each takes two of those left,
+-- in either order, and has an output of its own, as long as the room. Its result, at the length told, takes the place of both; a refused
+-- merge leaves both.
 pub data Merges (m : Merger) (room : ℕ) : List (List ℕ) → ℕ → List ℕ → List (List ℕ) → Type 0 where
   stop : {ts : List (List ℕ)} → Merges m room ts 0 [] ts
   done : {a b out : List ℕ} {ts us vs left : List (List ℕ)} {n made : ℕ} {log : List ℕ}
@@ -60,19 +61,19 @@ module _ (k : Kind) where
   AllTallies [] = Unit {0}
   AllTallies (t ∷ ts) = IsTally t × AllTallies ts
 
-  abbrev pub orNone : Option (KindRows k) → KindRows k
-  orNone none = []
-  orNone (some l) = l
+  -- its rows
+  abbrev pub rowsIn : List ℕ → KindRows k
+  rowsIn t = Option·getD (rowsOf k t) []
 
   -- document 01's sum of tallies
   abbrev pub sumOf : List (List ℕ) → KindRows k
   sumOf [] = []
-  sumOf (t ∷ ts) = plus (k .counts) (orNone (rowsOf k t)) (sumOf ts)
+  sumOf (t ∷ ts) = plus (k .counts) (rowsIn t) (sumOf ts)
 
   -- what all of them together count of a name
   abbrev pub countAcross : List (List ℕ) → List ℕ → k .counts .C
   countAcross [] n = k .counts .none
-  countAcross (t ∷ ts) n = k .counts .add (countIn (k .counts) (orNone (rowsOf k t)) n) (countAcross ts n)
+  countAcross (t ∷ ts) n = k .counts .add (countIn (k .counts) (rowsIn t) n) (countAcross ts n)
 
   -- when it fits, in document 01's sense: no count above the limit, at most 2^32-1 rows and, written as a tally, no longer than the room
   abbrev pub Fits : ℕ → KindRows k → Type 0

@@ -1,8 +1,8 @@
 // Adding one named count to a tally, in the caller's buffer.
 use crate::check::CheckAnswer;
 use crate::check::check;
-use crate::head::COUNT_AT;
 use crate::head::HEAD;
+use crate::head::NUMBER_AT;
 use crate::rows::AROUND;
 use crate::rows::LONGEST;
 use crate::rows::MOST;
@@ -108,7 +108,7 @@ fn add_row(buffer: &mut [u8], used: usize, rows: u32, name: &[u8], count: u64) -
             }
             let place = at + HEAD;
             open_row(&mut buffer[place..], used - place, name, count);
-            put_u32(buffer, COUNT_AT, rows + 1);
+            put_u32(buffer, NUMBER_AT, rows + 1);
             AddAnswer::Added(used + size)
         }
     }

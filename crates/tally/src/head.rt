@@ -17,7 +17,7 @@ pub const VERSION: u16 = 1;
 // Where its parts stand, and where the rows begin.
 pub const VERSION_AT: usize = 3;
 
-pub const COUNT_AT: usize = 5;
+pub const NUMBER_AT: usize = 5;
 
 pub const HEAD: usize = 9;
 
@@ -39,7 +39,7 @@ pub(crate) fn stated_rows(t: &[u8]) -> Stated
     if version != VERSION {
         return Stated::Malformed;
     }
-    match u32_at(t, COUNT_AT) {
+    match u32_at(t, NUMBER_AT) {
         U32::Value(count) => Stated::Rows(count),
         U32::Ends => Stated::Malformed,
     }
@@ -54,5 +54,5 @@ pub fn put_head(out: &mut [u8], count: u32)
     }
     put_bytes(out, 0, b"TLY");
     put_u16(out, VERSION_AT, VERSION);
-    put_u32(out, COUNT_AT, count);
+    put_u32(out, NUMBER_AT, count);
 }

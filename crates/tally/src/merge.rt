@@ -4,7 +4,7 @@ use crate::check::check;
 use crate::head::HEAD;
 use crate::head::put_head;
 use crate::rows::AROUND;
-use crate::rows::COUNT;
+use crate::rows::COUNT_SIZE;
 use crate::rows::MOST;
 use crate::rows::MOST_ROWS;
 use crate::rows::NAME_AT;
@@ -100,7 +100,7 @@ fn put_counted(out: &mut [u8], at: usize, s: &[u8], size: usize, count: u64)
     requires { ⌜ (8 ≤ size) × (size ≤ length (now s)) × (at + size < 2 ^ 64) ⌝ }
     ensures { λ _. ⌜ now (out .exit) ≡ putCounted at (now (s .entry)) size count (now (out .entry)) ⌝ }
 {
-    let lead = size - COUNT;
+    let lead = size - COUNT_SIZE;
     put_bytes(out, at, &s[..lead]);
     put_u64(out, at + lead, count);
 }

@@ -16,7 +16,7 @@ ghost use Rattle.tally.specs.Told.{toldRow, toldFront, shownRow};
 // Where a row's name begins, behind its length; the size of its count; and both together, which is what a row has beside its name.
 pub const NAME_AT: usize = 2;
 
-pub const COUNT: usize = 8;
+pub const COUNT_SIZE: usize = 8;
 
 pub const AROUND: usize = 10;
 
