@@ -37,21 +37,21 @@ use Rattle.mapblock.proofs.BlockAnswers.{TakenAs}
 
 -- ---- rows
 -- a row's id and length
-abbrev rowHead : NameRow → List ℕ
+abbrev pub rowHead : NameRow → List ℕ
 rowHead r = num 2 .encode (r .id) ++ num 2 .encode (length (r .name))
 
-head-length : (r : NameRow) → length (rowHead r) ≡ 4
+pub head-length : (r : NameRow) → length (rowHead r) ≡ 4
 head-length r = rw (length-append, num-length 2 (r .id), num-length 2 (length (r .name)))
 
-row-bytes : (seen : List NameRow) (r : NameRow) → nameRow all seen .encode r ≡ rowHead r ++ r .name
+pub row-bytes : (seen : List NameRow) (r : NameRow) → nameRow all seen .encode r ≡ rowHead r ++ r .name
 unfolding nameRow along _⨾_ such counted run
 row-bytes seen r = sym (append-assoc (num 2 .encode (r .id)) (num 2 .encode (length (r .name))) (r .name))
 
-row-length : (seen : List NameRow) (r : NameRow) → length (nameRow all seen .encode r) ≡ 4 + length (r .name)
+pub row-length : (seen : List NameRow) (r : NameRow) → length (nameRow all seen .encode r) ≡ 4 + length (r .name)
 row-length seen r = ap (length {A = ℕ}) (row-bytes seen r) ∙ length-append (rowHead r) (r .name) ∙ ap (λ (n : ℕ). n + length (r .name)) (head-length r)
 
 -- the bytes do not say which rows were seen
-seen-same : (seen also l : List NameRow) → encodeItems (nameRow all) seen l ≡ encodeItems (nameRow all) also l
+pub seen-same : (seen also l : List NameRow) → encodeItems (nameRow all) seen l ≡ encodeItems (nameRow all) also l
 seen-same seen also [] = refl
 seen-same seen also (r ∷ l) = rw (row-bytes seen r, row-bytes also r, seen-same (r ∷ seen) (r ∷ also) l)
 
@@ -95,18 +95,18 @@ very-bytes s b n w h i k =
 -- ---- the walk over the rows of names
 -- rows that are read one by one
 module _ {s : List ℕ} {r : NameRow} {l : List NameRow} (h : NameRun s (r ∷ l)) where
-  run-reads : nameRow all [] .read s ≡ done r (4 + length (r .name))
+  pub run-reads : nameRow all [] .read s ≡ done r (4 + length (r .name))
   unfolding unused
   run-reads =
       rw (h .bytes, nameRow all [] .forward r (name-ok [] r .1 (h .good .0, refl)) (encodeItems (nameRow all) (r ∷ []) l), row-length [] r)
 
-  run-rest : NameRun (drop (4 + length (r .name)) s) l
+  pub run-rest : NameRun (drop (4 + length (r .name)) s) l
   run-rest = record {
     bytes = rw (h .bytes, ← row-length [] r, drop-append-seam) (seen-same (r ∷ []) [] l);
     good = h .good .1;
   }
 
-run-none : {s : List ℕ} (l : List NameRow) → NameRun s l → length s ≡ 0 → l ≡ []
+pub run-none : {s : List ℕ} (l : List NameRow) → NameRun s l → length s ≡ 0 → l ≡ []
 run-none [] h z = refl
 run-none (r ∷ l) h z = absurd (omega (arith, ap (length {A = ℕ}) (h .bytes), length-append (nameRow all [] .encode r) (encodeItems (nameRow all) (r ∷ []) l), row-length [] r))
 

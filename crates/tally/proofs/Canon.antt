@@ -79,16 +79,16 @@ module _ (S : Counts) where
   count-cons r l n e = ap (λ (w : Order). S .add (counted w (r .count)) (countIn S l n)) e
 
   -- a row of another name does not count
-  count-past : (r : Row (S .C)) (l : Rows S) (n : List ℕ) {w : Order} → order (r .name) n ≡ w → counted w (r .count) ≡ S .none
+  pub count-past : (r : Row (S .C)) (l : Rows S) (n : List ℕ) {w : Order} → order (r .name) n ≡ w → counted w (r .count) ≡ S .none
       → countIn S (r ∷ l) n ≡ countIn S l n
   count-past r l n e f = count-cons r l n e ∙ rw f (S .add-none _)
 
-  count-above : (l : Rows S) (n : List ℕ) → Above S n l → countIn S l n ≡ S .none
+  pub count-above : (l : Rows S) (n : List ℕ) → Above S n l → countIn S l n ≡ S .none
   count-above [] n h = refl
   count-above (r ∷ l) n h = count-past r l n (order-flip n (r .name) ∙ ap flip (h .0)) refl ∙ count-above l n (h .1)
 
   -- the count of the first name
-  count-head : (r : Row (S .C)) (l : Rows S) → Above S (r .name) l → countIn S (r ∷ l) (r .name) ≡ r .count
+  pub count-head : (r : Row (S .C)) (l : Rows S) → Above S (r .name) l → countIn S (r ∷ l) (r .name) ≡ r .count
   count-head r l h = count-cons r l (r .name) (order-refl (r .name)) ∙ rw (count-above l (r .name) h) (S .add-comm _ _ ∙ S .add-none _)
 
   -- it is not nothing

@@ -33,7 +33,7 @@ pub enum Found {
     Place(usize),
 }
 
-fn seek(s: &[u8], name: &[u8]) -> Found
+pub fn seek(s: &[u8], name: &[u8]) -> Found
     ensures { λ r. ⌜ Sought (now (s .entry)) (now (name .entry)) r ⌝ }
 {
     let mut rest = s;

@@ -1,0 +1,106 @@
+-- The nodes of blocks that are taken: their number, and that their names may stand in a tally.
+use Prim.Native.Nat.{ℕ, zero, suc, _+_, _*_, _<_}
+use mathlib.Core.Path.{_≡_, refl, sym, ap, subst, _∙_}
+use mathlib.Core.Bool.{Bool, true, false}
+use mathlib.Core.List.{List, [], _∷_, _++_}
+use native.Mathlib.Omega.{arith}
+use lib.Dec.{eqb}
+use lib.IntN.{ℤ}
+use lib.ListN.{length, length-append}
+use borrow.Author.Tests.{le-leb}
+use Rattle.wire.specs.Choice.{pick}
+use Rattle.wire.specs.Bytes.{Bytes, bytes-nil}
+use Rattle.wire.specs.Read.{Read, done, refused}
+use Rattle.wire.specs.Answer.{Answer, good, refusal, mapAnswer, no-good}
+use Rattle.position.specs.Keys.{splitOf}
+use Rattle.position.specs.declared.key.Coordinates.{Coordinates}
+use Rattle.mapblock.specs.Data.{NameRow, Block}
+use Rattle.mapblock.specs.Layout.{all}
+use Rattle.mapblock.specs.Block.{block, verdict, idAt}
+use Rattle.mapblock.specs.Questions.{blockAnswer, blockOf, nameOf}
+use Rattle.mapblock.specs.Valid.{Each, NameGood, Valid}
+use Rattle.mapblock.specs.declared.fault.Fault.{Fault}
+use Rattle.mapblock.proofs.Taken.{taken}
+use Rattle.tally.specs.Rows.{isName, Canonical}
+use Rattle.meter.specs.Standing.{Part, Placed, Node, inPart, nodeOf, nodesFrom, standing, nodesIn}
+use Rattle.meter.specs.Counting.{Measure, MeasureRows, tallyOf}
+use Rattle.meter.specs.Tallying.{thenAnswer, placed, placedAt}
+use Rattle.meter.proofs.Amounts.{Named, AllNamed, named-append, named-those, tally-canonical}
+
+-- ---- an answer that is good
+pub then-good : {A B : Type 0} (a : Answer A) (f : A → Answer B) (b : B) → thenAnswer a f ≡ good b → (x : A) × (a ≡ good x) × (f x ≡ good b)
+then-good (good x) f b h = (x, refl, h)
+then-good (refusal n r o) f b h = no-good h
+
+pub map-good : {A B : Type 0} (f : A → B) (a : Answer A) (b : B) → mapAnswer f a ≡ good b → (x : A) × (a ≡ good x) × (f x ≡ b)
+map-good f (good x) b h = (x, refl, (cc))
+map-good f (refusal n r o) b h = no-good h
+
+-- ---- a block that is taken is well formed, and its bytes are the block's
+block-by : (x : Read Fault Block) (b : Block) → blockAnswer x ≡ good b → (n : ℕ) × (x ≡ done b n)
+block-by (done c n) b h = let e : c ≡ b = cc in (n, rw e)
+block-by (refused f p) b h = no-good h
+
+pub block-valid : (s : List ℕ) (b : Block) → Bytes s → blockOf s ≡ good b → Valid b × (s ≡ block all .encode b)
+unfolding blockOf
+block-valid s b w h =
+    let x = block-by (verdict all s) b h in
+    let y = taken s b (x .0) w .0 (x .1) in
+    (y .0, y .1)
+
+pub valid-block : (s : List ℕ) (b : Block) → Bytes s → Valid b → s ≡ block all .encode b → blockOf s ≡ good b
+unfolding blockOf
+valid-block s b w v e = rw (taken s b (length s) w .1 (v, e, refl))
+
+-- at a key
+pub placed-taken : (key : ℤ) (s : List ℕ) (x : Placed) → placedAt key s ≡ good x → (splitOf key ≡ good (x .at)) × (blockOf s ≡ good (x .block))
+unfolding placedAt
+placed-taken key s x h =
+    let y = then-good (splitOf key) (λ c. mapAnswer (placed c) (blockOf s)) x h in
+    let z = map-good (placed (y .0)) (blockOf s) x (y .2) in
+    (y .1 ∙ ap (λ (p : Placed). good (p .at)) (z .2), z .1 ∙ ap (λ (p : Placed). good (p .block)) (z .2))
+
+-- ---- names
+name-named : (l : List NameRow) → Each NameGood l → (id : ℕ) → (isName (nameOf l id) ≡ true) × Bytes (nameOf l id)
+name-named [] h id = (refl, bytes-nil)
+name-named (r ∷ l) h id = go (eqb id (r .id)) (name-named l (h .1) id)
+  where
+    go : (b : Bool) → (isName (nameOf l id) ≡ true) × Bytes (nameOf l id) → (isName (pick b (r .name) (nameOf l id)) ≡ true) × Bytes (pick b (r .name) (nameOf l id))
+    go true k = (le-leb (length (r .name)) 65535 (omega (arith, h .0 .name .0)), h .0 .name .1)
+    go false k = k
+
+pub nodes-named : (x : Placed) → Valid (x .block) → (n i : ℕ) → AllNamed (nodesFrom x n i)
+unfolding nodesFrom
+nodes-named x v zero i = tt
+nodes-named x v (suc n) i = (name-named (x .block .names) (v .names .each) (idAt (x .block) i), nodes-named x v n (suc i))
+
+pub nodes-number : (x : Placed) (n i : ℕ) → length (nodesFrom x n i) ≡ n
+unfolding nodesFrom
+nodes-number x zero i = refl
+nodes-number x (suc n) i = ap suc (nodes-number x n (suc i))
+
+-- ---- several blocks
+abbrev pub AllValid : List Placed → Type 0
+AllValid [] = Unit {0}
+AllValid (x ∷ l) = Valid (x .block) × AllValid l
+
+pub standing-named : (l : List Placed) → AllValid l → AllNamed (standing l)
+unfolding standing
+standing-named [] h = tt
+standing-named (x ∷ l) h = named-append (nodesFrom x 4096 0) (standing l) (nodes-named x (h .0) 4096 0) (standing-named l (h .1))
+
+pub standing-number : (l : List Placed) → length (standing l) ≡ 4096 * length l
+unfolding standing
+standing-number [] = refl
+standing-number (x ∷ l) = length-append (nodesFrom x 4096 0) (standing l) ∙ omega (arith, nodes-number x 4096 0, standing-number l)
+
+-- ---- the rows of what blocks hold in a part
+module _ (m : Measure) (p : Part) where
+  abbrev pub held : List Placed → MeasureRows m
+  held l = tallyOf m (nodesIn p l)
+
+  pub rows-named : (l : List Placed) → AllValid l → AllNamed (nodesIn p l)
+  rows-named l h = named-those (inPart p) (standing l) (standing-named l h)
+
+  pub rows-canonical : (l : List Placed) → AllValid l → Canonical (m .kind .counts) (held l)
+  rows-canonical l h = tally-canonical m (nodesIn p l) (rows-named l h)

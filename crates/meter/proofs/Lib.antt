@@ -1,0 +1,14 @@
+-- The tally of nodes.
+pub mod Amounts
+pub mod Blocks
+-- Sheets, whole and a record at a time.
+pub mod Steps
+pub mod SheetTaken
+pub mod Streaming
+-- When a part is tallied, and what its tally counts.
+pub mod Exactness
+pub mod NamesAlone
+pub mod ShutOut
+-- Cuts, and demand 3.
+pub mod Cuts
+pub mod Partitions

@@ -1,0 +1,239 @@
+-- Parts of which each node of the whole lies in exactly one: their tallies sum up to the whole's, and the cut law follows.
+use Prim.Native.Nat.{ℕ, suc, _+_, _≤_}
+use mathlib.Core.Path.{_≡_, refl, sym, ap, subst, _∙_}
+use mathlib.Core.Bool.{Bool, true, false, _&&_}
+use mathlib.Core.List.{List, [], _∷_, _++_}
+use native.Mathlib.Omega.{arith}
+use lib.ListN.{length}
+use Rattle.wire.specs.Choice.{pick, and-yes, yes-and}
+use Rattle.wire.specs.Order.{order}
+use Rattle.wire.specs.Answer.{good}
+use Rattle.tally.specs.Rows.{choose, plus, countIn, Canonical}
+use Rattle.tally.specs.Tally.{tally}
+use Rattle.tally.specs.Theorems.{merged, Merges, AllTallies, rowsIn, sumOf, Fits}
+use Rattle.tally.proofs.Canon.{count-plus, canonical-plus, determined, plus-unit}
+use Rattle.tally.proofs.Fitting.{fits-left, fits-right}
+use Rattle.tally.proofs.MergeLaw.{merge-law, empty-changes-nothing}
+use Rattle.meter.specs.Standing.{Part, goodPart, Placed, Node, inPart, those, standing, nodesIn}
+use Rattle.meter.specs.Counting.{bears, bearing, Measure, MeasureRows, tallyOf, amountOf}
+use Rattle.meter.specs.Cuts.{Cuts, uncut, cut, lower, upper, once, shares, allGood, Partition}
+use Rattle.meter.specs.Theorems.{Source, blocksOf, SpareFits, IsBytes, Gives, tallied, Talliable, AllGive, CutLaw, PartitionLaw, Demand3}
+use Rattle.meter.proofs.Amounts.{first-amount, count-tally}
+use Rattle.meter.proofs.Blocks.{AllValid, held, rows-canonical}
+use Rattle.meter.proofs.Cuts.{partition}
+use Rattle.meter.proofs.Exactness.{blocks-valid, TalliedAs, tallied-told, told-gives, gives-tallied, rows-read, is-tally, exact}
+
+module _ (m : Measure) where
+  abbrev C : Type 0
+  C = m .kind .counts .C
+
+  abbrev add : C → C → C
+  add = m .kind .counts .add
+
+  abbrev none : C
+  none = m .kind .counts .none
+
+  -- ---- amounts over parts
+  -- what the nodes of a name count in each part, together
+  abbrev amounts : List ℕ → List Node → List Part → C
+  amounts n l [] = none
+  amounts n l (p ∷ ps) = add (amountOf m n (those (inPart p) l)) (amounts n l ps)
+
+  -- what a node counts of a name, and the same in the parts where it lies
+  abbrev own : List ℕ → Node → C
+  own n x = choose (order (x .name) n) none (m .of x) none
+
+  abbrev owns : C → Node → List Part → C
+  owns c x [] = none
+  owns c x (p ∷ ps) = add (pick (inPart p x) c none) (owns c x ps)
+
+  -- in no part, and in one
+  owns-none : (c : C) (x : Node) (ps : List Part) → shares ps x ≡ 0 → owns c x ps ≡ none
+  owns-none c x [] h = refl
+  owns-none c x (p ∷ ps) h = go (inPart p x) refl h (owns-none c x ps)
+    where
+      go : (b : Bool) → inPart p x ≡ b → once b + shares ps x ≡ 0 → (shares ps x ≡ 0 → owns c x ps ≡ none) → add (pick b c none) (owns c x ps) ≡ none
+      go true e k ih = absurd (omega arith)
+      go false e k ih = m .kind .counts .add-none _ ∙ ih (omega arith)
+
+  owns-one : (c : C) (x : Node) (ps : List Part) → shares ps x ≡ 1 → owns c x ps ≡ c
+  owns-one c x [] h = absurd (omega arith)
+  owns-one c x (p ∷ ps) h = go (inPart p x) refl h (owns-one c x ps)
+    where
+      go : (b : Bool) → inPart p x ≡ b → once b + shares ps x ≡ 1 → (shares ps x ≡ 1 → owns c x ps ≡ c) → add (pick b c none) (owns c x ps) ≡ c
+      go true e k ih = ap (add c) (owns-none c x ps (omega arith)) ∙ m .kind .counts .add-comm c none ∙ m .kind .counts .add-none c
+      go false e k ih = m .kind .counts .add-none _ ∙ ih (omega arith)
+
+  owns-as : (c : C) (x : Node) (ps : List Part) (b : Bool) → shares ps x ≡ once b → owns c x ps ≡ pick b c none
+  owns-as c x ps true h = owns-one c x ps h
+  owns-as c x ps false h = owns-none c x ps h
+
+  -- the first node of a list, where it passes the test and bears the name
+  amount-first : (n : List ℕ) (test : Node → Bool) (x : Node) (l : List Node) → amountOf m n (those test (x ∷ l)) ≡ add (pick (test x) (own n x) none) (amountOf m n (those test l))
+  unfolding those
+  amount-first n test x l = go (test x)
+    where
+      go : (b : Bool) → amountOf m n (pick b (x ∷ those test l) (those test l)) ≡ add (pick b (own n x) none) (amountOf m n (those test l))
+      go true = first-amount m x (those test l) n
+      go false = sym (m .kind .counts .add-none _)
+
+  -- two sums change their middle terms
+  swap : (a b c d : C) → add (add a b) (add c d) ≡ add (add a c) (add b d)
+  swap a b c d =
+      let S = m .kind .counts in
+      S .add-assoc a b (add c d) ∙ ap (add a) (sym (S .add-assoc b c d) ∙ ap (λ (y : C). add y d) (S .add-comm b c) ∙ S .add-assoc c b d) ∙ sym (S .add-assoc a c (add b d))
+
+  amounts-first : (n : List ℕ) (x : Node) (l : List Node) (ps : List Part) → amounts n (x ∷ l) ps ≡ add (owns (own n x) x ps) (amounts n l ps)
+  amounts-first n x l [] = sym (m .kind .counts .add-none none)
+  amounts-first n x l (p ∷ ps) =
+      ap (λ (y : C). add y (amounts n (x ∷ l) ps)) (amount-first n (inPart p) x l) ∙ ap (add (add (pick (inPart p x) (own n x) none) (amountOf m n (those (inPart p) l)))) (amounts-first n x l ps)
+      ∙ swap _ _ _ _
+
+  amounts-nothing : (n : List ℕ) (ps : List Part) → amounts n [] ps ≡ none
+  unfolding those
+  amounts-nothing n [] = refl
+  amounts-nothing n (p ∷ ps) = ap (λ (y : C). add y (amounts n [] ps)) (m .total-none) ∙ m .kind .counts .add-none _ ∙ amounts-nothing n ps
+
+  nothing-there : (n : List ℕ) (p : Part) → amountOf m n (those (inPart p) []) ≡ none
+  unfolding those
+  nothing-there n p = m .total-none
+
+  amounts-whole : (n : List ℕ) (whole : Part) (ps : List Part) → ((x : Node) → shares ps x ≡ once (inPart whole x)) → (l : List Node)
+      → amounts n l ps ≡ amountOf m n (those (inPart whole) l)
+  amounts-whole n whole ps h [] = amounts-nothing n ps ∙ sym (nothing-there n whole)
+  amounts-whole n whole ps h (x ∷ l) =
+      amounts-first n x l ps ∙ ap (λ (y : C). add y (amounts n l ps)) (owns-as (own n x) x ps (inPart whole x) (h x)) ∙ ap (add (pick (inPart whole x) (own n x) none)) (amounts-whole n whole ps h l)
+      ∙ sym (amount-first n (inPart whole) x l)
+
+  -- ---- rows over parts
+  module _ (l : List Placed) (v : AllValid l) where
+    abbrev sumRows : List Part → MeasureRows m
+    sumRows [] = []
+    sumRows (p ∷ ps) = plus (m .kind .counts) (held m p l) (sumRows ps)
+
+    sum-canonical : (ps : List Part) → Canonical (m .kind .counts) (sumRows ps)
+    sum-canonical [] = tt
+    sum-canonical (p ∷ ps) = canonical-plus (m .kind .counts) (held m p l) (sumRows ps) (rows-canonical m p l v) (sum-canonical ps)
+
+    sum-counts : (ps : List Part) (n : List ℕ) → countIn (m .kind .counts) (sumRows ps) n ≡ amounts n (standing l) ps
+    sum-counts [] n = refl
+    sum-counts (p ∷ ps) n = count-plus (m .kind .counts) (held m p l) (sumRows ps) n ∙ rw (count-tally m (nodesIn p l) n, sum-counts ps n)
+
+    sum-whole : (whole : Part) (ps : List Part) → Partition whole ps → sumRows ps ≡ held m whole l
+    sum-whole whole ps h =
+        determined (m .kind .counts) (sumRows ps) (held m whole l) (sum-canonical ps) (rows-canonical m whole l v)
+        (λ n. sum-counts ps n ∙ amounts-whole n whole ps (h .shared) (standing l) ∙ sym (count-tally m (nodesIn whole l) n))
+
+  -- ---- the parts' tallies
+  module _ (room : ℕ) (x : Source) (b : IsBytes x) where
+    -- each part can be tallied where their sum fits
+    all-give : (l : List Placed) (v : AllValid l) → SpareFits x room → blocksOf x ≡ good l → (ps : List Part) → allGood ps ≡ true → Fits (m .kind) room (sumRows l v ps)
+        → (ts : List (List ℕ)) × AllGive m (tallied m) room x ps ts
+    all-give l v s e [] g f = ([], tt)
+    all-give l v s e (p ∷ ps) g f =
+        let k = and-yes (goodPart p) (allGood ps) g in
+        let c : Talliable m room x p = record { good-part = k .0; spare = s; blocks = l; taken = e; fits = fits-left (m .kind) room (held m p l) (sumRows l v ps) (rows-canonical m p l v) (sum-canonical l v ps) f } in
+        let r = all-give l v s e ps (k .1) (fits-right (m .kind) room (held m p l) (sumRows l v ps) f) in
+        (tally (m .kind) .encode (held m p l) ∷ r .0, (told-gives m x p room _ (tallied-told m x p room c), r .1))
+
+    -- those that were given are well-formed tallies, of good parts, and their sum is that of the rows
+    record GivenBy (l : List Placed) (v : AllValid l) (ps : List Part) (ts : List (List ℕ)) : Type 0 where
+      goods : allGood ps ≡ true
+      sum : sumOf (m .kind) ts ≡ sumRows l v ps
+      tallies : AllTallies (m .kind) ts
+
+    given-by : (l : List Placed) (v : AllValid l) → blocksOf x ≡ good l → (ps : List Part) (ts : List (List ℕ)) → AllGive m (tallied m) room x ps ts → GivenBy l v ps ts
+    given-by l v e [] [] h = record { goods = refl; sum = refl; tallies = tt }
+    given-by l v e [] (t ∷ ts) h = absurd h
+    given-by l v e (p ∷ ps) [] h = absurd h
+    given-by l v e (p ∷ ps) (t ∷ ts) h =
+        let y = gives-tallied m x p room t b (h .0) in
+        let r = given-by l v e ps ts (h .1) in
+        let same : y .can .blocks ≡ l = cc (y .can .taken, e) in
+        record {
+          goods = yes-and (y .can .good-part) (r .goods);
+          sum = ap (λ (a : MeasureRows m). plus (m .kind .counts) a (sumOf (m .kind) ts)) (rows-read m b y ∙ ap (λ (k : List Placed). held m p k) same) ∙ ap (plus (m .kind .counts) (held m p l)) (r .sum);
+          tallies = (is-tally m b y, r .tallies);
+        }
+
+    module _ (whole p : Part) (ps : List Part) (h : Partition whole (p ∷ ps)) where
+      -- the whole's tally is the sum of the parts'
+      sum-is : (t : List ℕ) (ts : List (List ℕ)) → Gives (tallied m) room x whole t → AllGive m (tallied m) room x (p ∷ ps) ts
+          → Fits (m .kind) room (sumOf (m .kind) ts) × (t ≡ tally (m .kind) .encode (sumOf (m .kind) ts))
+      sum-is t ts g a =
+          let y = gives-tallied m x whole room t b g in
+          let l = y .can .blocks in
+          let v = blocks-valid x b l (y .can .taken) .0 in
+          let e : sumOf (m .kind) ts ≡ held m whole l = given-by l v (y .can .taken) (p ∷ ps) ts a .sum ∙ sum-whole l v whole (p ∷ ps) h in
+          (subst (Fits (m .kind) room) (sym e) (y .can .fits), y .bytes ∙ ap (tally (m .kind) .encode) (sym e))
+
+      parts-tallied : (t : List ℕ) × Gives (tallied m) room x whole t → (ts : List (List ℕ)) × AllGive m (tallied m) room x (p ∷ ps) ts × Fits (m .kind) room (sumOf (m .kind) ts)
+      parts-tallied (t, g) =
+          let y = gives-tallied m x whole room t b g in
+          let l = y .can .blocks in
+          let v = blocks-valid x b l (y .can .taken) .0 in
+          let a = all-give l v (y .can .spare) (y .can .taken) (p ∷ ps) (h .good ∙ y .can .good-part) (subst (Fits (m .kind) room) (sym (sum-whole l v whole (p ∷ ps) h)) (y .can .fits)) in
+          (a .0, a .1, sum-is t (a .0) g (a .1) .0)
+
+      whole-tallied : (ts : List (List ℕ)) × AllGive m (tallied m) room x (p ∷ ps) ts × Fits (m .kind) room (sumOf (m .kind) ts) → (t : List ℕ) × Gives (tallied m) room x whole t
+      whole-tallied ([], a, f) = absurd a
+      whole-tallied (t ∷ ts, a, f) =
+          let y = gives-tallied m x p room t b (a .0) in
+          let l = y .can .blocks in
+          let v = blocks-valid x b l (y .can .taken) .0 in
+          let g = given-by l v (y .can .taken) (p ∷ ps) (t ∷ ts) a in
+          let c : Talliable m room x whole = record {
+            good-part = sym (h .good) ∙ g .goods;
+            spare = y .can .spare;
+            blocks = l;
+            taken = y .can .taken;
+            fits = subst (Fits (m .kind) room) (g .sum ∙ sum-whole l v whole (p ∷ ps) h) f;
+          } in
+          (tally (m .kind) .encode (held m whole l), told-gives m x whole room _ (tallied-told m x whole room c))
+
+      -- one part's tally is its own sum
+      only-part : (t u : List ℕ) → Gives (tallied m) room x whole t → AllGive m (tallied m) room x (p ∷ ps) (u ∷ []) → u ≡ t
+      only-part t u g a =
+          let y = gives-tallied m x p room u b (a .0) in
+          let e : sumOf (m .kind) (u ∷ []) ≡ held m p (y .can .blocks) = ap (λ (r : MeasureRows m). plus (m .kind .counts) r []) (rows-read m b y) ∙ plus-unit (m .kind .counts) (held m p (y .can .blocks)) (rows-canonical m p (y .can .blocks) (blocks-valid x b (y .can .blocks) (y .can .taken) .0)) in
+          y .bytes ∙ ap (tally (m .kind) .encode) (sym e) ∙ sym (sum-is t (u ∷ []) g a .1)
+
+      all-merges : (t a c : List ℕ) (more : List (List ℕ)) (made : ℕ) (log : List ℕ) (left : List (List ℕ))
+          → Gives (tallied m) room x whole t → AllGive m (tallied m) room x (p ∷ ps) (a ∷ c ∷ more) → Merges (merged (m .kind)) room (a ∷ c ∷ more) made log left
+          → (log ≡ []) × (suc made ≡ length (a ∷ c ∷ more) → left ≡ t ∷ [])
+      all-merges t a c more made log left g k r =
+          let s = sum-is t (a ∷ c ∷ more) g k in
+          let y = gives-tallied m x whole room t b g in
+          let v = blocks-valid x b (y .can .blocks) (y .can .taken) .0 in
+          let ts = given-by (y .can .blocks) v (y .can .taken) (p ∷ ps) (a ∷ c ∷ more) k .tallies in
+          let law = merge-law (m .kind) room a c more made log left ts r in
+          (law .none-refused (s .0), λ e. last left (omega (arith, law .fewer)) (λ u w. law .one-left u w .1 ∙ sym (s .1)))
+        where
+          last : (left : List (List ℕ)) → length left ≡ 1 → ((u : List ℕ) → left ≡ u ∷ [] → u ≡ t) → left ≡ t ∷ []
+          last [] e f = absurd (omega arith)
+          last (u ∷ []) e f = ap (λ (z : List ℕ). z ∷ []) (f u refl)
+          last (u ∷ w ∷ left) e f = absurd (omega arith)
+
+  pub partition-law : PartitionLaw m (tallied m) (merged (m .kind))
+  partition-law room x whole p ps b h = record {
+    exactly = (parts-tallied room x b whole p ps h, whole-tallied room x b whole p ps h);
+    counts = λ q t g. exact m .counts room x q t b g;
+    one-part = only-part room x b whole p ps h;
+    merges = all-merges room x b whole p ps h;
+  }
+
+  -- ---- a list of cuts leaves at least one part
+  no-parts : (front back : List Part) (p q : Part) → front ++ p ∷ q ∷ back ≡ [] → ⊥
+  no-parts [] back p q e = let z : _≡_ {A = ℕ} 0 1 = cc in omega arith
+  no-parts (r ∷ front) back p q e = let z : _≡_ {A = ℕ} 0 1 = cc in omega arith
+
+  some-part : {whole : Part} {parts : List Part} → Cuts whole parts → parts ≡ [] → ⊥
+  some-part uncut e = let z : _≡_ {A = ℕ} 0 1 = cc in omega arith
+  some-part (cut front p back c k h) e = no-parts front back (lower c p) (upper c p) e
+
+  cut-law : (room : ℕ) (x : Source) (whole : Part) (parts : List Part) → IsBytes x → Cuts whole parts → CutLaw m (tallied m) (merged (m .kind)) room x whole parts
+  cut-law room x whole [] b k = absurd (some-part k refl)
+  cut-law room x whole (p ∷ ps) b k = partition-law room x whole p ps b (partition k)
+
+  pub demand-3 : Demand3 m
+  demand-3 = record { merges = merge-law (m .kind); empty = empty-changes-nothing (m .kind); cuts = cut-law }

@@ -1,0 +1,10 @@
+-- What stands in a part of the world, and its tally.
+pub mod Standing
+pub mod Counting
+-- What the operations answer.
+pub mod Tallying
+pub mod Sheet
+pub mod Streaming
+-- What holds of them.
+pub mod Cuts
+pub mod Theorems

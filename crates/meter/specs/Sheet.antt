@@ -1,0 +1,118 @@
+-- Sheets: document 01, 'Tallies, lots, spans, sheets' and 'Order'.
+use Prim.Native.Nat.{ℕ, zero, suc}
+use mathlib.Core.Path.{refl}
+use mathlib.Core.Bool.{Bool, true}
+use mathlib.Core.List.{List, [], _∷_}
+use mathlib.Core.Option.{Option, some, none}
+use lib.Dec.{eqb, leb}
+use lib.IntN.{ℤ}
+use lib.Signed.{ltZ}
+use lib.ListN.{length, drop}
+use Rattle.wire.specs.Choice.{pick}
+use Rattle.wire.specs.Read.{Read, done, refused}
+use Rattle.wire.specs.Format.{Format, such}
+use Rattle.wire.specs.Formats.{_▹_, u32, s64, counted, listed, fixed, mark, into, Shape}
+use Rattle.wire.specs.Answer.{Answer, good, refusal, plain, mapAnswer, badPart, partsMisfit, sheetMalformed, noRoom, tooMany}
+use Rattle.position.specs.Keys.{isKey, splitOf}
+use Rattle.position.specs.declared.key.Coordinates.{Coordinates}
+use Rattle.mapblock.specs.Questions.{blockOf}
+use Rattle.tally.specs.Tally.{tally, mostRows}
+use Rattle.meter.specs.Standing.{Part, goodPart, Placed, nodesIn}
+use Rattle.meter.specs.Counting.{Measure, MeasureRows, tallyOf}
+use Rattle.meter.specs.Tallying.{thenAnswer, placed}
+
+-- ---- the bytes
+-- The one fault of a sheet's own bytes: 15 has no offset.
+pub data Misframed : Type 0 where
+  misframed : Misframed
+
+abbrev pub SheetForm : Type 0 → Type 1
+SheetForm A = Format Misframed misframed A
+
+-- document 01's record: a key and a block
+pub record SheetRecord : Type 0 where
+  pub key : ℤ
+  pub block : List ℕ
+
+abbrev pub recordParts : Shape (ℤ × List ℕ) SheetRecord
+recordParts = record {
+  make = λ (x : ℤ × List ℕ). record { key = x .0; block = x .1 };
+  parts = λ (r : SheetRecord). (r .key, r .block);
+  there = λ b. refl;
+  back = λ a. refl;
+}
+
+-- a record's framing, its key and its block not judged
+unfoldable pub frame : SheetForm SheetRecord
+frame = into recordParts
+    (s64  -- key
+    ▹ counted 4)  -- block
+
+abbrev pub sheetMark : List ℕ  -- WSH
+sheetMark = 87 ∷ 83 ∷ 72 ∷ []
+
+-- the mark, the u16 version 1, and what follows them
+abbrev pub behindMark : {A : Type 0} → SheetForm A → SheetForm A
+behindMark f = mark sheetMark misframed (fixed 2 1 misframed f)
+
+-- the head, which tells the number of records
+unfoldable pub sheetHead : SheetForm ℕ
+sheetHead = behindMark u32
+
+-- a key after the last one: keys rise strictly, as numbers
+abbrev pub rises : Option ℤ → ℤ → Bool
+rises none k = true
+rises (some last) k = ltZ last k
+
+-- of the records before, the last one first
+abbrev pub lastKey : List SheetRecord → Option ℤ
+lastKey [] = none
+lastKey (r ∷ seen) = some (r .key)
+
+-- a sheet whose keys are valid and rise; its blocks are not judged
+unfoldable pub sheet : SheetForm (List SheetRecord)
+sheet = behindMark
+    (listed 4 λ seen. such (λ (r : SheetRecord). rises (lastKey seen) (r .key)) misframed
+    (such (λ (r : SheetRecord). isKey (r .key)) misframed frame))
+
+-- ---- the verdict
+-- a refusal in a record
+abbrev pub inRecord : {A : Type 0} → ℕ → Answer A → Answer A
+inRecord i (good a) = good a
+inRecord i (refusal n r o) = refusal n i o
+
+-- what follows bytes that are framed, or 15 in a record
+abbrev pub framed : {A B : Type 0} → ℕ → Read Misframed A → (A → ℕ → Answer B) → Answer B
+framed i (done a n) f = f a n
+framed i (refused e p) f = refusal sheetMalformed i 0
+
+-- a record judged against the last key: key 9, rising 15, block 1 to 8
+unfoldable pub judgeRecord : Option ℤ → SheetRecord → Answer Placed
+judgeRecord last r = thenAnswer (splitOf (r .key)) λ c. pick (rises last (r .key)) (mapAnswer (placed c) (blockOf (r .block))) (plain sheetMalformed)
+
+-- So many records, the first of which is the i-th, after the last key: of each the framing, 15, and what it is judged. Then no byte more, 15.
+unfoldable pub recordsFrom : ℕ → ℕ → Option ℤ → List ℕ → Answer (List Placed)
+recordsFrom zero i last s = pick (eqb (length s) 0) (good []) (refusal sheetMalformed i 0)
+recordsFrom (suc k) i last s =
+    framed i (frame .read s) λ r n.
+    thenAnswer (inRecord i (judgeRecord last r)) λ x.
+    mapAnswer (λ (l : List Placed). x ∷ l) (recordsFrom k (suc i) (some (r .key)) (drop n s))
+
+-- the blocks of a sheet: header 15, as record 0, and then its records
+unfoldable pub sheetOf : List ℕ → Answer (List Placed)
+sheetOf s = framed 0 (sheetHead .read s) λ n k. recordsFrom n 0 none (drop k s)
+
+-- ---- the tally: 10, 12, then the sheet's own, then 11, then 14 for its rows; the last two have the record count as record
+module _ (m : Measure) where
+  unfoldable pub fittedSheet : ℕ → MeasureRows m → ℕ → Answer (List ℕ)
+  fittedSheet room l n = pick (leb (length (tally (m .kind) .encode l)) room)
+      (pick (leb (length l) mostRows) (good (tally (m .kind) .encode l)) (refusal tooMany n 0))
+      (refusal noRoom n 0)
+
+  -- `spare` is the length of the spare buffer
+  unfoldable pub tallySheetOf : List ℕ → Part → ℕ → ℕ → Answer (List ℕ)
+  tallySheetOf s p room spare = pick (goodPart p)
+      (pick (leb room spare)
+      (thenAnswer (sheetOf s) λ l. fittedSheet room (tallyOf m (nodesIn p l)) (length l))
+      (plain partsMisfit))
+      (plain badPart)

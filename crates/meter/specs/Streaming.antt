@@ -1,0 +1,46 @@
+-- A sheet tallied a record at a time: start, step and finish.
+use Prim.Native.Nat.{ℕ, suc}
+use mathlib.Core.List.{List, [], _∷_}
+use mathlib.Core.Option.{Option, some, none}
+use lib.Dec.{leb}
+use lib.IntN.{ℤ}
+use Rattle.wire.specs.Choice.{pick}
+use Rattle.wire.specs.Answer.{Answer, good, plain, badPart, partsMisfit}
+use Rattle.tally.specs.Rows.{plus}
+use Rattle.meter.specs.Standing.{Part, goodPart, Placed, nodesIn}
+use Rattle.meter.specs.Counting.{Measure, MeasureRows, tallyOf}
+use Rattle.meter.specs.Tallying.{thenAnswer}
+use Rattle.meter.specs.Sheet.{SheetRecord, inRecord, judgeRecord, fittedSheet}
+
+module _ (m : Measure) where
+  -- between two records: the last key, how many records were taken, and the rows of what they hold
+  pub record State : Type 0 where
+    pub last : Option ℤ
+    pub records : ℕ
+    pub rows : MeasureRows m
+
+  abbrev pub noRecords : State
+  noRecords = record { last = none; records = 0; rows = [] }
+
+  -- 10, then 12 for a spare shorter than the room
+  unfoldable pub startOf : Part → ℕ → ℕ → Answer State
+  startOf p room spare = pick (goodPart p) (pick (leb room spare) (good noRecords) (plain partsMisfit)) (plain badPart)
+
+  -- a record taken
+  abbrev pub taking : Part → State → ℤ → Placed → State
+  taking p w key x = record { last = some key; records = suc (w .records); rows = plus (m .kind .counts) (tallyOf m (nodesIn p (x ∷ []))) (w .rows) }
+
+  unfoldable pub stepOf : Part → State → SheetRecord → Answer State
+  stepOf p w r = thenAnswer (inRecord (w .records) (judgeRecord (w .last) r)) λ x. good (taking p w (r .key) x)
+
+  unfoldable pub stepsOf : Part → State → List SheetRecord → Answer State
+  stepsOf p w [] = good w
+  stepsOf p w (r ∷ l) = thenAnswer (stepOf p w r) λ v. stepsOf p v l
+
+  -- 11, then 14
+  abbrev pub finishOf : ℕ → State → Answer (List ℕ)
+  finishOf room w = fittedSheet m room (w .rows) (w .records)
+
+  -- start, a step for each record, finish
+  abbrev pub streamOf : Part → ℕ → ℕ → List SheetRecord → Answer (List ℕ)
+  streamOf p room spare l = thenAnswer (startOf p room spare) λ w. thenAnswer (stepsOf p w l) λ v. finishOf room v

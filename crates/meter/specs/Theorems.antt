@@ -1,0 +1,193 @@
+-- What holds of tallying: the counts of demand 2, and demand 3, whole. All of it is over the definitions that the contracts cite.
+use Prim.Native.Nat.{ℕ, suc, _+_, _<_, _≤_, _^_}
+use mathlib.Core.Path.{_≡_}
+use mathlib.Core.Logic.{_↔_}
+use mathlib.Core.Bool.{true}
+use mathlib.Core.List.{List, [], _∷_, _++_}
+use lib.IntN.{ℤ}
+use lib.ListN.{length, take}
+use Rattle.wire.specs.Bytes.{Bytes}
+use Rattle.wire.specs.Read.{refused}
+use Rattle.wire.specs.Format.{encodeItems}
+use Rattle.wire.specs.Answer.{Answer, good, refusal, mapAnswer, lent, sheetMalformed}
+use Rattle.position.specs.Keys.{splitOf}
+use Rattle.position.specs.Spans.{inSpan}
+use Rattle.mapblock.specs.Data.{Block}
+use Rattle.mapblock.specs.Layout.{all}
+use Rattle.mapblock.specs.Block.{block}
+use Rattle.mapblock.specs.Questions.{blockOf, nameAt}
+use Rattle.mapblock.specs.Valid.{Valid}
+use Rattle.tally.specs.Rows.{countIn}
+use Rattle.tally.specs.Tally.{tally}
+use Rattle.tally.specs.Theorems.{Merger, merged, Merges, MergeLaw, EmptyChangesNothing, rowsIn, sumOf, Fits}
+use Rattle.meter.specs.Standing.{Part, goodPart, Placed, nodesIn}
+use Rattle.meter.specs.Counting.{Measure, tallyOf, amountOf, byOne}
+use Rattle.meter.specs.Tallying.{thenAnswer, placedAt, tallyBlockOf}
+use Rattle.meter.specs.Sheet.{Misframed, SheetRecord, frame, sheetHead, sheet, sheetOf, tallySheetOf}
+use Rattle.meter.specs.Streaming.{State, startOf, stepsOf, finishOf}
+use Rattle.meter.specs.Cuts.{Cuts, Partition}
+
+-- ---- sheets
+-- a record that is taken: its key is that of the place, and its bytes are those of the block, which is well formed
+pub record RecordIs (r : SheetRecord) (x : Placed) : Type 0 where
+  pub key : splitOf (r .key) ≡ good (x .at)
+  pub valid : Valid (x .block)
+  pub bytes : r .block ≡ block all .encode (x .block)
+
+abbrev pub RecordsAre : List SheetRecord → List Placed → Type 0
+RecordsAre [] [] = Unit {0}
+RecordsAre [] (x ∷ l) = ⊥
+RecordsAre (r ∷ rs) [] = ⊥
+RecordsAre (r ∷ rs) (x ∷ l) = RecordIs r x × RecordsAre rs l
+
+-- A sheet is taken, with these blocks, exactly when it is the bytes of records whose keys are valid and rise, and which are taken.
+abbrev pub SheetTaken : Type 0
+SheetTaken = (s : List ℕ) (l : List Placed) → Bytes s → (sheetOf s ≡ good l) ↔ ((rs : List SheetRecord) × sheet .Ok rs × (s ≡ sheet .encode rs) × RecordsAre rs l)
+
+-- ---- streaming
+-- a sheet that states n records: these records, each framed, and then these bytes
+abbrev pub sheetBytes : ℕ → List SheetRecord → List ℕ → List ℕ
+sheetBytes n rs rest = sheetHead .encode n ++ (encodeItems (λ _. frame) [] rs ++ rest)
+
+abbrev pub Framed : List SheetRecord → Type 0
+Framed [] = Unit {0}
+Framed (r ∷ rs) = frame .Ok r × Framed rs
+
+-- a record at a time, up to the end of those framed
+abbrev pub streamed : (m : Measure) → Part → ℕ → ℕ → List SheetRecord → (State m → Answer (List ℕ)) → Answer (List ℕ)
+streamed m p room spare rs end = thenAnswer (startOf m p room spare) λ w. thenAnswer (stepsOf m p w rs) end
+
+-- 15 at the record that comes next
+abbrev pub broken : (m : Measure) → State m → Answer (List ℕ)
+broken m v = refusal sheetMalformed (v .records) 0
+
+-- Start, a step for each record and finish answer what tallying the sheet answers; and where a record is not whole, or bytes follow the
+-- last one, so do start and the steps with 15 at the end.
+pub record Streams (m : Measure) : Type 0 where
+  pub whole : (p : Part) (room spare : ℕ) (rs : List SheetRecord) → Framed rs → length rs < 256 ^ 4
+      → tallySheetOf m (sheetBytes (length rs) rs []) p room spare ≡ streamed m p room spare rs (finishOf m room)
+  pub short : (p : Part) (room spare n : ℕ) (rs : List SheetRecord) (rest : List ℕ) (e : Misframed) (q : ℕ) → Framed rs → n < 256 ^ 4 → length rs < n → frame .read rest ≡ refused e q
+      → tallySheetOf m (sheetBytes n rs rest) p room spare ≡ streamed m p room spare rs (broken m)
+  pub longer : (p : Part) (room spare : ℕ) (rs : List SheetRecord) (rest : List ℕ) → Framed rs → length rs < 256 ^ 4 → 0 < length rest
+      → tallySheetOf m (sheetBytes (length rs) rs rest) p room spare ≡ streamed m p room spare rs (broken m)
+
+-- ---- what is tallied: the block at a key, or a sheet with a spare of some length
+pub data Source : Type 0 where
+  one-block : ℤ → List ℕ → Source
+  whole-sheet : List ℕ → ℕ → Source
+
+-- its blocks, or why there are none
+abbrev pub blocksOf : Source → Answer (List Placed)
+blocksOf (one-block key s) = mapAnswer (λ (x : Placed). x ∷ []) (placedAt key s)
+blocksOf (whole-sheet s spare) = sheetOf s
+
+-- a spare at least as long as the room
+abbrev pub SpareFits : Source → ℕ → Type 0
+SpareFits (one-block key s) room = Unit {0}
+SpareFits (whole-sheet s spare) room = room ≤ spare
+
+-- what a call can hand over
+abbrev pub IsBytes : Source → Type 0
+IsBytes (one-block key s) = Bytes s
+IsBytes (whole-sheet s spare) = Bytes s
+
+-- what tallying a part answers, and what the output lent holds then
+abbrev pub Tallier : Type 0
+Tallier = Source → Part → List ℕ → Answer ℕ × List ℕ
+
+-- the part's tally, by an output as long as the room and read at the length told
+pub record Gives (f : Tallier) (room : ℕ) (x : Source) (p : Part) (t : List ℕ) : Type 0 where
+  pub out : List ℕ
+  pub size : length out ≡ room
+  pub told : ℕ
+  pub done : f x p out .0 ≡ good told
+  pub bytes : t ≡ take told (f x p out .1)
+
+module _ (m : Measure) where
+  -- the one that the contracts cite
+  abbrev pub tallyFrom : Source → Part → ℕ → Answer (List ℕ)
+  tallyFrom (one-block key s) p room = tallyBlockOf m key s p room
+  tallyFrom (whole-sheet s spare) p room = tallySheetOf m s p room spare
+
+  abbrev pub tallied : Tallier
+  tallied x p out = (mapAnswer length (tallyFrom x p (length out)), lent (tallyFrom x p (length out)) out)
+
+  -- ---- demand 2: when a part is tallied, and what its tally counts
+  -- The part is good, the spare is long enough, the blocks are taken, and the rows of what stands in the part fit.
+  pub record Talliable (room : ℕ) (x : Source) (p : Part) : Type 0 where
+    pub good-part : goodPart p ≡ true
+    pub spare : SpareFits x room
+    pub blocks : List Placed
+    pub taken : blocksOf x ≡ good blocks
+    pub fits : Fits (m .kind) room (tallyOf m (nodesIn p blocks))
+
+  -- for every name the tally counts the positions in the part that bear it
+  abbrev pub CountsOf : Source → Part → List ℕ → Type 0
+  CountsOf x p t = (l : List Placed) × (blocksOf x ≡ good l) × ((n : List ℕ) → countIn (m .kind .counts) (rowsIn (m .kind) t) n ≡ amountOf m n (nodesIn p l))
+
+  pub record Exact (f : Tallier) : Type 0 where
+    -- "Tallying is refused only where document 01 says so"
+    pub tallied-where : (room : ℕ) (x : Source) (p : Part) → IsBytes x → ((t : List ℕ) × Gives f room x p t) ↔ Talliable room x p
+    -- "and gives each name the exact number of node positions"
+    pub counts : (room : ℕ) (x : Source) (p : Part) (t : List ℕ) → IsBytes x → Gives f room x p t → CountsOf x p t
+
+  -- ---- demand 3: cuts
+  -- the tallies of all the parts
+  abbrev pub AllGive : Tallier → ℕ → Source → List Part → List (List ℕ) → Type 0
+  AllGive f room x [] [] = Unit {0}
+  AllGive f room x [] (t ∷ ts) = ⊥
+  AllGive f room x (p ∷ ps) [] = ⊥
+  AllGive f room x (p ∷ ps) (t ∷ ts) = Gives f room x p t × AllGive f room x ps ts
+
+  pub record CutLaw (f : Tallier) (g : Merger) (room : ℕ) (x : Source) (whole : Part) (parts : List Part) : Type 0 where
+    -- the whole is tallied exactly when every part is and the parts' sum fits
+    pub exactly : ((t : List ℕ) × Gives f room x whole t) ↔ ((ts : List (List ℕ)) × AllGive f room x parts ts × Fits (m .kind) room (sumOf (m .kind) ts))
+    -- each counts the positions, the whole and every part alike
+    pub counts : (p : Part) (t : List ℕ) → Gives f room x p t → CountsOf x p t
+    -- one part has the whole's bytes
+    pub one-part : (t u : List ℕ) → Gives f room x whole t → AllGive f room x parts (u ∷ []) → u ≡ t
+    -- of two parts or more no merge is refused, and as many merges as leave one leave the whole's bytes
+    pub merges : (t a b : List ℕ) (more : List (List ℕ)) (made : ℕ) (log : List ℕ) (left : List (List ℕ))
+        → Gives f room x whole t → AllGive f room x parts (a ∷ b ∷ more) → Merges g room (a ∷ b ∷ more) made log left
+        → (log ≡ []) × (suc made ≡ length (a ∷ b ∷ more) → left ≡ t ∷ [])
+
+  -- of any list of parts in which each node of the whole lies in exactly one
+  abbrev pub PartitionLaw : Tallier → Merger → Type 0
+  PartitionLaw f g = (room : ℕ) (x : Source) (whole p : Part) (ps : List Part) → IsBytes x → Partition whole (p ∷ ps) → CutLaw f g room x whole (p ∷ ps)
+
+  -- Demand 3: the merge law, that the empty tally changes nothing, and the cut law for every block or sheet and every list of cuts.
+  pub record Demand3 : Type 0 where
+    pub merges : MergeLaw (m .kind)
+    pub empty : EmptyChangesNothing (m .kind)
+    pub cuts : (room : ℕ) (x : Source) (whole : Part) (parts : List Part) → IsBytes x → Cuts whole parts → CutLaw tallied (merged (m .kind)) room x whole parts
+
+  -- ---- what may not slip through: document 01, the section of that name
+  abbrev pub AlwaysEmpty : Tallier → Type 0
+  AlwaysEmpty f = (room : ℕ) (x : Source) (p : Part) (t : List ℕ) → IsBytes x → Gives f room x p t → t ≡ tally (m .kind) .encode []
+
+  abbrev pub RefusesAll : Tallier → Type 0
+  RefusesAll f = (room : ℕ) (x : Source) (p : Part) (t : List ℕ) → Gives f room x p t → ⊥
+
+  -- a tally that counts of some name what does not stand there
+  pub record Invents (f : Tallier) : Type 0 where
+    pub room : ℕ
+    pub x : Source
+    pub p : Part
+    pub t : List ℕ
+    pub bytes : IsBytes x
+    pub gives : Gives f room x p t
+    pub l : List Placed
+    pub taken : blocksOf x ≡ good l
+    pub name : List ℕ
+    pub differs : countIn (m .kind .counts) (rowsIn (m .kind) t) name ≡ amountOf m name (nodesIn p l) → ⊥
+
+  -- tallying that is exact does none of this
+  abbrev pub ShutOut : Type 0
+  ShutOut = (f : Tallier) → Exact f → (AlwaysEmpty f → ⊥) × (RefusesAll f → ⊥) × (Invents f → ⊥)
+
+-- ---- names and nothing else
+-- Blocks that bear the same name at every node get the same answer, at one key and for every part that both or neither is saved within.
+abbrev pub NamesAlone : Type 0
+NamesAlone = (key : ℤ) (s u : List ℕ) (b c : Block) (p : Part) (room : ℕ) → blockOf s ≡ good b → blockOf u ≡ good c
+    → ((i : ℕ) → i < 4096 → nameAt b i ≡ nameAt c i) → inSpan (p .span) (b .head .timestamp) ≡ inSpan (p .span) (c .head .timestamp)
+    → tallyBlockOf byOne key s p room ≡ tallyBlockOf byOne key u p room

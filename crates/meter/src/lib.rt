@@ -1,0 +1,1 @@
+// The meter: the nodes that stand in a part of the world, counted name by name.

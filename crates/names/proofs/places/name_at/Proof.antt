@@ -1,0 +1,62 @@
+use borrow.Author.Needs.{needs}
+use mathlib.Core.Path.{_≡_, ap, sym, _∙_}
+use mathlib.Core.List.{[]}
+use denote.Ref.{now}
+use Rattle.mapblock.specs.Data.{NameRow}
+use Rattle.mapblock.specs.Told.{toldName}
+use Rattle.names.proofs.RowsAt.{row-beyond, row-refused, row-id, row-name}
+use Rattle.names.proofs.places.name_at.Statement.{statement}
+use Rattle.names.proofs.places.name_at.Tie as tie
+
+slice-aggregate-result : tie.Need-slice-aggregate-result
+slice-aggregate-result c = search needs
+
+returns : tie.Need-returns
+returns c = ap (λ (r : NameRow). r .name) (sym (row-beyond _ _ (c .before .if1 .taken)))
+
+sub-rest : tie.Need-sub-rest
+sub-rest c = search needs
+
+part-rest-start : tie.Need-part-rest-start
+part-rest-start c = search needs
+
+part-rest-end : tie.Need-part-rest-end
+part-rest-end c = search needs
+
+name-row-requires : tie.Need-name-row-requires
+name-row-requires c κs = search needs
+
+enum-told : tie.Need-enum-told
+enum-told c = search needs
+
+slice-aggregate-result-2 : tie.Need-slice-aggregate-result-2
+slice-aggregate-result-2 c = search needs
+
+enum-known-row : tie.Need-enum-known-row
+enum-known-row c = search needs
+
+cut-requires : tie.Need-cut-requires
+cut-requires c κs = search needs
+
+returns-2 : tie.Need-returns-2
+returns-2 c = ap (λ (r : NameRow). r .name) (sym (row-refused _ _ (sym (ap toldName (c .before .enum-told .given .1)) ∙ c .before .before .before .name-row .ensures)))
+
+returns-3 : tie.Need-returns-3
+returns-3 c = c .cut .ensures ∙ row-name _ _ (sym (ap toldName (c .before .before .row .given .1)) ∙ c .before .before .before .before .name-row .ensures) (λ i. c .before .before .before .before .before .before .before .shared-slice-known .given i .fits)
+
+pub name-at-spec : {M : Type 1} → statement M
+name-at-spec =
+    tie.close
+    (tie.spec
+    slice-aggregate-result
+    returns
+    sub-rest
+    part-rest-start
+    part-rest-end
+    name-row-requires
+    enum-told
+    slice-aggregate-result-2
+    enum-known-row
+    cut-requires
+    returns-2
+    returns-3)

@@ -1,0 +1,46 @@
+-- Places in the order of their names.
+use Prim.Native.Nat.{ℕ, _+_, _≤_}
+use mathlib.Core.Path.{_≡_}
+use mathlib.Core.Bool.{Bool, true, false}
+use mathlib.Core.List.{List, [], _∷_}
+use lib.Dec.{ltb}
+use lib.ListN.{length, take, drop, getD}
+use Rattle.wire.specs.Choice.{pick}
+use Rattle.wire.specs.Order.{order}
+use Rattle.tally.specs.Rows.{choose}
+use Rattle.names.specs.Places.{rowAt}
+
+-- whether the name at p comes before that at q
+abbrev pub comesBefore : List ℕ → ℕ → ℕ → Bool
+comesBefore s p q = choose (order (rowAt s p .name) (rowAt s q .name)) true false false
+
+-- no name of the places comes before that at p
+abbrev pub Low : List ℕ → ℕ → List ℕ → Type 0
+Low s p [] = Unit {0}
+Low s p (q ∷ qs) = (comesBefore s q p ≡ false) × Low s p qs
+
+-- the names of the places do not fall
+abbrev pub Rising : List ℕ → List ℕ → Type 0
+Rising s [] = Unit {0}
+Rising s (p ∷ ps) = Low s p ps × Rising s ps
+
+-- a sum over places
+abbrev pub total : (ℕ → ℕ) → List ℕ → ℕ
+total f [] = 0
+total f (p ∷ ps) = f p + total f ps
+
+-- the places ys are the places xs in the order of their names: every sum over them is the same
+pub record Arranged (s xs ys : List ℕ) : Type 0 where
+  pub rises : Rising s ys
+  pub same : (f : ℕ → ℕ) → total f ys ≡ total f xs
+
+-- whether the next of two runs of places, a from i to mid and a from j on, is the first's
+abbrev pub leftAt : List ℕ → List ℕ → ℕ → ℕ → ℕ → Bool
+leftAt s a i mid j = pick (ltb i mid) (pick (ltb j (length a)) (pick (comesBefore s (getD a j 0) (getD a i 0)) false true) true) false
+
+-- two runs of places, each in order, that a room can take
+pub record Joins (s a : List ℕ) (mid : ℕ) (b : List ℕ) : Type 0 where
+  pub cut : mid ≤ length a
+  pub room : length a ≤ length b
+  pub first : Rising s (take mid a)
+  pub second : Rising s (drop mid a)

@@ -1,0 +1,30 @@
+-- The rows of names that a block uses: those whose id has a count.
+use Prim.Native.Nat.{ℕ, _+_, _≤_}
+use mathlib.Core.List.{List, [], _∷_}
+use lib.Dec.{eqb}
+use lib.ListN.{length, getD}
+use Rattle.wire.specs.Choice.{pick}
+use Rattle.mapblock.specs.Data.{NameRow}
+use Rattle.tally.specs.Rows.{Rows}
+use Rattle.tally.specs.Tally.{ones}
+use Rattle.names.specs.Places.{countAt}
+
+-- the places of the rows whose id has a count, for rows that start at a place
+unfoldable pub usedIn : List ℕ → List NameRow → ℕ → List ℕ
+usedIn t [] at = []
+usedIn t (r ∷ l) at = pick (eqb (getD t (r .id) 0) 0) (usedIn t l (at + 4 + length (r .name))) (at ∷ usedIn t l (at + 4 + length (r .name)))
+
+-- the rows of a tally that they make
+unfoldable pub counted : List ℕ → List NameRow → Rows ones
+counted t [] = []
+counted t (r ∷ l) = pick (eqb (getD t (r .id) 0) 0) (counted t l) (record { name = r .name; count = getD t (r .id) 0 } ∷ counted t l)
+
+-- every place has a name that is counted
+abbrev pub Counted : List ℕ → List ℕ → List ℕ → Type 0
+Counted s t [] = Unit {0}
+Counted s t (p ∷ ps) = (1 ≤ countAt s t p) × Counted s t ps
+
+-- the sum of all counts
+abbrev pub heavy : Rows ones → ℕ
+heavy [] = 0
+heavy (r ∷ l) = r .count + heavy l

@@ -1,0 +1,45 @@
+// The names that a block uses, found by their counts.
+use mapblock::names::NameRead;
+use mapblock::names::name_row;
+ghost use mathlib.Core.Path.{_≡_};
+ghost use mathlib.Core.List.{List};
+ghost use Prim.Native.Nat.{_≤_};
+ghost use lib.ListN.{length, take};
+ghost use Rattle.mapblock.specs.Data.{NameRow};
+ghost use Rattle.mapblock.specs.Questions.{NameRun};
+ghost use Rattle.names.specs.Used.{usedIn};
+
+// An array has the length that its type says; this says so to proofs, and does nothing.
+fn sized(places: &[usize; 4096])
+    ensures { λ _. ⌜ length (now (places .entry)) ≡ 4096 ⌝ }
+{
+    let _whole: &[usize] = places;
+}
+
+// Stores the places of the rows whose id has a count, and says how many; it ends with the rows, or where the room does.
+pub fn used(s: &[u8], counts: &[u16; 65536], places: &mut [usize; 4096]) -> usize
+    ensures { λ r. ⌜ r ≤ 4096 ⌝ }
+    ensures { λ r. ⌜ ((l : List NameRow) → NameRun (now (s .entry)) l → length (usedIn (now (counts .entry)) l 0) ≤ 4096 → take r (now (places .exit)) ≡ usedIn (now (counts .entry)) l 0) ⌝ }
+{
+    sized(places);
+    let mut rest = s;
+    let mut at: usize = 0;
+    let mut n: usize = 0;
+    while n < 4096 {
+        match name_row(rest) {
+            NameRead::Refused(_, _) => {
+                return n;
+            }
+            NameRead::Row(row, size) => {
+                let id = row.id as usize;
+                if counts[id] != 0 {
+                    places[n] = at;
+                    n += 1;
+                }
+                rest = &rest[size..];
+                at += size;
+            }
+        }
+    }
+    n
+}
