@@ -3,6 +3,7 @@ pub mod Amounts
 pub mod Blocks
 -- Sheets, whole and a record at a time.
 pub mod Steps
+pub mod Judging
 pub mod SheetTaken
 pub mod Streaming
 -- When a part is tallied, and what its tally counts.

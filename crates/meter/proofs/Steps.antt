@@ -7,7 +7,7 @@ use mathlib.Core.Option.{Option, some, none}
 use native.Mathlib.Omega.{arith}
 use lib.Dec.{leb}
 use lib.IntN.{ℤ}
-use lib.ListN.{length, drop}
+use lib.ListN.{length, drop, take}
 use lib.Seq.{drop-drop, drop-append-seam}
 use borrow.Author.Tests.{leb-true, leb-false, eq-eqb, ne-eqb}
 use Rattle.wire.specs.Choice.{pick}
@@ -44,6 +44,13 @@ module _ (s : List ℕ) where
     pub frame-done : {b : List ℕ} {n : ℕ} → done b n ≡ counted {ends = short} 4 .read (drop 8 s) → frame .read s ≡ done (record { key = key; block = b }) (8 + n)
     unfolding frame along _⨾_
     frame-done g = rw (signed-told misframed 8 half64 refl s h, counted-told misframed 4 (drop 8 s) g)
+
+  -- the same by the leaves' places: the block stands behind both
+  pub frame-read : {key : ℤ} (n : ℕ) → done key 8 ≡ s64 {ends = short} .read s → done (take n (drop 4 (drop 8 s))) (4 + n) ≡ counted {ends = short} 4 .read (drop 8 s)
+      → frame .read s ≡ done (record { key = key; block = take n (drop 12 s) }) (12 + n)
+  frame-read n h g =
+      let end : 8 + (4 + n) ≡ 12 + n = omega arith in
+      frame-done h g ∙ rw (end, drop-drop 4 8 s)
 
 -- ---- the head: the mark, the version, the number of records
 abbrev versioned : SheetForm ℕ

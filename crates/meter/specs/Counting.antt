@@ -2,19 +2,18 @@
 -- than one number to a row shares every law.
 use Prim.Native.Nat.{ℕ, _+_, _<_}
 use mathlib.Core.Path.{_≡_, refl}
-use mathlib.Core.Bool.{Bool, true, false}
+use mathlib.Core.Bool.{Bool, true}
 use mathlib.Core.List.{List, [], _∷_}
 use native.Mathlib.Omega.{arith}
 use lib.ListN.{length}
 use borrow.Author.Tests.{le-leb}
-use Rattle.wire.specs.Order.{order}
-use Rattle.tally.specs.Rows.{addRow, choose}
+use Rattle.tally.specs.Rows.{addRow, isNamed}
 use Rattle.tally.specs.Tally.{Kind, KindRow, KindRows, one}
 use Rattle.meter.specs.Standing.{Node, those}
 
 -- the nodes that bear a name
 abbrev pub bears : List ℕ → Node → Bool
-bears n x = choose (order (x .name) n) false true false
+bears n x = isNamed n (x .name)
 
 abbrev pub bearing : List ℕ → List Node → List Node
 bearing n l = those (bears n) l

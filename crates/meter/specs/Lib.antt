@@ -5,6 +5,8 @@ pub mod Counting
 pub mod Tallying
 pub mod Sheet
 pub mod Streaming
+-- What the functions of this crate promise each other.
+pub mod Records
 -- What holds of them.
 pub mod Cuts
 pub mod Theorems

@@ -1,1 +1,4 @@
 // The meter: the nodes that stand in a part of the world, counted name by name.
+pub mod head;
+pub mod part;
+pub mod records;

@@ -37,6 +37,10 @@ choose Before x y z = x
 choose Same x y z = y
 choose After x y z = z
 
+-- whether m is the name n
+abbrev pub isNamed : List ℕ → List ℕ → Bool
+isNamed n m = choose (order m n) false true false
+
 module _ (S : Counts) where
   abbrev pub Rows : Type 0
   Rows = List (Row (S .C))

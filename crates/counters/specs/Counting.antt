@@ -1,0 +1,52 @@
+-- Counting the nodes of a block that lie in a lot: document 01, 'Tallies, lots, spans, sheets'.
+use Prim.Native.Nat.{ℕ, zero, suc, _+_, _%_, _<_}
+use mathlib.Core.Path.{_≡_}
+use mathlib.Core.Bool.{Bool, true, false, _&&_}
+use mathlib.Core.List.{List, [], _∷_}
+use lib.Dec.{eqb}
+use lib.ListN.{length, getD}
+use Rattle.position.specs.Nodes.{nodeAt}
+use Rattle.position.specs.Lots.{inLot}
+use Rattle.position.specs.declared.key.Coordinates.{Coordinates}
+use Rattle.position.specs.declared.lot.Lot.{Lot}
+use Rattle.mapblock.specs.Data.{NameRow}
+use Rattle.mapblock.specs.Params.{idIn}
+use Rattle.tally.specs.Rows.{Rows}
+use Rattle.tally.specs.Tally.{ones}
+
+abbrev pub bit : Bool → ℕ
+bit true = 1
+bit false = 0
+
+-- how many i with a ≤ i < a + n pass the test
+unfoldable pub cnt : (ℕ → Bool) → ℕ → ℕ → ℕ
+cnt p a zero = 0
+cnt p a (suc n) = cnt p a n + bit (p (a + n))
+
+-- ---- by content id
+-- the node at an index lies in the lot
+abbrev pub inLotAt : Lot → Coordinates → ℕ → Bool
+inLotAt l c i = let n = nodeAt c i in inLot l (n .x) (n .y) (n .z)
+
+-- and has the content id k
+abbrev pub inLotWith : ℕ → List ℕ → Lot → Coordinates → ℕ → ℕ → Bool
+inLotWith v s l c k i = inLotAt l c i && eqb (idIn v s i) k
+
+-- the counters, after the nodes in the lot each raised that of their id by one
+pub record Counted (v : ℕ) (s : List ℕ) (l : Lot) (c : Coordinates) (old new : List ℕ) : Type 0 where
+  pub long : length new ≡ length old
+  pub each : (k : ℕ) → k < 65536 → getD new k 0 ≡ (getD old k 0 + cnt (inLotWith v s l c k) 0 4096) % 65536
+
+-- ---- by name
+-- how many of a block's nodes pass a test and have the content id k
+abbrev pub byId : (ℕ → Bool) → (ℕ → ℕ) → ℕ → ℕ
+byId q ids k = cnt (λ i. q i && eqb (ids i) k) 0 4096
+
+-- the content id that a row of names maps
+abbrev pub rowId : NameRow → ℕ
+rowId r = r .id
+
+-- the rows of names, each with what is told of its id
+abbrev pub told : (ℕ → ℕ) → List NameRow → Rows ones
+told f [] = []
+told f (r ∷ l) = record { name = r .name; count = f (r .id) } ∷ told f l

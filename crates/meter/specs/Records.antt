@@ -1,0 +1,80 @@
+-- A sheet's head and its records, as the code reads and judges them.
+use Prim.Native.Nat.{ℕ, _+_}
+use mathlib.Core.Path.{_≡_}
+use mathlib.Core.List.{List}
+use mathlib.Core.Option.{Option, some, none}
+use lib.IntN.{ℤ}
+use lib.ListN.{take, drop, replicate}
+use Rattle.wire.specs.Read.{Read, done, refused}
+use Rattle.wire.specs.Answer.{Answer, good, refusal, outOfRange, sheetMalformed}
+use Rattle.mapblock.specs.Data.{Block}
+use Rattle.mapblock.specs.Layout.{all}
+use Rattle.mapblock.specs.Block.{verdict}
+use Rattle.mapblock.specs.Numbers.{number}
+use Rattle.mapblock.specs.Sections.{found}
+use Rattle.mapblock.specs.declared.scan.Found.{Found}
+use Rattle.meter.specs.Standing.{Placed}
+use Rattle.meter.specs.Sheet.{Misframed, misframed, SheetRecord, sheetHead, frame}
+use Rattle.meter.specs.declared.head.HeadRead.{HeadRead}
+use Rattle.meter.specs.declared.head.HeadRead.the-variants as heads
+use Rattle.meter.specs.declared.records.FrameRead.{FrameRead}
+use Rattle.meter.specs.declared.records.FrameRead.the-variants as frames
+use Rattle.meter.specs.declared.records.LastKey.{LastKey}
+use Rattle.meter.specs.declared.records.LastKey.the-variants as lasts
+use Rattle.meter.specs.declared.records.RecordFault.{RecordFault}
+use Rattle.meter.specs.declared.records.RecordFault.the-variants as faults
+use Rattle.meter.specs.declared.records.RecordAnswer.{RecordAnswer}
+use Rattle.meter.specs.declared.records.RecordAnswer.the-variants as records
+
+-- a table of which nothing is set
+unfoldable pub clearTable : List ℕ
+clearTable = replicate 65536 0
+
+-- ---- the framing: of what is not framed no place is told
+-- whatever the place of the fault
+pub data Misread {A : Type 0} (r : Read Misframed A) : Type 0 where
+  at-place : (p : ℕ) → r ≡ refused misframed p → Misread r
+
+-- the head tells the number of records, and has nine bytes
+abbrev pub HeadTold : List ℕ → HeadRead → Type 0
+HeadTold s (heads.Records n) = sheetHead .read s ≡ done n 9
+HeadTold s heads.Malformed = Misread (sheetHead .read s)
+
+abbrev pub recordOf : ℤ → List ℕ → SheetRecord
+recordOf key block = record { key = key; block = block }
+
+-- a record's block stands behind the eight bytes of the key and the four of the length
+abbrev pub FrameTold : List ℕ → FrameRead → Type 0
+FrameTold s (frames.Record key n) = frame .read s ≡ done (recordOf key (take n (drop 12 s))) (12 + n)
+FrameTold s frames.Misframed = Misread (frame .read s)
+
+-- ---- the verdict on a record
+abbrev pub lastOf : LastKey → Option ℤ
+lastOf lasts.Nothing = none
+lastOf (lasts.Key k) = some k
+
+abbrev pub faultNumber : RecordFault → ℕ
+faultNumber faults.OutOfRange = outOfRange
+faultNumber faults.NotRising = sheetMalformed
+faultNumber (faults.Block f p) = number f
+
+-- 0 but for 1 to 8
+abbrev pub faultOffset : RecordFault → ℕ
+faultOffset faults.OutOfRange = 0
+faultOffset faults.NotRising = 0
+faultOffset (faults.Block f p) = p
+
+-- a fault of the i-th record
+abbrev pub faulty : {A : Type 0} → RecordFault → ℕ → Answer A
+faulty f i = refusal (faultNumber f) i (faultOffset f)
+
+-- the scan found the block b in s
+pub record FoundAs (s : List ℕ) (w : Found) (b : Block) : Type 0 where
+  pub end : ℕ
+  pub taken : verdict all s ≡ done b end
+  pub shows : found b ≡ w
+
+-- what was judged of a record with these bytes
+abbrev pub RecordTold : List ℕ → RecordAnswer → Answer Placed → Type 0
+RecordTold s (records.Taken at w) a = (x : Placed) × (a ≡ good x) × (x .at ≡ at) × FoundAs s w (x .block)
+RecordTold s (records.Refused f) a = a ≡ faulty f 0

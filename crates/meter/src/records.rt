@@ -1,0 +1,83 @@
+// A sheet's records, one at a time.
+use mapblock::fault::Fault;
+use mapblock::scan::Found;
+use mapblock::scan::Judged;
+use mapblock::scan::scan;
+use position::key::Coordinates;
+use position::key::SplitAnswer;
+use position::key::split;
+use wire::fields::Counted;
+use wire::fields::S64;
+use wire::fields::counted32_at;
+use wire::fields::s64_at;
+ghost use mathlib.Core.Path.{_≡_};
+ghost use Rattle.meter.specs.Sheet.{rises, judgeRecord};
+ghost use Rattle.meter.specs.Records.{clearTable, lastOf, FrameTold, recordOf, RecordTold};
+
+// Where a record's block begins, behind its key and its length.
+pub const BLOCK_AT: usize = 12;
+
+// A record's key and the length of its block, or that it is not whole.
+pub enum FrameRead {
+    Record(i64, usize),
+    Misframed,
+}
+
+// The framing of the record at the front.
+pub fn frame(s: &[u8]) -> FrameRead
+    ensures { λ r. ⌜ FrameTold (now (s .entry)) r ⌝ }
+{
+    let S64::Value(key) = s64_at(s, 0) else {
+        return FrameRead::Misframed;
+    };
+    match counted32_at(s, 8) {
+        Counted::Ends(_) => FrameRead::Misframed,
+        Counted::Bytes(n) => FrameRead::Record(key, n),
+    }
+}
+
+// The last key that was taken, if any was.
+pub enum LastKey {
+    Nothing,
+    Key(i64),
+}
+
+// Keys rise as numbers.
+fn is_rising(last: LastKey, key: i64) -> bool
+    ensures { λ r. ⌜ r ≡ rises (lastOf last) key ⌝ }
+{
+    match last {
+        LastKey::Nothing => true,
+        LastKey::Key(k) => k < key,
+    }
+}
+
+// What may be wrong with a record, in the order in which it is judged.
+pub enum RecordFault {
+    OutOfRange,
+    NotRising,
+    Block(Fault, usize),
+}
+
+pub enum RecordAnswer {
+    // Where the block stands, and what the scan found in it.
+    Taken(Coordinates, Found),
+    Refused(RecordFault),
+}
+
+// A record judged against the last key. The table of ids is clear, and comes back as it was.
+pub fn judge_record(last: LastKey, key: i64, block: &[u8], ids: &mut [u8; 65536]) -> RecordAnswer
+    ensures { λ _. ⌜ now (ids .exit) ≡ now (ids .entry) ⌝ }
+    ensures { λ r. ⌜ (now (ids .entry) ≡ clearTable → RecordTold (now (block .entry)) r (judgeRecord (lastOf last) (recordOf key (now (block .entry))))) ⌝ }
+{
+    let SplitAnswer::At(at) = split(key) else {
+        return RecordAnswer::Refused(RecordFault::OutOfRange);
+    };
+    if !is_rising(last, key) {
+        return RecordAnswer::Refused(RecordFault::NotRising);
+    }
+    match scan(block, ids) {
+        Judged::Refused(f, p) => RecordAnswer::Refused(RecordFault::Block(f, p)),
+        Judged::Taken(found, _) => RecordAnswer::Taken(at, found),
+    }
+}
