@@ -29,7 +29,7 @@ use Rattle.mapblock.specs.declared.scan.Found.{Found}
 use Rattle.mapblock.proofs.SectionsThere.{lists-inside, lists-there, sections-are-rows}
 
 -- ---- what the scan told
-zeros-at : (n i : ℕ) → _≡_ {A = ℕ} (getD (replicate n 0) i 0) 0
+pub zeros-at : (n i : ℕ) → _≡_ {A = ℕ} (getD (replicate n 0) i 0) 0
 zeros-at zero i = refl
 zeros-at (suc n) zero = refl
 zeros-at (suc n) (suc i) = zeros-at n i

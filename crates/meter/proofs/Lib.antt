@@ -4,6 +4,10 @@ pub mod Blocks
 -- Sheets, whole and a record at a time.
 pub mod Steps
 pub mod Judging
+-- Counting a block.
+pub mod Counted
+pub mod Adding
+pub mod Putting
 pub mod SheetTaken
 pub mod Streaming
 -- When a part is tallied, and what its tally counts.

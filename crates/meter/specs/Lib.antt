@@ -7,6 +7,7 @@ pub mod Sheet
 pub mod Streaming
 -- What the functions of this crate promise each other.
 pub mod Records
+pub mod Adding
 -- What holds of them.
 pub mod Cuts
 pub mod Theorems

@@ -1,4 +1,5 @@
 // The meter: the nodes that stand in a part of the world, counted name by name.
+mod adding;
 pub mod head;
 pub mod part;
 pub mod records;

@@ -27,7 +27,7 @@ module _ (S : Counts) where
   swap : (x y z : S .C) → S .add y (S .add x z) ≡ S .add x (S .add y z)
   swap x y z = sym (S .add-assoc y x z) ∙ ap (λ (t : S .C). S .add t z) (S .add-comm y x) ∙ S .add-assoc x y z
 
-  count-add : (r : Row (S .C)) (l : Rows S) (n : List ℕ)
+  pub count-add : (r : Row (S .C)) (l : Rows S) (n : List ℕ)
       → countIn S (addRow S r l) n ≡ S .add (counted (order (r .name) n) (r .count)) (countIn S l n)
   count-add r [] n = refl
   count-add r (s ∷ l) n = go (order (r .name) (s .name)) refl (count-add r l n)
@@ -74,7 +74,7 @@ module _ (S : Counts) where
   canonical-plus (r ∷ a) b g h = canonical-add r (plus S a b) (g .0) (g .1) (g .2) (canonical-plus a b (g .4) h)
 
   -- ---- rows are determined by their counts
-  count-cons : (r : Row (S .C)) (l : Rows S) (n : List ℕ) {w : Order} → order (r .name) n ≡ w
+  pub count-cons : (r : Row (S .C)) (l : Rows S) (n : List ℕ) {w : Order} → order (r .name) n ≡ w
       → countIn S (r ∷ l) n ≡ S .add (counted w (r .count)) (countIn S l n)
   count-cons r l n e = ap (λ (w : Order). S .add (counted w (r .count)) (countIn S l n)) e
 

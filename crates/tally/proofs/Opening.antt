@@ -1,46 +1,64 @@
--- A row laid at the front of a part, and a row opened in front of bytes that move back.
-use Prim.Native.Nat.{ℕ, _+_, _-_, _≤_}
+-- A row at a place of a buffer, and a row opened in front of bytes that move back.
+use Prim.Native.Nat.{ℕ, _+_, _-_, _<_, _≤_}
 use mathlib.Core.Path.{_≡_, refl, ap, sym, _∙_}
 use mathlib.Core.List.{List, _++_, append-assoc}
-use native.Mathlib.Nat.{add-comm}
 use native.Mathlib.Omega.{arith}
 use lib.ListN.{length, take, drop, length-append}
 use lib.Seq.{drop-drop, take-at, drop-at, length-take-le}
+use borrow.Author.Tests.{le-leb, lt-leb}
 use borrow.Rule.Slice.PartMut.{putMid}
 use Rattle.wire.specs.Lists.{rest-is}
 use Rattle.wire.specs.Bytes.{spell, spell-length}
 use Rattle.wire.specs.Formats.{u16, u64}
 use Rattle.wire.specs.Store.{laid, stored, movedBack}
 use Rattle.wire.specs.Told.{short}
-use Rattle.wire.proofs.Laid.{moved-fits, part-back}
+use Rattle.wire.proofs.Laid.{laid-length, stored-fits, stored-not, moved-fits, part-back}
 use Rattle.wire.proofs.Puts.{put-run, put-number, put-two}
 use Rattle.tally.specs.Rows.{Row}
 use Rattle.tally.specs.Tally.{headBytes, fields, one}
+use Rattle.tally.specs.Walks.{rowStored}
 use Rattle.tally.specs.Sought.{opened}
 use Rattle.tally.proofs.Held.{one-bytes, one-size}
 
--- ---- the three pieces of a row, one behind the other
-pub row-laid : (r : Row ℕ) (d a b e : List ℕ) → length (r .name) + 10 ≤ length d
-    → a ≡ stored 0 (u16 {ends = short} .encode (length (r .name))) d → b ≡ stored 2 (r .name) a
-    → e ≡ stored (length (r .name) + 2) (u64 {ends = short} .encode (r .count)) b → e ≡ laid 0 (fields one .encode r) d
-row-laid r d a b e room p q s =
-    let n = r .name in
-    let size : length (spell 2 (length n) ++ (n ++ spell 8 (r .count))) ≡ length n + 10 = sym (ap length (one-bytes r)) ∙ one-size r in
-    let s′ : e ≡ stored (2 + length n) (u64 {ends = short} .encode (r .count)) b = rw (add-comm 2 (length n)) s in
-    rw one-bytes (put-two {at = 0} {u = spell 2 (length n)} (omega (arith, size)) (put-number 0 2 (length n) (omega arith) p)
-    (λ h. put-two {at = 2} {u = n} h (put-run 2 n (omega (arith, length-append n (spell 8 (r .count)))) q)
-    (λ k. put-number (2 + length n) 8 (r .count) (omega (arith, spell-length 8 (r .count))) s′)) .lays)
+-- ---- a row at a place
+module _ (at : ℕ) (r : Row ℕ) (d : List ℕ) where
+  pub row-long : 65535 < length (r .name) → rowStored at r d ≡ d
+  unfolding rowStored
+  row-long h = rw (lt-leb (length (r .name)) 65535 h)
+
+  module _ (h : length (r .name) ≤ 65535) where
+    pub row-short : length d < at + (length (r .name) + 10) → rowStored at r d ≡ d
+    unfolding rowStored
+    row-short k = rw (le-leb (length (r .name)) 65535 h, stored-not at (fields one .encode r) d (rw one-size k))
+
+    pub row-fits : at + (length (r .name) + 10) ≤ length d → rowStored at r d ≡ laid at (fields one .encode r) d
+    unfolding rowStored
+    row-fits k = rw (le-leb (length (r .name)) 65535 h, stored-fits at (fields one .encode r) d (rw one-size k))
+
+    -- its three pieces, one behind the other
+    pub row-stored : (a b e : List ℕ) → at + (length (r .name) + 10) ≤ length d
+        → a ≡ stored at (u16 {ends = short} .encode (length (r .name))) d → b ≡ stored (at + 2) (r .name) a
+        → e ≡ stored (at + 2 + length (r .name)) (u64 {ends = short} .encode (r .count)) b → e ≡ rowStored at r d
+    row-stored a b e room p q s =
+        let n = r .name in
+        let size : length (spell 2 (length n) ++ (n ++ spell 8 (r .count))) ≡ length n + 10 = sym (ap length (one-bytes r)) ∙ one-size r in
+        let lays = put-two {at = at} {u = spell 2 (length n)} (omega (arith, size)) (put-number at 2 (length n) (omega arith) p)
+        (λ h. put-two {at = at + 2} {u = n} h (put-run (at + 2) n (omega (arith, length-append n (spell 8 (r .count)))) q)
+        (λ k. put-number (at + 2 + length n) 8 (r .count) (omega (arith, spell-length 8 (r .count))) s)) .lays in
+        rw (row-fits room, one-bytes r) lays
 
 -- ---- n bytes moved back, and a row before them
-pub row-opened : (n : ℕ) (r : Row ℕ) (d a e : List ℕ) → n + (length (r .name) + 10) ≤ length d
-    → a ≡ movedBack n (length (r .name) + 10) d → e ≡ laid 0 (fields one .encode r) a → e ≡ opened n r d
-row-opened n r d a e room p q =
+pub row-opened : (n : ℕ) (r : Row ℕ) (d a e : List ℕ) → length (r .name) ≤ 65535 → n + (length (r .name) + 10) ≤ length d
+    → a ≡ movedBack n (length (r .name) + 10) d → e ≡ rowStored 0 r a → e ≡ opened n r d
+row-opened n r d a e h room p q =
     let k = length (r .name) + 10 in
     let size : 0 + length (fields one .encode r) ≡ k = omega (arith, one-size r) in
     let ends : k + length (take n d) ≡ n + length (fields one .encode r) = omega (arith, one-size r, length-take-le n d (omega arith)) in
+    let was : a ≡ laid k (take n d) d = p ∙ moved-fits n k d (omega arith) in
+    let long : length a ≡ length d = ap length was ∙ laid-length k (take n d) d (omega (arith, length-take-le n d (omega arith))) in
     let behind : drop (0 + length (fields one .encode r)) a ≡ take n d ++ drop (n + length (fields one .encode r)) d =
-    rw (size, p ∙ moved-fits n k d (omega arith), ends) (drop-at (take k d) (take n d ++ drop (n + length (fields one .encode r)) d) k (length-take-le k d (omega arith))) in
-    q ∙ ap (λ (x : List ℕ). fields one .encode r ++ x) behind
+    rw (size, was, ends) (drop-at (take k d) (take n d ++ drop (n + length (fields one .encode r)) d) k (length-take-le k d (omega arith))) in
+    q ∙ row-fits 0 r a h (omega arith) ∙ ap (λ (x : List ℕ). fields one .encode r ++ x) behind
 
 -- ---- bytes laid over as many others
 shape : (A u m v Z : List ℕ) → A ++ ((u ++ (m ++ v)) ++ Z) ≡ (A ++ (u ++ m)) ++ (v ++ Z)

@@ -21,7 +21,7 @@ use Rattle.tally.proofs.Canon.{above-weak}
 use Rattle.tally.proofs.Held.{rows-append, FirstRow, row-inside, first-row, no-row, one-size}
 use Rattle.tally.proofs.FrontRows.{name-part}
 
-below-append : (n : List ℕ) (D E : Rows ones) → Below ones n D → Below ones n E → Below ones n (D ++ E)
+pub below-append : (n : List ℕ) (D E : Rows ones) → Below ones n D → Below ones n E → Below ones n (D ++ E)
 below-append n [] E b e = e
 below-append n (r ∷ D) E b e = (b .0, below-append n D E (b .1) e)
 

@@ -9,7 +9,8 @@ use Rattle.wire.specs.Answer.{Answer, mapAnswer, lent}
 use Rattle.wire.specs.Choice.{pick}
 use Rattle.wire.specs.Order.{order}
 use Rattle.wire.specs.Format.{items}
-use Rattle.tally.specs.Rows.{Canonical, choose}
+use Rattle.wire.specs.Store.{stored}
+use Rattle.tally.specs.Rows.{Row, Canonical, isName, choose}
 use Rattle.tally.specs.Tally.{Form, Kind, KindRows, headLength, whole, fields, row, rowsOf, limited, one}
 use Rattle.tally.specs.declared.head.Stated.{Stated}
 use Rattle.tally.specs.declared.head.Stated.the-variants as stated
@@ -45,3 +46,7 @@ module _ (k : Kind) where
 -- what a call answers that puts x into a lent buffer, and what the buffer then holds
 abbrev pub Answered : Answer ℕ → List ℕ → List ℕ → Answer (List ℕ) → Type 0
 Answered a before after x = (a ≡ mapAnswer length x) × (after ≡ lent x before)
+
+-- a row at a place of a buffer, where it fits and its name may stand in a tally; else the buffer as it was
+unfoldable pub rowStored : ℕ → Row ℕ → List ℕ → List ℕ
+rowStored at r d = pick (isName (r .name)) (stored at (fields one .encode r) d) d

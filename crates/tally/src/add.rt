@@ -10,19 +10,17 @@ use crate::rows::MOST_ROWS;
 use crate::rows::NAME_AT;
 use crate::rows::RowRead;
 use crate::rows::front_row;
+use crate::rows::put_row;
 use wire::order::Order;
 use wire::order::compare;
 use wire::store::move_back;
-use wire::store::put_bytes;
-use wire::store::put_u16;
 use wire::store::put_u32;
 use wire::store::put_u64;
 ghost use mathlib.Core.Path.{_≡_};
 ghost use Prim.Native.Nat.{_+_, _≤_, _<_};
 ghost use lib.ListN.{length};
 ghost use Rattle.wire.specs.Answer.{lent, mapAnswer};
-ghost use Rattle.wire.specs.Store.{laid};
-ghost use Rattle.tally.specs.Tally.{fields, one};
+ghost use Rattle.tally.specs.Tally.{one};
 ghost use Rattle.tally.specs.Operations.{addOf};
 ghost use Rattle.tally.specs.Told.{toldAdd};
 ghost use Rattle.tally.specs.Sought.{Sought, opened, Ready, AddedAs};
@@ -57,23 +55,13 @@ pub fn seek(s: &[u8], name: &[u8]) -> Found
     }
 }
 
-// A row over the front of a part.
-fn put_row(s: &mut [u8], name: &[u8], count: u64)
-    requires { ⌜ (length (now name) < 65536) × (length (now name) + 10 ≤ length (now s)) ⌝ }
-    ensures { λ _. ⌜ now (s .exit) ≡ laid 0 (fields one .encode (record { name = now (name .entry); count = count })) (now (s .entry)) ⌝ }
-{
-    put_u16(s, 0, name.len() as u16);
-    put_bytes(s, NAME_AT, name);
-    put_u64(s, name.len() + NAME_AT, count);
-}
-
 // A new row in front of the first n bytes of a part, which move back.
 fn open_row(tail: &mut [u8], n: usize, name: &[u8], count: u64)
     requires { ⌜ (length (now name) < 65536) × (n + (length (now name) + 10) ≤ length (now tail)) ⌝ }
     ensures { λ _. ⌜ now (tail .exit) ≡ opened n (record { name = now (name .entry); count = count }) (now (tail .entry)) ⌝ }
 {
     move_back(tail, n, name.len() + AROUND);
-    put_row(tail, name, count);
+    put_row(tail, 0, name, count);
 }
 
 pub enum AddAnswer {

@@ -4,6 +4,9 @@ use wire::fields::Counted;
 use wire::fields::U64;
 use wire::fields::counted16_at;
 use wire::fields::u64_at;
+use wire::store::put_bytes;
+use wire::store::put_u16;
+use wire::store::put_u64;
 ghost use mathlib.Core.Path.{_≡_};
 ghost use mathlib.Core.List.{[]};
 ghost use Prim.Native.Nat.{ℕ};
@@ -12,6 +15,7 @@ ghost use Rattle.wire.specs.Answer.{mapAnswer};
 ghost use Rattle.tally.specs.Tally.{KindRow, found, row, one};
 ghost use Rattle.tally.specs.Operations.{frontOf, partOf};
 ghost use Rattle.tally.specs.Told.{toldRow, toldFront, shownRow};
+ghost use Rattle.tally.specs.Walks.{rowStored};
 
 // Where a row's name begins, behind its length; the size of its count; and both together, which is what a row has beside its name.
 pub const NAME_AT: usize = 2;
@@ -85,4 +89,22 @@ pub fn behind_row(part: &[u8]) -> &[u8]
         RowRead::Row(n, _) => &part[n + AROUND..],
         RowRead::Malformed => &part[..0],
     }
+}
+
+// A row at a place of a buffer, where it fits and its name is none too long; else nothing changes.
+pub fn put_row(out: &mut [u8], at: usize, name: &[u8], count: u64)
+    ensures { λ _. ⌜ now (out .exit) ≡ rowStored at (record { name = now (name .entry); count = count }) (now (out .entry)) ⌝ }
+{
+    if LONGEST < name.len() {
+        return;
+    }
+    if out.len() < at {
+        return;
+    }
+    if out.len() - at < name.len() + AROUND {
+        return;
+    }
+    put_u16(out, at, name.len() as u16);
+    put_bytes(out, at + NAME_AT, name);
+    put_u64(out, at + NAME_AT + name.len(), count);
 }

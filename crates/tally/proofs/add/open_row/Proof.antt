@@ -1,4 +1,5 @@
 use borrow.Author.Needs.{needs}
+use native.Mathlib.Omega.{arith}
 use denote.Ref.{now}
 use Rattle.tally.proofs.Opening.{row-opened}
 use Rattle.tally.proofs.add.open_row.Statement.{statement}
@@ -19,7 +20,7 @@ same-length c = search needs
 returns : tie.Need-returns
 returns c =
     let s = c .before .before .before .before .before .before .before .before .before .before in
-    row-opened (s .args .n) (record { name = now (s .args .name); count = s .args .count }) (now (s .args .tail)) _ _ (s .pre .1)
+    row-opened (s .args .n) (record { name = now (s .args .name); count = s .args .count }) (now (s .args .tail)) _ _ (omega arith) (s .pre .1)
     (c .before .before .before .before .before .before .move-back .ensures)
     (c .before .before .put-row .ensures)
 

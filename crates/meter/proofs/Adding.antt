@@ -1,0 +1,151 @@
+-- A block added to a running tally: what the counters, the places and the rows are on the way, and that the sum is right.
+use Prim.Native.Nat.{ℕ, _+_, _-_, _*_, _≤_, _<_}
+use mathlib.Core.Path.{_≡_, refl, sym, ap, subst, _∙_}
+use mathlib.Core.Bool.{Bool, true, false}
+use mathlib.Core.List.{List, [], _∷_}
+use native.Mathlib.Omega.{arith}
+use lib.ListN.{length, take, drop, length-drop}
+use lib.Seq.{take-all}
+use borrow.Author.Tests.{le-leb}
+use Rattle.wire.specs.Bytes.{Bytes}
+use Rattle.wire.specs.Read.{Read, done, mapRead}
+use Rattle.position.specs.Spans.{inSpan}
+use Rattle.position.specs.declared.key.Coordinates.{Coordinates}
+use Rattle.mapblock.specs.Data.{Block, NameRow}
+use Rattle.mapblock.specs.Layout.{all, width}
+use Rattle.mapblock.specs.Block.{verdict, idAt}
+use Rattle.mapblock.specs.Params.{idIn, holdsLists}
+use Rattle.mapblock.specs.Rows.{part}
+use Rattle.mapblock.specs.Sections.{found, within}
+use Rattle.mapblock.specs.Questions.{NameRun}
+use Rattle.mapblock.specs.Valid.{Valid}
+use Rattle.mapblock.specs.declared.scan.Found.{Found}
+use Rattle.mapblock.proofs.Entries.{id-same}
+use Rattle.mapblock.proofs.Taken.{taken}
+use Rattle.mapblock.proofs.BlockAnswers.{TakenAs, taken-as}
+use Rattle.mapblock.proofs.NodeNames.{names-run}
+use Rattle.mapblock.specs.Table.{unmarked}
+use Rattle.tally.specs.Rows.{Rows, plus, countIn, Canonical}
+use Rattle.tally.specs.Tally.{ones}
+use Rattle.tally.proofs.Canon.{count-plus, canonical-plus, determined}
+use Rattle.names.specs.Places.{run}
+use Rattle.names.specs.Order.{Arranged}
+use Rattle.names.specs.Used.{usedIn, counted, Counted, heavy}
+use Rattle.names.proofs.UsedRuns.{used-run, used-named}
+use Rattle.names.proofs.Sums.{arranged-length, arranged-counted, arranged-count, arranged-heavy}
+use Rattle.counters.specs.Counting as counting
+use Rattle.running.specs.Running.{tooHeavy, Runs, Absorbs, Absorbed}
+use Rattle.running.specs.declared.running.Running.{Running}
+use Rattle.meter.specs.Standing.{Part, Placed, nodesIn}
+use Rattle.meter.specs.Counting.{tallyOf, byOne}
+use Rattle.meter.specs.Tallying.{placed}
+use Rattle.meter.specs.Records.{clearTable, FoundAs}
+use Rattle.meter.specs.Adding.{Adds, Added, withBlock}
+use Rattle.meter.proofs.Amounts.{count-tally}
+use Rattle.meter.proofs.Blocks.{rows-canonical}
+use Rattle.meter.proofs.Counted.{none-standing, counted-light, counted-few, counted-amount, counted-clear}
+
+-- ---- a block that the scan found
+module _ (s : List ℕ) (w : Found) (b : Block) (y : Bytes s) (f : FoundAs s w b) where
+  scanned : TakenAs s w
+  scanned = taken-as s {n = f .end} y (sym (ap (mapRead found) (f .taken) ∙ ap (λ (x : Found). done x (f .end)) (f .shows)))
+
+  same-block : scanned .b ≡ b
+  same-block = let h : done (scanned .b) (scanned .n) ≡ done b (f .end) = sym (scanned .reads) ∙ f .taken in cc
+
+  pub found-valid : Valid b
+  found-valid = taken s b (f .end) y .0 (f .taken) .0
+
+  pub found-names : NameRun (within s (w .sections .names)) (b .names)
+  found-names = subst (λ (x : Block). NameRun (within s (w .sections .names)) (x .names)) same-block (names-run scanned y)
+
+  pub found-version : b .head .version ≡ w .head .version
+  found-version = ap (λ (x : Found). x .head .version) (f .shows)
+
+  pub found-time : b .head .timestamp ≡ w .head .timestamp
+  found-time = ap (λ (x : Found). x .head .timestamp) (f .shows)
+
+  -- the param lists, as the code cuts them out
+  abbrev lists : List ℕ
+  lists = within s (part (w .lists) (length s))
+
+  lists-are : lists ≡ drop (w .lists) s
+  lists-are = take-all (length s) (drop (w .lists) s) (omega (arith, length-drop (w .lists) s))
+
+  pub found-lists : holdsLists (w .head .version) lists ≡ true
+  found-lists = le-leb _ _ (omega (arith, ap length lists-are, length-drop (w .lists) s, scanned .inside))
+
+  pub found-ids : (i : ℕ) → i < 4096 → idAt b i ≡ idIn (w .head .version) lists i
+  found-ids i h =
+      ap (λ (x : Block). idAt x i) (sym same-block) ∙ id-same (scanned .b) (w .head .version) (drop (w .lists) s) (ap (λ (x : Found). x .head .version) (scanned .shows)) (scanned .nodes) i h
+      ∙ ap (λ (l : List ℕ). idIn (w .head .version) l i) (sym lists-are)
+
+-- ---- the block is not saved within the span
+no-rows : (R : Rows ones) → plus ones (tallyOf byOne []) R ≡ R
+unfolding tallyOf
+no-rows R = refl
+
+pub added-none : {s c t : List ℕ} {w : Found} {v : Running} {b : Block} {R : Rows ones} (p : Part) (at : Coordinates) → Adds s w c t v b R
+    → inSpan (p .span) (w .head .timestamp) ≡ false → Added c t t v R (withBlock p at b R)
+added-none {t = t} {v = v} {b = b} {R = R} p at a h =
+    let none : nodesIn p (placed at b ∷ []) ≡ [] = none-standing at b p (ap (λ (x : Found). inSpan (p .span) (x .head .timestamp)) (a .found .shows) ∙ h) in
+    let same : withBlock p at b R ≡ R = ap (λ l. plus ones (tallyOf byOne l) R) none ∙ no-rows R in
+    record { clear = a .clear; absorbed = rw same record { runs = a .runs; behind = λ e. refl; untouched = λ e o. refl } }
+
+-- ---- it is
+module _ {s c t : List ℕ} {w : Found} {v : Running} {b : Block} {R : Rows ones} (p : Part) (at : Coordinates) (y : Bytes s) (a : Adds s w c t v b R) (h : inSpan (p .span) (w .head .timestamp) ≡ true) where
+  abbrev names : List ℕ
+  names = within s (w .sections .names)
+
+  in-span : inSpan (p .span) (b .head .timestamp) ≡ true
+  in-span = ap (inSpan (p .span)) (found-time s w b y (a .found)) ∙ h
+
+  -- c₁ are the counters after counting
+  module _ (c₁ : List ℕ) (k : counting.Counted (w .head .version) (lists s w b y (a .found)) (p .lot) at c c₁) where
+    from-clear : counting.Counted (w .head .version) (lists s w b y (a .found)) (p .lot) at clearTable c₁
+    from-clear = subst (λ (l : List ℕ). counting.Counted (w .head .version) (lists s w b y (a .found)) (p .lot) at l c₁) (a .clear) k
+
+    valid : Valid b
+    valid = found-valid s w b y (a .found)
+
+    ids : (i : ℕ) → i < 4096 → idAt b i ≡ idIn (w .head .version) (lists s w b y (a .found)) i
+    ids = found-ids s w b y (a .found)
+
+    abbrev places : List ℕ
+    places = usedIn c₁ (b .names) 0
+
+    pub places-few : length places ≤ 4096
+    places-few = counted-few at b p _ _ c₁ valid ids from-clear
+
+    places-run : run names c₁ places ≡ counted c₁ (b .names)
+    places-run = used-run names c₁ (b .names) (found-names s w b y (a .found))
+
+    -- the same places in order
+    module _ (ps : List ℕ) (o : Arranged names places ps) where
+      light : heavy (run names c₁ ps) ≤ 4096
+      light = omega (arith, arranged-heavy o c₁, ap heavy places-run, counted-light at b p _ _ c₁ valid ids from-clear)
+
+      pub may-absorb : Absorbs names c₁ ps t v R
+      may-absorb = record {
+        runs = a .runs;
+        rises = o .rises;
+        counted = arranged-counted o c₁ (used-named names c₁ (b .names) (found-names s w b y (a .found)));
+        light = omega (arith, light, a .light);
+        few = omega (arith, arranged-length o, places-few, a .few);
+      }
+
+      sum-is : Canonical ones (plus ones (run names c₁ ps) R) → plus ones (run names c₁ ps) R ≡ withBlock p at b R
+      sum-is g =
+          determined ones (plus ones (run names c₁ ps) R) (withBlock p at b R) g
+          (canonical-plus ones (tallyOf byOne (nodesIn p (placed at b ∷ []))) R (rows-canonical byOne p (placed at b ∷ []) (valid, tt)) (a .runs .canonical))
+          (λ n.
+              count-plus ones (run names c₁ ps) R n
+              ∙ ap (λ (i : ℕ). i + countIn ones R n) (arranged-count o c₁ n ∙ ap (λ (l : Rows ones). countIn ones l n) places-run ∙ counted-amount at b p _ _ c₁ valid ids from-clear in-span n ∙ sym (count-tally byOne (nodesIn p (placed at b ∷ [])) n))
+              ∙ sym (count-plus ones (tallyOf byOne (nodesIn p (placed at b ∷ []))) R n))
+
+      -- c₂ are the counters after they were cleared by the names
+      pub added-some : {t′ c₂ : List ℕ} {r : Running} → Absorbed t t′ r R (plus ones (run names c₁ ps) R) → c₂ ≡ unmarked c₁ (b .names) → Added c₂ t t′ r R (withBlock p at b R)
+      added-some {t′} {c₂} {r} q e = record {
+        clear = e ∙ counted-clear at b p _ _ c₁ valid ids from-clear;
+        absorbed = subst (Absorbed t t′ r R) (sum-is (q .runs .canonical)) q;
+      }

@@ -1,0 +1,52 @@
+-- What the code knows of a sheet between its records, and what its answers say.
+use Prim.Native.Nat.{ℕ, _*_, _≤_, _<_}
+use mathlib.Core.Path.{_≡_}
+use mathlib.Core.List.{List}
+use lib.ListN.{length}
+use Rattle.wire.specs.Answer.{Answer, good, refusal, plain, badPart, partsMisfit, noRoom, tooMany}
+use Rattle.tally.specs.Walks.{Answered}
+use Rattle.names.specs.Used.{heavy}
+use Rattle.running.specs.Running.{Runs}
+use Rattle.meter.specs.Counting.{byOne}
+use Rattle.meter.specs.Streaming.{State}
+use Rattle.meter.specs.Records.{clearTable, lastOf, faulty}
+use Rattle.meter.specs.declared.stream.Progress.{Progress}
+use Rattle.meter.specs.declared.stream.StartAnswer.{StartAnswer}
+use Rattle.meter.specs.declared.stream.StartAnswer.the-variants as starts
+use Rattle.meter.specs.declared.stream.StepAnswer.{StepAnswer}
+use Rattle.meter.specs.declared.stream.StepAnswer.the-variants as steps
+use Rattle.meter.specs.declared.stream.FinishAnswer.{FinishAnswer}
+use Rattle.meter.specs.declared.stream.FinishAnswer.the-variants as finishes
+
+-- ---- between records
+-- The spare t carries the state: its rows are the running tally, and few and light enough for one record more.
+pub record Carries (t : List ℕ) (p : Progress) (w : State byOne) : Type 0 where
+  pub last : lastOf (p .last) ≡ w .last
+  pub records : p .records ≡ w .records
+  pub runs : Runs t (p .tally) (w .rows)
+  pub light : heavy (w .rows) ≤ 4096 * w .records
+  pub few : length (w .rows) ≤ 4096 * w .records
+
+abbrev pub StartTold : List ℕ → StartAnswer → Answer (State byOne) → Type 0
+StartTold t (starts.Started p) a = (w : State byOne) × (a ≡ good w) × Carries t p w
+StartTold t starts.BadPart a = a ≡ plain badPart
+StartTold t starts.Misfit a = a ≡ plain partsMisfit
+
+-- a step from a state that is carried, with clear tables, to a record whose number a u32 holds
+pub record Steps (ids counts t : List ℕ) (p : Progress) (w : State byOne) : Type 0 where
+  pub ids-clear : ids ≡ clearTable
+  pub counts-clear : counts ≡ clearTable
+  pub carries : Carries t p w
+  pub number : w .records < 4294967295
+
+abbrev pub StepTold : List ℕ → List ℕ → StepAnswer → Answer (State byOne) → Type 0
+StepTold counts t (steps.Taken p) a = (w : State byOne) × (a ≡ good w) × Carries t p w × (counts ≡ clearTable)
+StepTold counts t (steps.Refused f i) a = a ≡ faulty f i
+
+abbrev pub toldFinish : FinishAnswer → Answer ℕ
+toldFinish (finishes.Tallied n) = good n
+toldFinish (finishes.NoRoom i) = refusal noRoom i 0
+toldFinish (finishes.TooMany i) = refusal tooMany i 0
+
+abbrev pub FinishTold : List ℕ → List ℕ → FinishAnswer → Answer (List ℕ) → Type 0
+FinishTold before after r a = Answered (toldFinish r) before after a

@@ -1,0 +1,26 @@
+-- What the code's answers say, as document 01 numbers them.
+use Prim.Native.Nat.{ℕ}
+use mathlib.Core.Path.{_≡_}
+use mathlib.Core.List.{List, [], _∷_}
+use lib.ListN.{length}
+use Rattle.wire.specs.Answer.{Answer, good, refusal, plain, mapAnswer, lent, outOfRange, badPart, noRoom}
+use Rattle.position.specs.declared.key.Coordinates.{Coordinates}
+use Rattle.mapblock.specs.Data.{Block}
+use Rattle.mapblock.specs.Numbers.{number}
+use Rattle.tally.specs.Walks.{Answered}
+use Rattle.meter.specs.Standing.{Part, nodesIn}
+use Rattle.meter.specs.Counting.{tallyOf, byOne}
+use Rattle.meter.specs.Tallying.{placed, fitted}
+use Rattle.meter.specs.declared.block.BlockAnswer.{BlockAnswer}
+use Rattle.meter.specs.declared.block.BlockAnswer.the-variants as block
+
+abbrev pub toldBlock : BlockAnswer → Answer ℕ
+toldBlock (block.Tallied n) = good n
+toldBlock block.BadPart = plain badPart
+toldBlock block.OutOfRange = plain outOfRange
+toldBlock (block.Refused f p) = refusal (number f) 0 p
+toldBlock block.NoRoom = plain noRoom
+
+-- the tally of what stands of b in the part, put into a buffer where it fits
+abbrev pub PutAs : Part → Coordinates → Block → List ℕ → List ℕ → BlockAnswer → Type 0
+PutAs p at b before after r = Answered (toldBlock r) before after (fitted byOne (length before) (tallyOf byOne (nodesIn p (placed at b ∷ []))))

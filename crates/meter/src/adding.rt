@@ -1,0 +1,53 @@
+// What stands of one block in a part, added to a running tally.
+use counters::clear::clear;
+use counters::count::count_in;
+use mapblock::head::Part;
+use mapblock::head::cut;
+use mapblock::scan::Found;
+use names::sort::sort;
+use names::used::used;
+use position::key::Coordinates;
+use position::lot::Lot;
+use position::span::Span;
+use running::absorb::absorb;
+use running::running::Running;
+ghost use mathlib.Core.Path.{_≡_};
+ghost use mathlib.Core.List.{[], _∷_};
+ghost use lib.ListN.{length};
+ghost use Rattle.mapblock.specs.Data.{Block};
+ghost use Rattle.tally.specs.Rows.{Rows};
+ghost use Rattle.tally.specs.Tally.{ones};
+ghost use Rattle.meter.specs.Adding.{part, SortedFront, Adds, Added, withBlock};
+
+// The places in the order of their names; their front alone is sorted.
+fn sort_front(names: &[u8], places: &mut [usize], n: usize, room: &mut [usize])
+    ensures { λ _. ⌜ SortedFront (now (names .entry)) n (now (places .entry)) (now (places .exit)) (now (room .entry)) ⌝ }
+{
+    if n <= places.len() {
+        sort(names, &mut places[..n], room);
+    }
+}
+
+// The nodes that lie in the lot are counted by content id, the names that were counted are put in order and added, and the counters
+// are cleared by the names.
+pub(crate) fn add_block(block: &[u8], found: Found, at: Coordinates, lot: Lot, span: Span, counts: &mut [u16; 65536], places: &mut [usize; 4096], room: &mut [usize; 4096], t: &mut [u8], w: Running) -> Running
+    ensures { λ _. ⌜ length (now (t .exit)) ≡ length (now (t .entry)) ⌝ }
+    ensures {
+      λ r. ⌜ ((b : Block) (R : Rows ones) → Adds (now (block .entry)) found (now (counts .entry)) (now (t .entry)) w b R
+        → Added (now (counts .exit)) (now (t .entry)) (now (t .exit)) r R (withBlock (part lot span) at b R)) ⌝
+    }
+{
+    let head = found.head;
+    if !span.has(head.timestamp) {
+        return w;
+    }
+    let sections = found.sections;
+    let names = cut(block, sections.names);
+    let lists = cut(block, Part { start: found.lists, length: block.len() });
+    count_in(head.version, lists, at, lot, counts);
+    let n = used(names, counts, places);
+    sort_front(names, places, n, room);
+    let r = absorb(names, counts, &places[..n], t, w);
+    clear(names, counts);
+    r
+}
