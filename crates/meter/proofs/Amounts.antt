@@ -119,7 +119,7 @@ module _ (m : Measure) where
       (λ n. rw (count-tally l n) (m .light (bearing n l) (omega (arith, those-fewer (bears n) l))))
 
   -- ---- no more rows than nodes
-  add-fewer : (r : KindRow (m .kind)) (l : MeasureRows m) → length (addRow (m .kind .counts) r l) ≤ suc (length l)
+  pub add-fewer : (r : KindRow (m .kind)) (l : MeasureRows m) → length (addRow (m .kind .counts) r l) ≤ suc (length l)
   add-fewer r [] = omega arith
   add-fewer r (s ∷ l) = go (order (r .name) (s .name)) (add-fewer r l)
     where

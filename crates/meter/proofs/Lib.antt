@@ -6,10 +6,12 @@ pub mod Steps
 pub mod Judging
 -- Counting a block.
 pub mod Counted
-pub mod Adding
+pub mod AddedBlock
 pub mod Putting
+pub mod Tallied
 pub mod SheetTaken
 pub mod Streaming
+pub mod Carried
 -- When a part is tallied, and what its tally counts.
 pub mod Exactness
 pub mod NamesAlone

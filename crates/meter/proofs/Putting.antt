@@ -10,6 +10,12 @@ use lib.Seq.{drop-drop, drop-append-seam, drop-at, length-take-le}
 use borrow.Author.Tests.{le-leb, lt-leb}
 use borrow.Rule.Slice.PartMut.{putMid}
 use Rattle.wire.specs.Lists.{rest-is}
+use Rattle.wire.specs.Bytes.{Bytes}
+use Rattle.position.specs.declared.key.Coordinates.{Coordinates}
+use Rattle.mapblock.specs.Data.{Block}
+use Rattle.mapblock.specs.declared.scan.Found.{Found}
+use Rattle.tally.proofs.Canon.{plus-unit}
+use lib.Dec.{lit<}
 use Rattle.wire.specs.Answer.{Answer, good, refusal, plain, noRoom, tooMany}
 use Rattle.wire.specs.Store.{laid, stored}
 use Rattle.wire.proofs.Laid.{stored-fits, laid-two, part-back}
@@ -19,9 +25,16 @@ use Rattle.tally.specs.Walks.{rowsBytes, Answered}
 use Rattle.tally.proofs.Held.{tally-bytes, tally-size, head-size}
 use Rattle.running.specs.Running.{Held, Runs, Absorbed, none}
 use Rattle.running.specs.declared.running.Running.{Running}
-use Rattle.meter.specs.Counting.{byOne}
-use Rattle.meter.specs.Tallying.{fitted}
+use Rattle.running.proofs.Absorbing.{runs-empty}
+use Rattle.meter.specs.Standing.{Part, inPart, standing, nodesIn}
+use Rattle.meter.specs.Counting.{tallyOf, byOne}
+use Rattle.meter.specs.Tallying.{placed, fitted}
 use Rattle.meter.specs.Sheet.{fittedSheet}
+use Rattle.meter.specs.Records.{clearTable, FoundAs}
+use Rattle.meter.specs.Adding.{Adds, Added, withBlock}
+use Rattle.meter.proofs.Amounts.{those-fewer, tally-fewer}
+use Rattle.meter.proofs.Blocks.{standing-number, rows-canonical}
+use Rattle.meter.proofs.AddedBlock.{found-valid}
 
 -- ---- the answer by cases
 module _ (d : List ℕ) (l : Rows ones) where
@@ -61,7 +74,7 @@ tally-laid n l d e h =
     ap (laid 9 w) (stored-fits 0 H d (omega (arith, head-size one n))) ∙ laid-two 0 H w d (omega (arith, head-size one n)) ∙ ap (λ (u : List ℕ). laid 0 u d) (head-and-rows n l e) ∙ rw zero-add
 
 -- ---- a block's rows, which were absorbed into the output behind the head
-module _ (d t′ : List ℕ) (w : Running) (l : Rows ones) (k : 9 ≤ length d) (a : Absorbed (take (length d - 9) (drop 9 d)) t′ w [] l) where
+module _ (d t′ : List ℕ) (w : Running) (l : Rows ones) (k : 9 ≤ length d) (long : length t′ ≡ length (take (length d - 9) (drop 9 d))) (a : Absorbed (take (length d - 9) (drop 9 d)) t′ w [] l) where
   behind : take (length d - 9) (drop 9 d) ≡ drop 9 d
   behind = rest-is 9 d
 
@@ -72,8 +85,8 @@ module _ (d t′ : List ℕ) (w : Running) (l : Rows ones) (k : 9 ≤ length d) 
   pub absorbed-short : w .over ≡ true → Answered (plain noRoom) d (putMid 9 (length d - 9) d t′) (fitted byOne (length d) l)
   absorbed-short o =
       let same : putMid 9 (length d - 9) d t′ ≡ d = whole ∙ ap (λ (u : List ℕ). take 9 d ++ u) (a .untouched refl o ∙ behind) ∙ take-append-drop 9 d in
-      let long : length d < length (tally one .encode l) = omega (arith, a .runs .lost o, ap length behind, length-drop 9 d, tally-size one l) in
-      subst (λ (u : List ℕ). Answered (plain noRoom) d u (fitted byOne (length d) l)) (sym same) (fitted-short d l long)
+      let more : length d < length (tally one .encode l) = omega (arith, long, a .runs .lost o, ap length behind, length-drop 9 d, tally-size one l) in
+      subst (λ (u : List ℕ). Answered (plain noRoom) d u (fitted byOne (length d) l)) (sym same) (fitted-short d l more)
 
   module _ (o : w .over ≡ false) where
     held : Held t′ w l
@@ -83,7 +96,7 @@ module _ (d t′ : List ℕ) (w : Running) (l : Rows ones) (k : 9 ≤ length d) 
     rows-there = sym (take-append-drop (w .size) t′) ∙ ap (λ (u : List ℕ). u ++ drop (w .size) t′) (held .bytes) ∙ ap (λ (u : List ℕ). rowsBytes one l ++ u) (a .behind o ∙ ap (drop (w .size)) behind)
 
     size-fits : w .size + 9 ≤ length d
-    size-fits = omega (arith, held .inside, ap length rows-there, length-append (rowsBytes one l) (drop (w .size) (drop 9 d)), length-drop (w .size) (drop 9 d), length-drop 9 d, held .size)
+    size-fits = omega (arith, k, long, held .inside, ap length behind, length-drop 9 d)
 
     pub absorbed-rows : w .rows ≡ length l
     absorbed-rows = held .rows
@@ -95,10 +108,27 @@ module _ (d t′ : List ℕ) (w : Running) (l : Rows ones) (k : 9 ≤ length d) 
     absorbed-all {e} q =
         let H = headBytes one (w .rows) in
         let u = take 9 d ++ t′ in
-        let long : length u ≡ length d = omega (arith, length-append (take 9 d) t′, length-take-le 9 d k, ap length rows-there, length-append (rowsBytes one l) (drop (w .size) (drop 9 d)), length-drop (w .size) (drop 9 d), length-drop 9 d, held .size, size-fits) in
-        let put : e ≡ H ++ drop 9 u = q ∙ ap (stored 0 H) whole ∙ stored-fits 0 H u (omega (arith, head-size one (w .rows))) ∙ rw (head-size one (w .rows), zero-add) in
+        let same : length u ≡ length d = omega (arith, k, long, length-append (take 9 d) t′, length-take-le 9 d k, ap length behind, length-drop 9 d) in
+        let put : e ≡ H ++ drop 9 u = q ∙ ap (stored 0 H) whole ∙ stored-fits 0 H u (omega (arith, head-size one (w .rows))) in
         let rest : drop 9 u ≡ rowsBytes one l ++ drop (w .size) (drop 9 d) = drop-at (take 9 d) t′ 9 (length-take-le 9 d k) ∙ rows-there in
         let last : drop (w .size) (drop 9 d) ≡ drop (w .size + 9) d = drop-drop (w .size) 9 d ∙ ap (λ (i : ℕ). drop i d) (add-comm 9 (w .size)) in
         let size : length (tally one .encode l) ≡ w .size + 9 = omega (arith, tally-size one l, held .size) in
         let all : e ≡ tally one .encode l ++ drop (w .size + 9) d = put ∙ ap (λ (z : List ℕ). H ++ z) (rest ∙ ap (λ (z : List ℕ). rowsBytes one l ++ z) last) ∙ sym (append-assoc H (rowsBytes one l) (drop (w .size + 9) d)) ∙ ap (λ (z : List ℕ). z ++ drop (w .size + 9) d) (head-and-rows (w .rows) l (held .rows)) in
         fitted-all d l size size-fits all
+
+-- ---- a block put into an empty tally
+module _ {s : List ℕ} {w : Found} {b : Block} (p : Part) (at : Coordinates) (y : Bytes s) (f : FoundAs s w b) where
+  abbrev rows : Rows ones
+  rows = tallyOf byOne (nodesIn p (placed at b ∷ []))
+
+  pub put-absorbed : (t : List ℕ) {t′ c₂ : List ℕ} {u r : Running} → u ≡ none → ((R : Rows ones) → Adds s w clearTable t u b R → Added c₂ t t′ r R (withBlock p at b R)) → Absorbed t t′ r [] rows
+  put-absorbed t {t′} {u = u} {r = r} e g =
+      let start : Adds s w clearTable t u b [] = record { found = f; clear = refl; runs = subst (λ (v : Running). Runs t v []) (sym e) (runs-empty t); light = lit< tt; few = lit< tt } in
+      subst (Absorbed t t′ r []) (plus-unit ones rows (rows-canonical byOne p (placed at b ∷ []) (found-valid s w b y f, tt))) (g [] start .absorbed)
+
+  pub put-few : length rows ≤ 4096
+  put-few = omega (arith, tally-fewer byOne (nodesIn p (placed at b ∷ [])), those-fewer (inPart p) (standing (placed at b ∷ [])), standing-number (placed at b ∷ []))
+
+  -- the output does not even hold the head
+  pub put-headless : (d : List ℕ) → length d < 9 → Answered (plain noRoom) d d (fitted byOne (length d) rows)
+  put-headless d h = fitted-short d rows (omega (arith, tally-size one rows))

@@ -1,8 +1,8 @@
 -- What adding a block to a running tally promises.
-use Prim.Native.Nat.{ℕ, _+_, _≤_, _<_}
+use Prim.Native.Nat.{ℕ, _+_, _<_}
 use mathlib.Core.Path.{_≡_}
 use mathlib.Core.List.{List, [], _∷_}
-use lib.ListN.{length, take}
+use lib.ListN.{length}
 use Rattle.position.specs.declared.key.Coordinates.{Coordinates}
 use Rattle.position.specs.declared.lot.Lot.{Lot}
 use Rattle.position.specs.declared.span.Span.{Span}
@@ -10,9 +10,10 @@ use Rattle.mapblock.specs.Data.{Block}
 use Rattle.mapblock.specs.declared.scan.Found.{Found}
 use Rattle.tally.specs.Rows.{Rows, plus}
 use Rattle.tally.specs.Tally.{ones}
+use Rattle.names.specs.Places.{run}
 use Rattle.names.specs.Order.{Arranged}
 use Rattle.names.specs.Used.{heavy}
-use Rattle.running.specs.Running.{tooHeavy, Runs, Absorbed}
+use Rattle.running.specs.Running.{tooHeavy, Runs, Absorbs, Absorbed}
 use Rattle.running.specs.declared.running.Running.{Running}
 use Rattle.meter.specs.Standing.{Part, nodesIn}
 use Rattle.meter.specs.Counting.{tallyOf, byOne}
@@ -22,10 +23,15 @@ use Rattle.meter.specs.Records.{clearTable, FoundAs}
 abbrev pub part : Lot → Span → Part
 part l s = record { lot = l; span = s }
 
--- the first n places sorted, where there is room
-pub record SortedFront (s : List ℕ) (n : ℕ) (old new room : List ℕ) : Type 0 where
-  pub size : length new ≡ length old
-  pub sorts : n ≤ length old → n ≤ length room → Arranged s (take n old) (take n new)
+-- the places may be added, once they are in order
+abbrev pub MayAdd : List ℕ → List ℕ → List ℕ → List ℕ → Running → Rows ones → Type 0
+MayAdd s c places t w R = (ps : List ℕ) → Arranged s places ps → Absorbs s c ps t w R
+
+-- they are in order, and were added
+pub record UsedAdded (s c places t t′ : List ℕ) (w : Running) (R : Rows ones) : Type 0 where
+  pub ps : List ℕ
+  pub order : Arranged s places ps
+  pub absorbed : Absorbed t t′ w R (plus ones (run s c ps) R)
 
 -- the block b, which the scan found in s, may be added to the rows R by clear counters
 pub record Adds (s : List ℕ) (w : Found) (counts t : List ℕ) (v : Running) (b : Block) (R : Rows ones) : Type 0 where

@@ -12,20 +12,31 @@ use position::span::Span;
 use running::absorb::absorb;
 use running::running::Running;
 ghost use mathlib.Core.Path.{_≡_};
-ghost use mathlib.Core.List.{[], _∷_};
-ghost use lib.ListN.{length};
+ghost use Prim.Native.Nat.{_≤_};
+ghost use lib.ListN.{length, take};
 ghost use Rattle.mapblock.specs.Data.{Block};
 ghost use Rattle.tally.specs.Rows.{Rows};
 ghost use Rattle.tally.specs.Tally.{ones};
-ghost use Rattle.meter.specs.Adding.{part, SortedFront, Adds, Added, withBlock};
+ghost use Rattle.meter.specs.Adding.{part, MayAdd, UsedAdded, Adds, Added, withBlock};
 
-// The places in the order of their names; their front alone is sorted.
-fn sort_front(names: &[u8], places: &mut [usize], n: usize, room: &mut [usize])
-    ensures { λ _. ⌜ SortedFront (now (names .entry)) n (now (places .entry)) (now (places .exit)) (now (room .entry)) ⌝ }
+// A table of places has the length that its type says; this says so to proofs, and does nothing.
+fn sized(places: &[usize; 4096])
+    ensures { λ _. ⌜ length (now (places .entry)) ≡ 4096 ⌝ }
 {
-    if n <= places.len() {
-        sort(names, &mut places[..n], room);
+    let _whole: &[usize] = places;
+}
+
+// The counted names at the first n places, put in order and added.
+fn add_used(names: &[u8], counts: &[u16; 65536], places: &mut [usize], n: usize, room: &mut [usize], t: &mut [u8], w: Running) -> Running
+    requires { ⌜ (n ≤ length (now places)) × (n ≤ length (now room)) ⌝ }
+    ensures { λ _. ⌜ length (now (t .exit)) ≡ length (now (t .entry)) ⌝ }
+    ensures {
+      λ r. ⌜ ((R : Rows ones) → MayAdd (now (names .entry)) (now (counts .entry)) (take n (now (places .entry))) (now (t .entry)) w R
+        → UsedAdded (now (names .entry)) (now (counts .entry)) (take n (now (places .entry))) (now (t .entry)) (now (t .exit)) r R) ⌝
     }
+{
+    sort(names, &mut places[..n], room);
+    absorb(names, counts, &places[..n], t, w)
 }
 
 // The nodes that lie in the lot are counted by content id, the names that were counted are put in order and added, and the counters
@@ -46,8 +57,9 @@ pub(crate) fn add_block(block: &[u8], found: Found, at: Coordinates, lot: Lot, s
     let lists = cut(block, Part { start: found.lists, length: block.len() });
     count_in(head.version, lists, at, lot, counts);
     let n = used(names, counts, places);
-    sort_front(names, places, n, room);
-    let r = absorb(names, counts, &places[..n], t, w);
+    sized(places);
+    sized(room);
+    let r = add_used(names, counts, places, n, room, t, w);
     clear(names, counts);
     r
 }

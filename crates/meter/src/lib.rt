@@ -1,5 +1,7 @@
 // The meter: the nodes that stand in a part of the world, counted name by name.
 mod adding;
+pub mod block;
 pub mod head;
 pub mod part;
 pub mod records;
+pub mod stream;

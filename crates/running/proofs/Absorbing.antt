@@ -104,13 +104,15 @@ module _ (s c ps t : List ℕ) (w : Running) (b : Bytes s) (R : Rows ones) (x : 
 
       spreads : Spreads s c ps t′ (w .size) n G (raises .W) (plus ones G R)
       spreads = record {
-        left = left-start s c b ps (x .counted) (x .rises);
+        due = record {
+          left = starts e .left;
+          light = omega (arith, starts e .light);
+          room = raises .missing;
+          sum = raises .sum;
+          canonical = canonical-plus ones G R left-canonical (x .runs .canonical);
+        };
         finger = raises .finger;
         light = raises .light;
-        small = omega (arith, starts e .light);
-        room = raises .missing;
-        sum = raises .sum;
-        canonical = canonical-plus ones G R left-canonical (x .runs .canonical);
       }
 
       pub all-added : (t″ : List ℕ) (v : ℕ) → length t″ ≡ length t → v ≡ (w .rows + k) % 2 ^ 64

@@ -19,12 +19,12 @@ use Rattle.tally.specs.declared.add.Found.the-variants as founds
 use Rattle.tally.proofs.Steps.{add-between}
 use Rattle.tally.proofs.Held.{rows-append, one-size}
 use Rattle.tally.proofs.Opening.{row-fits}
-use Rattle.tally.proofs.Seeking.{below-append}
+use Rattle.tally.proofs.Seeking.{cut-is, cut-size, below-append}
 use Rattle.names.specs.Used.{heavy}
 use Rattle.running.specs.Passes.{has, May, Apart, Inside, RowFilled, FilledTo}
 use Rattle.running.specs.declared.absorb.Gap.{Gap}
 use Rattle.running.proofs.Counts.{count-append, count-below, below-weak, canonical-behind, heavy-append, light-limited}
-use Rattle.running.proofs.RaisedRow.{cut-is, cut-size, passes, row-has, place-not, may-canonical}
+use Rattle.running.proofs.RaisedRow.{passes, row-has, place-not, may-canonical}
 
 -- what stands behind bytes that were laid
 laid-behind : (at : ℕ) (b d : List ℕ) (m : ℕ) → at + length b ≤ length d → at + length b ≤ m → drop m (laid at b d) ≡ drop m d

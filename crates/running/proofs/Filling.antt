@@ -25,6 +25,11 @@ use Rattle.running.proofs.Measures.{fresh-there, fresh-new, fresh-none,
 use Rattle.running.proofs.Groups.{left-end}
 use Rattle.running.proofs.Raising.{Under, under-none, under-passed, may-next}
 
+-- no bytes are no rows
+no-bytes : (F : Rows ones) → length (rowsBytes one F) ≡ 0 → F ≡ []
+no-bytes [] h = refl
+no-bytes (r ∷ F) h = absurd (omega (arith, h, length-append (fields one .encode r) (rowsBytes one F), one-size r))
+
 -- ---- before each group
 pub record FillingRows (s c ps t₀ : List ℕ) (n i : ℕ) (gap : Gap) (t : List ℕ) (T : Rows ones) : Type 0 where
   pub D : Rows ones
@@ -53,12 +58,12 @@ filling-start s c ps t b n h k = record {
     D = [];
     L = W;
     H = G;
-    left = x .left;
+    left = x .due .left;
     apart = x .apart;
     under = under-none G;
-    sum = x .sum;
-    room = zero-add _ ∙ sym (x .room);
-    light = x .light;
+    sum = x .due .sum;
+    room = zero-add _ ∙ sym (x .due .room);
+    light = x .due .light;
     behind = refl;
   };
 }
@@ -146,12 +151,12 @@ module _ (s c ps t₀ : List ℕ) (b n i : ℕ) (gap : Gap) (t : List ℕ) (x : 
             rows = λ G W T y. on G W T y t′ gap′ (r′ .filled (now G W T y .D) (now G W T y .L) (now G W T y .apart) (may G W T y) (room G W T y));
           }
 
-  pub filling-end : length ps ≤ i → (G W T : Rows ones) → Fills s c ps t₀ b n G W T → Filled t₀ t n T
-  filling-end h G W T y =
+  -- no name is new any more
+  ends : (G W T : Rows ones) (y : Fills s c ps t₀ b n G W T) → (let z = x .rows G W T y in fresh (z .L) (z .H) ≡ []) → Filled t₀ t n T
+  ends G W T y none =
       let z = x .rows G W T y in
-      let none : fresh (z .L) (z .H) ≡ [] = ap (fresh (z .L)) (left-end h (z .left)) ∙ fresh-none (z .L) in
       let closed : gap .write ≡ gap .read = omega (arith, z .room, ap (λ (l : Rows ones). length (rowsBytes one l)) none) in
-      let all : z .D ++ z .L ≡ T = determined ones (z .D ++ z .L) T (z .apart .canonical) (y .canonical) (λ m. omega (arith, z .sum m, ap (λ (l : Rows ones). countIn ones l m) none)) in
+      let all : z .D ++ z .L ≡ T = determined ones (z .D ++ z .L) T (z .apart .canonical) (y .due .canonical) (λ m. omega (arith, z .sum m, ap (λ (l : Rows ones). countIn ones l m) none)) in
       let past : gap .write + (n - gap .read) ≡ n = omega (arith, closed, x .inside .short) in
       record {
         bytes = ap (λ (j : ℕ). take j t) (sym past) ∙ take-add (gap .write) (n - gap .read) t
@@ -160,16 +165,20 @@ module _ (s c ps t₀ : List ℕ) (b n i : ℕ) (gap : Gap) (t : List ℕ) (x : 
         behind = z .behind;
       }
 
--- ---- nothing is missing
-no-bytes : (F : Rows ones) → length (rowsBytes one F) ≡ 0 → F ≡ []
-no-bytes [] h = refl
-no-bytes (r ∷ F) h = absurd (omega (arith, h, length-append (fields one .encode r) (rowsBytes one F), one-size r))
+  -- the gap is closed
+  pub filling-closed : gap .read ≡ gap .write → (G W T : Rows ones) → Fills s c ps t₀ b n G W T → Filled t₀ t n T
+  filling-closed h G W T y = let z = x .rows G W T y in ends G W T y (no-bytes (fresh (z .L) (z .H)) (omega (arith, z .room, h)))
 
+  -- no place is left
+  pub filling-end : length ps ≤ i → (G W T : Rows ones) → Fills s c ps t₀ b n G W T → Filled t₀ t n T
+  filling-end h G W T y = let z = x .rows G W T y in ends G W T y (ap (fresh (z .L)) (left-end h (z .left)) ∙ fresh-none (z .L))
+
+-- ---- rows that were missing are put
 module _ (s c ps t : List ℕ) (n b : ℕ) (G W T : Rows ones) (y : Spreads s c ps t n b G W T) where
   pub spread-none : b ≡ 0 → Filled t t (n + b) T
   spread-none e =
-      let none : fresh W G ≡ [] = no-bytes (fresh W G) (omega (arith, y .room, e)) in
-      let all : W ≡ T = determined ones W T (y .finger .canonical) (y .canonical) (λ m. omega (arith, y .sum m, ap (λ (l : Rows ones). countIn ones l m) none)) in
+      let none : fresh W G ≡ [] = no-bytes (fresh W G) (omega (arith, y .due .room, e)) in
+      let all : W ≡ T = determined ones W T (y .finger .canonical) (y .due .canonical) (λ m. omega (arith, y .due .sum m, ap (λ (l : Rows ones). countIn ones l m) none)) in
       let size : n + b ≡ n = omega (arith, e) in
       record { bytes = rw size (y .finger .bytes ∙ ap (rowsBytes one) all); behind = refl }
 
@@ -186,17 +195,13 @@ module _ (s c ps t : List ℕ) (n b : ℕ) (G W T : Rows ones) (y : Spreads s c 
         let rest : drop b t₁ ≡ take n t ++ drop (b + length (take n t)) t = ap (drop b) was ∙ drop-at (take b t) (take n t ++ drop (b + length (take n t)) t) b (length-take-le b t (omega arith)) in
         let past : n + b - b ≡ n = omega arith in
         record {
-          left = y .left;
+          due = y .due;
           apart = record {
             front = refl;
             rest = rw (past, rest) (take-at (take n t) (drop (b + length (take n t)) t) n size ∙ y .finger .bytes);
             canonical = y .finger .canonical;
             light = y .light;
           };
-          light = y .small;
-          room = y .room;
-          sum = y .sum;
-          canonical = y .canonical;
         }
 
     behind : drop (n + b) t₁ ≡ drop (n + b) t

@@ -5,7 +5,7 @@ use mathlib.Core.Bool.{true, false}
 use mathlib.Core.List.{List, _∷_, _++_, append-assoc}
 use native.Mathlib.Omega.{arith}
 use lib.ListN.{length, take, drop, length-append, length-drop, take-append-drop}
-use lib.Seq.{take-add, take-at, drop-at, length-take-le}
+use lib.Seq.{take-at, drop-at}
 use borrow.Author.Tests.{leb-true, le-leb}
 use Rattle.wire.specs.Bytes.{spell}
 use Rattle.wire.specs.Formats.{u64}
@@ -23,22 +23,12 @@ use Rattle.tally.proofs.Canon.{count-above, count-cons, canonical-add}
 use Rattle.tally.proofs.Steps.{add-at}
 use Rattle.tally.proofs.Held.{rows-append}
 use Rattle.tally.proofs.Opening.{count-laid}
-use Rattle.tally.proofs.Seeking.{below-append}
+use Rattle.tally.proofs.Seeking.{cut-is, cut-size, below-append}
 use Rattle.running.specs.Running.{tooHeavy}
 use Rattle.names.specs.Used.{heavy}
 use Rattle.running.specs.Passes.{has, May, Passed, Finger, RowRaised, RowMissing, RaisedTo}
 use Rattle.running.specs.declared.absorb.Spot.the-variants as spot
 use Rattle.running.proofs.Counts.{count-append, count-below, below-weak, has-some, has-none, canonical-behind, heavy-append, light-limited}
-
--- ---- bytes up to a place, from another on
-pub cut-is : (at n : ℕ) (t : List ℕ) → at ≤ n → n ≤ length t → take (n - at) (drop at t) ≡ drop at (take n t)
-cut-is at n t h k =
-    let z : at + (n - at) ≡ n = omega arith in
-    sym (ap (λ (j : ℕ). drop at (take j t)) (sym z) ∙ ap (drop at) (take-add at (n - at) t)
-    ∙ drop-at (take at t) (take (n - at) (drop at t)) at (length-take-le at t (omega arith)))
-
-pub cut-size : (at n : ℕ) (t : List ℕ) → n ≤ length t → length (take (n - at) (drop at t)) ≡ n - at
-cut-size at n t k = length-take-le (n - at) (drop at t) (rw length-drop (omega arith))
 
 -- ---- a name found among rows behind D
 module _ (g : Row ℕ) (D : Rows ones) (m : May g D) where

@@ -124,25 +124,24 @@ pub record FilledTo (t t′ : List ℕ) (g g′ : Gap) (n : ℕ) (r : Row ℕ) :
   pub inside : Inside t′ g′ n
   pub filled : (D L : Rows ones) → Apart t g n D L → May r D → (has L (r .name) ≡ false → g .write + length (fields one .encode r) ≤ g .read) → RowFilled t t′ g g′ n r D L
 
--- the places make G; the rows W stand at the end of the first n bytes of t, behind b others, and T is what is to be there
-pub record Fills (s c ps t : List ℕ) (b n : ℕ) (G W T : Rows ones) : Type 0 where
+-- the places make G, and T is to come of the rows W by those of G that W has no name of, of b bytes
+pub record Due (s c ps : List ℕ) (b : ℕ) (G W T : Rows ones) : Type 0 where
   pub left : Left s c ps 0 G
-  pub apart : Apart t (record { read = b; write = 0 }) n [] W
   pub light : heavy G < tooHeavy
   pub room : b ≡ length (rowsBytes one (fresh W G))
   pub sum : (m : List ℕ) → countIn ones (fresh W G) m + countIn ones W m ≡ countIn ones T m
   pub canonical : Canonical ones T
 
+-- the rows W are the first n bytes of t; or they stand at the end of these, behind b others
+pub record Spreads (s c ps t : List ℕ) (n b : ℕ) (G W T : Rows ones) : Type 0 where
+  pub due : Due s c ps b G W T
+  pub finger : Finger t 0 n [] W
+  pub light : heavy W < tooHeavy
+
+pub record Fills (s c ps t : List ℕ) (b n : ℕ) (G W T : Rows ones) : Type 0 where
+  pub due : Due s c ps b G W T
+  pub apart : Apart t (record { read = b; write = 0 }) n [] W
+
 pub record Filled (t t′ : List ℕ) (n : ℕ) (T : Rows ones) : Type 0 where
   pub bytes : take n t′ ≡ rowsBytes one T
   pub behind : drop n t′ ≡ drop n t
-
--- the same where the rows W are still the first n bytes of t
-pub record Spreads (s c ps t : List ℕ) (n b : ℕ) (G W T : Rows ones) : Type 0 where
-  pub left : Left s c ps 0 G
-  pub finger : Finger t 0 n [] W
-  pub light : heavy W < tooHeavy
-  pub small : heavy G < tooHeavy
-  pub room : b ≡ length (rowsBytes one (fresh W G))
-  pub sum : (m : List ℕ) → countIn ones (fresh W G) m + countIn ones W m ≡ countIn ones T m
-  pub canonical : Canonical ones T

@@ -175,7 +175,7 @@ fn fill_row(t: &mut [u8], gap: Gap, end: usize, name: &[u8], count: u64) -> Gap
     }
 }
 
-// The second pass: the gap is as long as the rows that are missing.
+// The second pass, until the gap is closed: it is as long as the rows that are missing.
 fn fill(s: &[u8], counts: &[u16; 65536], places: &[usize], t: &mut [u8], missing: usize, end: usize)
     requires { ⌜ (missing ≤ end) × (end ≤ length (now t)) ⌝ }
     ensures { λ _. ⌜ ((G W T : Rows ones) → Fills (now (s .entry)) (now (counts .entry)) (now (places .entry)) (now (t .entry)) missing end G W T
@@ -187,6 +187,9 @@ fn fill(s: &[u8], counts: &[u16; 65536], places: &[usize], t: &mut [u8], missing
     };
     let mut i: usize = 0;
     while i < places.len() {
+        if gap.read == gap.write {
+            return;
+        }
         let group = group_at(s, counts, places, i);
         let name = name_at(s, places[i]);
         gap = fill_row(t, gap, end, name, group.count);

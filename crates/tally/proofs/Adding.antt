@@ -7,8 +7,8 @@ use mathlib.Core.List.{List, [], _∷_, _++_, append-assoc}
 use mathlib.Core.Option.{some, none, Option·some-injective}
 use native.Mathlib.Omega.{arith}
 use lib.Dec.{leb}
-use lib.ListN.{length, take, drop, length-append, length-drop, take-append-drop}
-use lib.Seq.{take-add, take-at, drop-at, length-take-le}
+use lib.ListN.{length, take, drop, length-append, take-append-drop}
+use lib.Seq.{take-at, drop-at, length-take-le}
 use borrow.Author.Tests.{le-leb, lt-leb}
 use borrow.Rule.Slice.PartMut.{putMid}
 use Rattle.wire.specs.Answer.{good, plain, partsMisfit, tallyMalformed}
@@ -31,6 +31,7 @@ use Rattle.tally.specs.declared.add.AddAnswer.the-variants as answers
 use Rattle.tally.specs.declared.add.Found.the-variants as founds
 use Rattle.tally.proofs.Held.{Opened, opened as tally-opened, rows-append, tally-bytes, head-size, tally-size, one-size}
 use Rattle.tally.proofs.Checks.{Checked, checked, check-long}
+use Rattle.tally.proofs.Seeking.{cut-is, cut-size}
 use Rattle.tally.proofs.Opening.{count-laid, rows-laid, part-opened}
 use Rattle.tally.proofs.Steps.{add-at, add-between}
 use Rattle.tally.proofs.Fitting.{many-answered, room-answered, good-answered}
@@ -125,13 +126,10 @@ module _ (d : List ℕ) (n rows : ℕ) (r : Row ℕ) (w : Ready d n rows r) wher
   part = take (n - headLength) (drop headLength d)
 
   part-size : length part ≡ n - headLength
-  part-size = length-take-le (n - headLength) (drop headLength d) (rw length-drop (omega (arith, w .inside)))
+  part-size = cut-size headLength n d (w .inside)
 
   part-is : part ≡ drop headLength (take n d)
-  part-is =
-      let z : headLength + (n - headLength) ≡ n = omega (arith, w .long) in
-      sym (ap (λ (j : ℕ). drop headLength (take j d)) (sym z) ∙ ap (drop headLength) (take-add headLength (n - headLength) d)
-      ∙ drop-at (take headLength d) part headLength (length-take-le headLength d (omega (arith, w .long, w .inside))))
+  part-is = cut-is headLength n d (w .long) (w .inside)
 
   -- a place in them
   pub row-place : (at before : ℕ) → Sought part (r .name) (founds.Row at before) → at + (length (r .name) + 10) + headLength ≤ n

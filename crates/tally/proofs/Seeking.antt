@@ -5,7 +5,7 @@ use mathlib.Core.List.{List, [], _∷_, _++_, append-assoc}
 use native.Mathlib.Nat.{zero-add}
 use native.Mathlib.Omega.{arith}
 use lib.ListN.{length, take, drop, length-append, length-drop}
-use lib.Seq.{length-take-le}
+use lib.Seq.{take-add, drop-at, length-take-le}
 use Rattle.wire.specs.Lists.{rest-is}
 use Rattle.wire.specs.Order.{order, flip, order-same, order-flip}
 use Rattle.wire.specs.declared.order.Order.{Order}
@@ -21,6 +21,17 @@ use Rattle.tally.proofs.Canon.{above-weak}
 use Rattle.tally.proofs.Held.{rows-append, FirstRow, row-inside, first-row, no-row, one-size}
 use Rattle.tally.proofs.FrontRows.{name-part}
 
+-- ---- bytes up to a place, from another on
+pub cut-is : (at n : ℕ) (t : List ℕ) → at ≤ n → n ≤ length t → take (n - at) (drop at t) ≡ drop at (take n t)
+cut-is at n t h k =
+    let z : at + (n - at) ≡ n = omega arith in
+    sym (ap (λ (j : ℕ). drop at (take j t)) (sym z) ∙ ap (drop at) (take-add at (n - at) t)
+    ∙ drop-at (take at t) (take (n - at) (drop at t)) at (length-take-le at t (omega arith)))
+
+pub cut-size : (at n : ℕ) (t : List ℕ) → n ≤ length t → length (take (n - at) (drop at t)) ≡ n - at
+cut-size at n t k = length-take-le (n - at) (drop at t) (rw length-drop (omega arith))
+
+-- ---- rows that come before a name
 pub below-append : (n : List ℕ) (D E : Rows ones) → Below ones n D → Below ones n E → Below ones n (D ++ E)
 below-append n [] E b e = e
 below-append n (r ∷ D) E b e = (b .0, below-append n D E (b .1) e)

@@ -4,7 +4,7 @@ use mathlib.Core.Path.{_≡_}
 use native.Mathlib.Omega.{arith}
 use denote.Ref.{now}
 use lib.ListN.{length}
-use Rattle.running.proofs.Filling.{Filling, filling-start, filling-on, filling-end}
+use Rattle.running.proofs.Filling.{Filling, filling-start, filling-on, filling-closed, filling-end}
 use Rattle.running.proofs.absorb.fill.Statement.{statement}
 use Rattle.running.proofs.absorb.fill.Tie as tie
 
@@ -14,11 +14,20 @@ Inv-loop s counts places t₀ missing end gap₀ i₀ t gap i = Filling s counts
 abbrev μ-loop : tie.MeasureT-loop
 μ-loop s counts places t₀ missing end gap₀ i₀ t gap i = length places - i
 
-kept : (c : tie.After-t Inv-loop μ-loop) → length (c .before .fill-row .last .0) ≡ length (c .before .before .before .before .before .before .before .loop .t)
+-- a turn keeps the length
+kept : (c : tie.After-t Inv-loop μ-loop) → length (c .before .fill-row .last .0) ≡ length (c .before .before .before .before .before .before .before .before .before .loop .t)
 kept c = search needs
 
 loop-holds : tie.Need-loop-holds Inv-loop μ-loop
 loop-holds c = let a = c .before .before .before .args in filling-start (now (a .s)) (now (a .counts)) (now (a .places)) (now (a .t)) (a .missing) (a .end) (omega arith) (omega arith)
+
+same-length : tie.Need-same-length Inv-loop μ-loop
+same-length c = c .before .before .before .loop .inv .long
+
+returns : tie.Need-returns Inv-loop μ-loop
+returns c =
+    let a = c .before .before .before .before .before .before .before .args in
+    filling-closed (now (a .s)) (now (a .counts)) (now (a .places)) (now (a .t)) (a .missing) (a .end) _ _ _ (c .before .before .before .loop .inv) (c .if1 .taken)
 
 group-at-requires : tie.Need-group-at-requires Inv-loop μ-loop
 group-at-requires c κs = search needs
@@ -33,21 +42,21 @@ name-at-requires : tie.Need-name-at-requires Inv-loop μ-loop
 name-at-requires c κs = search needs
 
 fill-row-requires : tie.Need-fill-row-requires Inv-loop μ-loop
-fill-row-requires c κs = c .before .before .before .before .before .loop .inv .inside
+fill-row-requires c κs = c .before .before .before .before .before .before .before .loop .inv .inside
 
 loop-less : tie.Need-loop-less Inv-loop μ-loop
-loop-less c = omega (arith, c .before .before .before .before .before .before .before .loop-test .taken, c .before .before .before .before .before .before .group-at .ensures .on)
+loop-less c = omega (arith, c .before .before .before .before .before .before .before .before .before .loop-test .taken, c .before .before .before .before .before .before .group-at .ensures .on)
 
 loop-again : tie.Need-loop-again Inv-loop μ-loop
 loop-again c =
-    let a = c .before .before .before .before .before .before .before .before .before .before .before .before .args in
-    filling-on (now (a .s)) (now (a .counts)) (now (a .places)) (now (a .t)) (a .missing) (a .end) _ _ _ (c .before .before .before .before .before .before .before .before .loop .inv) _ (c .before .before .before .before .before .before .group-at .ensures) _ (c .before .before .before .before .name-at .ensures) _ _ (kept (c .before)) (c .before .before .fill-row .ensures)
+    let a = c .before .before .before .before .before .before .before .before .before .before .before .before .before .before .args in
+    filling-on (now (a .s)) (now (a .counts)) (now (a .places)) (now (a .t)) (a .missing) (a .end) _ _ _ (c .before .before .before .before .before .before .before .before .before .before .loop .inv) _ (c .before .before .before .before .before .before .group-at .ensures) _ (c .before .before .before .before .name-at .ensures) _ _ (kept (c .before)) (c .before .before .fill-row .ensures)
 
-same-length : tie.Need-same-length Inv-loop μ-loop
-same-length c = c .before .loop .inv .long
+same-length-2 : tie.Need-same-length-2 Inv-loop μ-loop
+same-length-2 c = c .before .loop .inv .long
 
-returns : tie.Need-returns Inv-loop μ-loop
-returns c =
+returns-2 : tie.Need-returns-2 Inv-loop μ-loop
+returns-2 c =
     let a = c .before .before .before .before .before .args in
     filling-end (now (a .s)) (now (a .counts)) (now (a .places)) (now (a .t)) (a .missing) (a .end) _ _ _ (c .before .loop .inv) (c .loop-test .left)
 
@@ -58,6 +67,8 @@ fill-spec =
     Inv-loop
     μ-loop
     loop-holds
+    same-length
+    returns
     group-at-requires
     mul-name-at
     shared-slice-read-name-at
@@ -65,5 +76,5 @@ fill-spec =
     fill-row-requires
     loop-less
     loop-again
-    same-length
-    returns)
+    same-length-2
+    returns-2)

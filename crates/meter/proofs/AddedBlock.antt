@@ -40,7 +40,7 @@ use Rattle.meter.specs.Standing.{Part, Placed, nodesIn}
 use Rattle.meter.specs.Counting.{tallyOf, byOne}
 use Rattle.meter.specs.Tallying.{placed}
 use Rattle.meter.specs.Records.{clearTable, FoundAs}
-use Rattle.meter.specs.Adding.{Adds, Added, withBlock}
+use Rattle.meter.specs.Adding.{MayAdd, UsedAdded, Adds, Added, withBlock}
 use Rattle.meter.proofs.Amounts.{count-tally}
 use Rattle.meter.proofs.Blocks.{rows-canonical}
 use Rattle.meter.proofs.Counted.{none-standing, counted-light, counted-few, counted-amount, counted-clear}
@@ -73,7 +73,7 @@ module _ (s : List ℕ) (w : Found) (b : Block) (y : Bytes s) (f : FoundAs s w b
   lists-are = take-all (length s) (drop (w .lists) s) (omega (arith, length-drop (w .lists) s))
 
   pub found-lists : holdsLists (w .head .version) lists ≡ true
-  found-lists = le-leb _ _ (omega (arith, ap length lists-are, length-drop (w .lists) s, scanned .inside))
+  found-lists = le-leb (4096 * width (w .head .version) + 8192) (length lists) (omega (arith, ap length lists-are, length-drop (w .lists) s, scanned .inside))
 
   pub found-ids : (i : ℕ) → i < 4096 → idAt b i ≡ idIn (w .head .version) lists i
   found-ids i h =
@@ -149,3 +149,31 @@ module _ {s c t : List ℕ} {w : Found} {v : Running} {b : Block} {R : Rows ones
         clear = e ∙ counted-clear at b p _ _ c₁ valid ids from-clear;
         absorbed = subst (Absorbed t t′ r R) (sum-is (q .runs .canonical)) q;
       }
+
+-- ---- as the code goes about it
+pub used-added : {s c places q t t′ : List ℕ} {u r : Running} {R : Rows ones} (l : List ℕ) → l ≡ q → Arranged s places q → MayAdd s c places t u R
+    → (Absorbs s c l t u R → Absorbed t t′ r R (plus ones (run s c l) R)) → UsedAdded s c places t t′ r R
+used-added {s = s} {places = places} l e o may f = let g = subst (Arranged s places) (sym e) o in record { ps = l; order = g; absorbed = f (may l g) }
+
+-- what its calls told: the counters are c before and c₁ after counting, c₂ after clearing
+pub record Ways (p : Part) (at : Coordinates) (v : ℕ) (c c₁ c₂ places t t′ : List ℕ) (u r : Running) (names lists : List ℕ) : Type 0 where
+  pub counts : holdsLists v lists ≡ true → counting.Counted v lists (p .lot) at c c₁
+  pub uses : (l : List NameRow) → NameRun names l → length (usedIn c₁ l 0) ≤ 4096 → places ≡ usedIn c₁ l 0
+  pub adds : (R : Rows ones) → MayAdd names c₁ (places) t u R → UsedAdded names c₁ (places) t t′ r R
+  pub clears : (l : List NameRow) → NameRun names l → c₂ ≡ unmarked c₁ l
+
+module _ {s c t : List ℕ} {w : Found} {u : Running} {b : Block} {R : Rows ones} (p : Part) (at : Coordinates) (y : Bytes s) (a : Adds s w c t u b R) (h : inSpan (p .span) (w .head .timestamp) ≡ true)
+    {c₁ c₂ places t′ : List ℕ} {r : Running} where
+  by-ways : Ways p at (w .head .version) c c₁ c₂ places t t′ u r (within s (w .sections .names)) (within s (part (w .lists) (length s))) → Added c₂ t t′ r R (withBlock p at b R)
+  by-ways k =
+      let f = a .found in
+      let rows = found-names s w b y f in
+      let d = k .counts (found-lists s w b y f) in
+      let e = k .uses (b .names) rows (places-few p at y a h c₁ d) in
+      let x = k .adds R (λ ps o. may-absorb p at y a h c₁ d ps (subst (λ (l : List ℕ). Arranged (within s (w .sections .names)) l ps) e o)) in
+      added-some p at y a h c₁ d (x .ps) (subst (λ (l : List ℕ). Arranged (within s (w .sections .names)) l (x .ps)) e (x .order)) (x .absorbed) (k .clears (b .names) rows)
+
+  pub added-block : {names lists : List ℕ} → names ≡ within s (w .sections .names) → lists ≡ within s (part (w .lists) (length s))
+      → Ways p at (w .head .version) c c₁ c₂ places t t′ u r names lists → Added c₂ t t′ r R (withBlock p at b R)
+  added-block {lists = lists} e g k =
+      by-ways (subst (Ways p at (w .head .version) c c₁ c₂ places t t′ u r (within s (w .sections .names))) g (subst (λ (l : List ℕ). Ways p at (w .head .version) c c₁ c₂ places t t′ u r l lists) e k))

@@ -1,0 +1,161 @@
+-- A sheet between its records: what start, a step and finish make of the state.
+use Prim.Native.Nat.{ℕ, zero-le, suc, _+_, _-_, _*_, _%_, _≤_, _<_}
+use mathlib.Core.Path.{_≡_, refl, sym, ap, subst, _∙_}
+use mathlib.Core.Bool.{Bool, true, false}
+use mathlib.Core.List.{List, [], _∷_, _++_}
+use mathlib.Core.Option.{Option, some}
+
+use native.Mathlib.Omega.{arith}
+use lib.IntN.{ℤ}
+use lib.ListN.{length, take, drop}
+use borrow.Author.Tests.{le-leb, lt-leb}
+use Rattle.wire.specs.Bytes.{Bytes}
+use Rattle.wire.specs.Answer.{Answer, good, refusal, plain, badPart, partsMisfit, noRoom, tooMany}
+use Rattle.wire.specs.Store.{stored, laid}
+use Rattle.wire.proofs.Laid.{stored-fits, laid-length}
+use Rattle.position.specs.declared.key.Coordinates.{Coordinates}
+use Rattle.mapblock.specs.declared.scan.Found.{Found}
+use Rattle.mapblock.specs.Data.{Block}
+use Rattle.tally.specs.Rows.{Rows, addRow, plus}
+use Rattle.tally.specs.Tally.{tally, headBytes, mostRows, ones, one}
+use Rattle.tally.specs.Walks.{rowsBytes, Answered}
+use Rattle.tally.proofs.Held.{tally-size, head-size}
+use Rattle.names.specs.Used.{heavy}
+use Rattle.running.specs.Running.{Held, Runs, Absorbed, none}
+use Rattle.running.specs.declared.running.Running.{Running}
+use Rattle.running.proofs.Counts.{heavy-add, heavy-plus}
+use Rattle.running.proofs.Absorbing.{runs-empty}
+use Rattle.meter.specs.Standing.{Part, goodPart, Placed, Node, inPart, standing, nodesIn}
+use Rattle.meter.specs.Counting.{rowOf, tallyOf, byOne}
+use Rattle.meter.specs.Tallying.{placed}
+use Rattle.meter.specs.Sheet.{SheetRecord, judgeRecord}
+use Rattle.meter.specs.Streaming.{State, noRecords, startOf, taking, stepOf, finishOf}
+use Rattle.meter.specs.Records.{clearTable, lastOf, recordOf, faultNumber, faultOffset, faulty, FoundAs, RecordTold}
+use Rattle.meter.specs.Adding.{Adds, Added, withBlock}
+use Rattle.meter.specs.Progress.{Carries, StartTold, Steps, StepTold}
+use Rattle.meter.specs.declared.records.RecordFault.{RecordFault}
+use Rattle.meter.specs.declared.records.LastKey.{LastKey}
+use Rattle.meter.specs.declared.records.LastKey.the-variants as lasts
+use Rattle.meter.specs.declared.records.RecordAnswer.the-variants as records
+use Rattle.meter.specs.declared.stream.Progress.{Progress}
+use Rattle.meter.specs.declared.stream.StartAnswer.the-variants as starts
+use Rattle.meter.specs.declared.stream.StepAnswer.the-variants as steps
+use Rattle.meter.proofs.Amounts.{those-fewer, add-fewer, tally-fewer}
+use Rattle.meter.proofs.Blocks.{standing-number}
+use Rattle.meter.proofs.Streaming.{step-refused, step-good}
+use Rattle.meter.proofs.Putting.{sheet-short, sheet-many, sheet-all, tally-laid}
+
+-- ---- start
+module _ (p : Part) (room spare : ℕ) where
+  pub start-bad : goodPart p ≡ false → startOf byOne p room spare ≡ plain badPart
+  unfolding startOf
+  start-bad h = rw h
+
+  module _ (h : goodPart p ≡ true) where
+    pub start-misfit : spare < room → startOf byOne p room spare ≡ plain partsMisfit
+    unfolding startOf
+    start-misfit k = rw (h, lt-leb room spare k)
+
+    pub start-good : room ≤ spare → {u : Running} → u ≡ none → (t : List ℕ) → StartTold t (starts.Started (record { last = lasts.Nothing; records = 0; tally = u })) (startOf byOne p room spare)
+    unfolding startOf
+    start-good k e t = (
+      noRecords byOne,
+      rw (h, le-leb room spare k),
+      record { last = refl; records = refl; runs = subst (λ (v : Running). Runs t v []) (sym e) (runs-empty t); light = zero-le; few = zero-le },
+    )
+
+-- ---- a step
+heavy-tally : (l : List Node) → heavy (tallyOf byOne l) ≡ length l
+unfolding tallyOf
+heavy-tally [] = refl
+heavy-tally (x ∷ l) = heavy-add (rowOf byOne x) (tallyOf byOne l) ∙ omega (arith, heavy-tally l)
+
+plus-fewer : (a b : Rows ones) → length (plus ones a b) ≤ length a + length b
+plus-fewer [] b = omega arith
+plus-fewer (r ∷ a) b = omega (arith, add-fewer byOne r (plus ones a b), plus-fewer a b)
+
+block-nodes : (p : Part) (x : Placed) → length (nodesIn p (x ∷ [])) ≤ 4096
+block-nodes p x = omega (arith, those-fewer (inPart p) (standing (x ∷ [])), standing-number (x ∷ []))
+
+-- the same block at the same place
+placed-same : (x : Placed) {at : Coordinates} → x .at ≡ at → x ≡ placed at (x .block)
+placed-same x e = λ i. record { at = e i; block = x .block }
+
+module _ {ids counts t : List ℕ} {q : Progress} {w : State byOne} (s : Steps ids counts t q w) (p : Part) (key : ℤ) (block : List ℕ) where
+  judged : {a : Answer Placed} → judgeRecord (lastOf (q .last)) (recordOf key block) ≡ a → judgeRecord (w .last) (recordOf key block) ≡ a
+  judged h = ap (λ (l : Option ℤ). judgeRecord l (recordOf key block)) (sym (s .carries .last)) ∙ h
+
+  pub stepped-refused : (f : RecordFault) → RecordTold block (records.Refused f) (judgeRecord (lastOf (q .last)) (recordOf key block)) → stepOf byOne p w (recordOf key block) ≡ faulty f (q .records)
+  stepped-refused f h = step-refused byOne p w (recordOf key block) (judged h) ∙ ap (λ (i : ℕ). refusal (faultNumber f) i (faultOffset f)) (sym (s .carries .records))
+
+  module _ {at : Coordinates} {f : Found} (h : RecordTold block (records.Taken at f) (judgeRecord (lastOf (q .last)) (recordOf key block))) where
+    abbrev taken : Placed
+    taken = h .0
+
+    pub may-step : Adds block f counts t (q .tally) (taken .block) (w .rows)
+    may-step = record {
+      found = h .3;
+      clear = s .counts-clear;
+      runs = s .carries .runs;
+      light = omega (arith, s .carries .light, s .number);
+      few = omega (arith, s .carries .few, s .number);
+    }
+
+    pub stepped-taken : {counts′ t′ : List ℕ} {r : Running} {k : ℤ} {n : ℕ} → k ≡ key → n ≡ (q .records + 1) % 4294967296
+        → Added counts′ t t′ r (w .rows) (withBlock p at (taken .block) (w .rows))
+        → StepTold counts′ t′ (steps.Taken (record { last = lasts.Key k; records = n; tally = r })) (stepOf byOne p w (recordOf key block))
+    stepped-taken {counts′} {t′} {r} {k} {n} e g a =
+        let same : withBlock p at (taken .block) (w .rows) ≡ plus ones (tallyOf byOne (nodesIn p (taken ∷ []))) (w .rows) = ap (λ (x : Placed). plus ones (tallyOf byOne (nodesIn p (x ∷ []))) (w .rows)) (sym (placed-same taken (h .2))) in
+        let nodes = block-nodes p taken in (
+          taking byOne p w key taken,
+          step-good byOne p w (recordOf key block) (judged (h .1)),
+          record {
+            last = ap some e;
+            records = omega (arith, g, s .carries .records, s .number);
+            runs = subst (Runs t′ r) same (a .absorbed .runs);
+            light = omega (arith, heavy-plus (tallyOf byOne (nodesIn p (taken ∷ []))) (w .rows), heavy-tally (nodesIn p (taken ∷ [])), s .carries .light);
+            few = omega (arith, plus-fewer (tallyOf byOne (nodesIn p (taken ∷ []))) (w .rows), tally-fewer byOne (nodesIn p (taken ∷ [])), s .carries .few);
+          },
+          a .clear,
+        )
+
+-- ---- finish
+module _ {t : List ℕ} {q : Progress} {w : State byOne} (c : Carries t q w) (d : List ℕ) (fits : length d ≤ length t) where
+  abbrev Finished : Answer ℕ → List ℕ → Type 0
+  Finished a e = Answered a d e (finishOf byOne (length d) w)
+
+  no-room : length d < length (tally one .encode (w .rows)) → Finished (refusal noRoom (q .records) 0) d
+  no-room h = subst (λ (i : ℕ). Finished (refusal noRoom i 0) d) (sym (c .records)) (sheet-short d (w .rows) (w .records) h)
+
+  pub finished-over : q .tally .over ≡ true → Finished (refusal noRoom (q .records) 0) d
+  finished-over o = no-room (omega (arith, c .runs .lost o, tally-size one (w .rows)))
+
+  pub finished-headless : length d < 9 → Finished (refusal noRoom (q .records) 0) d
+  finished-headless h = no-room (omega (arith, tally-size one (w .rows)))
+
+  module _ (o : q .tally .over ≡ false) where
+    held : Held t (q .tally) (w .rows)
+    held = c .runs .held o
+
+    pub finished-short : 9 ≤ length d → length d - 9 < q .tally .size → Finished (refusal noRoom (q .records) 0) d
+    finished-short k h = no-room (omega (arith, tally-size one (w .rows), held .size))
+
+    -- the spare holds the rows
+    pub finished-held : length t < q .tally .size → ⊥
+    finished-held h = omega (arith, held .inside)
+
+    module _ (k : 9 ≤ length d) (h : q .tally .size ≤ length d - 9) where
+      long : length (tally one .encode (w .rows)) ≡ q .tally .size + 9
+      long = omega (arith, tally-size one (w .rows), held .size)
+
+      pub finished-many : mostRows < q .tally .rows → Finished (refusal tooMany (q .records) 0) d
+      finished-many m = subst (λ (i : ℕ). Finished (refusal tooMany i 0) d) (sym (c .records)) (sheet-many d (w .rows) (w .records) (omega (arith, long)) (omega (arith, held .rows)))
+
+      pub finished-all : {a e : List ℕ} → q .tally .rows ≤ mostRows → a ≡ stored 0 (headBytes one (q .tally .rows)) d → e ≡ stored 9 (take (q .tally .size) t) a → Finished (good (q .tally .size + 9)) e
+      finished-all {a} {e} m x y =
+          let H = headBytes one (q .tally .rows) in
+          let front : a ≡ laid 0 H d = x ∙ stored-fits 0 H d (omega (arith, head-size one (q .tally .rows))) in
+          let size : length a ≡ length d = ap length front ∙ laid-length 0 H d (omega (arith, head-size one (q .tally .rows))) in
+          let put : e ≡ laid 9 (rowsBytes one (w .rows)) a = y ∙ ap (λ (l : List ℕ). stored 9 l a) (held .bytes) ∙ stored-fits 9 (rowsBytes one (w .rows)) a (omega (arith, held .size)) in
+          let all : e ≡ tally one .encode (w .rows) ++ drop (length (tally one .encode (w .rows))) d = put ∙ ap (laid 9 (rowsBytes one (w .rows))) x ∙ tally-laid (q .tally .rows) (w .rows) d (held .rows) (omega (arith, long)) in
+          sheet-all d (w .rows) (w .records) long (omega arith) (omega (arith, held .rows)) (all ∙ ap (λ (i : ℕ). tally one .encode (w .rows) ++ drop i d) long)
