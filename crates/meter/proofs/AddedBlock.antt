@@ -139,9 +139,9 @@ module _ {s c t : List ℕ} {w : Found} {v : Running} {b : Block} {R : Rows ones
           determined ones (plus ones (run names c₁ ps) R) (withBlock p at b R) g
           (canonical-plus ones (tallyOf byOne (nodesIn p (placed at b ∷ []))) R (rows-canonical byOne p (placed at b ∷ []) (valid, tt)) (a .runs .canonical))
           (λ n.
-              count-plus ones (run names c₁ ps) R n
-              ∙ ap (λ (i : ℕ). i + countIn ones R n) (arranged-count o c₁ n ∙ ap (λ (l : Rows ones). countIn ones l n) places-run ∙ counted-amount at b p _ _ c₁ valid ids from-clear in-span n ∙ sym (count-tally byOne (nodesIn p (placed at b ∷ [])) n))
-              ∙ sym (count-plus ones (tallyOf byOne (nodesIn p (placed at b ∷ []))) R n))
+          count-plus ones (run names c₁ ps) R n
+          ∙ ap (λ (i : ℕ). i + countIn ones R n) (arranged-count o c₁ n ∙ ap (λ (l : Rows ones). countIn ones l n) places-run ∙ counted-amount at b p _ _ c₁ valid ids from-clear in-span n ∙ sym (count-tally byOne (nodesIn p (placed at b ∷ [])) n))
+          ∙ sym (count-plus ones (tallyOf byOne (nodesIn p (placed at b ∷ []))) R n))
 
       -- c₂ are the counters after they were cleared by the names
       pub added-some : {t′ c₂ : List ℕ} {r : Running} → Absorbed t t′ r R (plus ones (run names c₁ ps) R) → c₂ ≡ unmarked c₁ (b .names) → Added c₂ t t′ r R (withBlock p at b R)

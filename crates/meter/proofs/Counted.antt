@@ -99,6 +99,7 @@ module _ (t : List ℕ) (f : ℕ → ℕ) where
       none Before e = refl
       none Same e = e
       none After e = refl
+
       go : (z : Bool) → eqb (getD t (r .id) 0) 0 ≡ z → countIn ones (counted t l) n ≡ countIn ones (told f l) n
           → countIn ones (pick z (counted t l) (record { name = r .name; count = getD t (r .id) 0 } ∷ counted t l)) n ≡ countIn ones (told f (r ∷ l)) n
       go true e k = omega (arith, k, none (order (r .name) n) (sym (h .0) ∙ eqb-true (getD t (r .id) 0) 0 e))

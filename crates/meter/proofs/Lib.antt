@@ -12,6 +12,8 @@ pub mod Tallied
 pub mod SheetTaken
 pub mod Streaming
 pub mod Carried
+pub mod Walking
+pub mod SheetPuts
 -- When a part is tallied, and what its tally counts.
 pub mod Exactness
 pub mod NamesAlone

@@ -99,7 +99,7 @@ ok-head : (n : ℕ) → n < 256 ^ 4 → sheetHead .Ok n
 unfolding sheetHead behind along such number run
 ok-head n h = (((refl, mark-bytes), refl), ((lit< tt, refl), h))
 
-head-ok : (n : ℕ) → sheetHead .Ok n → n < 256 ^ 4
+pub head-ok : (n : ℕ) → sheetHead .Ok n → n < 256 ^ 4
 unfolding sheetHead behind along such number run
 head-ok n h = h .1 .1
 

@@ -29,7 +29,7 @@ use Rattle.meter.proofs.Steps.{records-end, records-more, records-misfr
 use Rattle.meter.proofs.SheetTaken.{sheet-behind, record-valid, records-valid}
 
 -- ---- one answer after another
-then-same : {A B : Type 0} (a : Answer A) (f g : A → Answer B) → ((x : A) → a ≡ good x → f x ≡ g x) → thenAnswer a f ≡ thenAnswer a g
+pub then-same : {A B : Type 0} (a : Answer A) (f g : A → Answer B) → ((x : A) → a ≡ good x → f x ≡ g x) → thenAnswer a f ≡ thenAnswer a g
 then-same (good x) f g h = h x refl
 then-same (refusal n r o) f g h = refl
 

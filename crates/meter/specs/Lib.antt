@@ -10,6 +10,7 @@ pub mod Records
 pub mod Adding
 pub mod Told
 pub mod Progress
+pub mod SheetTold
 -- What holds of them.
 pub mod Cuts
 pub mod Theorems

@@ -27,13 +27,19 @@ fn sized(places: &[usize; 4096])
 }
 
 // The counted names at the first n places, put in order and added.
-fn add_used(names: &[u8], counts: &[u16; 65536], places: &mut [usize], n: usize, room: &mut [usize], t: &mut [u8], w: Running) -> Running
+fn add_used(
+    names: &[u8],
+    counts: &[u16; 65536],
+    places: &mut [usize],
+    n: usize,
+    room: &mut [usize],
+    t: &mut [u8],
+    w: Running,
+) -> Running
     requires { ⌜ (n ≤ length (now places)) × (n ≤ length (now room)) ⌝ }
     ensures { λ _. ⌜ length (now (t .exit)) ≡ length (now (t .entry)) ⌝ }
-    ensures {
-      λ r. ⌜ ((R : Rows ones) → MayAdd (now (names .entry)) (now (counts .entry)) (take n (now (places .entry))) (now (t .entry)) w R
-        → UsedAdded (now (names .entry)) (now (counts .entry)) (take n (now (places .entry))) (now (t .entry)) (now (t .exit)) r R) ⌝
-    }
+    ensures { λ r. ⌜ ((R : Rows ones) → MayAdd (now (names .entry)) (now (counts .entry)) (take n (now (places .entry))) (now (t .entry)) w R
+        → UsedAdded (now (names .entry)) (now (counts .entry)) (take n (now (places .entry))) (now (t .entry)) (now (t .exit)) r R) ⌝ }
 {
     sort(names, &mut places[..n], room);
     absorb(names, counts, &places[..n], t, w)
@@ -41,12 +47,21 @@ fn add_used(names: &[u8], counts: &[u16; 65536], places: &mut [usize], n: usize,
 
 // The nodes that lie in the lot are counted by content id, the names that were counted are put in order and added, and the counters
 // are cleared by the names.
-pub(crate) fn add_block(block: &[u8], found: Found, at: Coordinates, lot: Lot, span: Span, counts: &mut [u16; 65536], places: &mut [usize; 4096], room: &mut [usize; 4096], t: &mut [u8], w: Running) -> Running
+pub(crate) fn add_block(
+    block: &[u8],
+    found: Found,
+    at: Coordinates,
+    lot: Lot,
+    span: Span,
+    counts: &mut [u16; 65536],
+    places: &mut [usize; 4096],
+    room: &mut [usize; 4096],
+    t: &mut [u8],
+    w: Running,
+) -> Running
     ensures { λ _. ⌜ length (now (t .exit)) ≡ length (now (t .entry)) ⌝ }
-    ensures {
-      λ r. ⌜ ((b : Block) (R : Rows ones) → Adds (now (block .entry)) found (now (counts .entry)) (now (t .entry)) w b R
-        → Added (now (counts .exit)) (now (t .entry)) (now (t .exit)) r R (withBlock (part lot span) at b R)) ⌝
-    }
+    ensures { λ r. ⌜ ((b : Block) (R : Rows ones) → Adds (now (block .entry)) found (now (counts .entry)) (now (t .entry)) w b R
+        → Added (now (counts .exit)) (now (t .entry)) (now (t .exit)) r R (withBlock (part lot span) at b R)) ⌝ }
 {
     let head = found.head;
     if !span.has(head.timestamp) {
@@ -54,7 +69,13 @@ pub(crate) fn add_block(block: &[u8], found: Found, at: Coordinates, lot: Lot, s
     }
     let sections = found.sections;
     let names = cut(block, sections.names);
-    let lists = cut(block, Part { start: found.lists, length: block.len() });
+    let lists = cut(
+        block,
+        Part {
+            start: found.lists,
+            length: block.len(),
+        },
+    );
     count_in(head.version, lists, at, lot, counts);
     let n = used(names, counts, places);
     sized(places);

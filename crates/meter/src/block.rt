@@ -33,7 +33,14 @@ pub enum BlockAnswer {
 }
 
 // The tally of a block that the scan found. Where it has no room nothing is written: the rows are measured first.
-fn put_tally(block: &[u8], found: Found, at: Coordinates, lot: Lot, span: Span, out: &mut [u8]) -> BlockAnswer
+fn put_tally(
+    block: &[u8],
+    found: Found,
+    at: Coordinates,
+    lot: Lot,
+    span: Span,
+    out: &mut [u8],
+) -> BlockAnswer
     requires { ⌜ ((b : Block) × FoundAs (now block) found b) ⌝ }
     ensures { λ r. ⌜ ((b : Block) → FoundAs (now (block .entry)) found b → PutAs (part lot span) at b (now (out .entry)) (now (out .exit)) r) ⌝ }
 {
@@ -43,7 +50,18 @@ fn put_tally(block: &[u8], found: Found, at: Coordinates, lot: Lot, span: Span, 
     let mut counts = [0u16; 65536];
     let mut places = [0usize; 4096];
     let mut room = [0usize; 4096];
-    let w = add_block(block, found, at, lot, span, &mut counts, &mut places, &mut room, &mut out[HEAD..], empty());
+    let w = add_block(
+        block,
+        found,
+        at,
+        lot,
+        span,
+        &mut counts,
+        &mut places,
+        &mut room,
+        &mut out[HEAD..],
+        empty(),
+    );
     if w.over {
         return BlockAnswer::NoRoom;
     }

@@ -4,4 +4,5 @@ pub mod block;
 pub mod head;
 pub mod part;
 pub mod records;
+pub mod sheet;
 pub mod stream;

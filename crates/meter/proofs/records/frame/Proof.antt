@@ -33,7 +33,7 @@ returns-2 : tie.Need-returns-2
 returns-2 c = at-place _ (frame-short-block _ (told-as toldS64 (c .before .before .before .before .before .before .s64-at .ensures) (c .before .before .before .before .key .given .1)) (told-as (toldCounted 4 _) (c .before .before .counted32-at .ensures) (c .enum-told2 .given .1)))
 
 returns-3 : tie.Need-returns-3
-returns-3 c = 
+returns-3 c =
     rw (toZ-ofZ w64 _ (record { sfits = c .before .before .before .before .known-told .given .0 .1 }))
     (frame-read _ (c .before .n .given .0 .0) (told-as toldS64 (c .before .before .before .before .before .before .before .s64-at .ensures) (c .before .before .before .before .before .key .given .1)) (told-as (toldCounted 4 _) (c .before .before .before .counted32-at .ensures) (c .before .n .given .1)))
 

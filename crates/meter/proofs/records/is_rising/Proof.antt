@@ -20,7 +20,7 @@ returns : tie.Need-returns
 returns c = search needs
 
 returns-2 : tie.Need-returns-2
-returns-2 c = 
+returns-2 c =
     rw (toZ-ofZ w64 _ (record { sfits = c .known-told .given .0 .1 }), toZ-ofZ w64 (c .before .before .before .args .key) (c .before .before .before .fits .key))
     (sym (ap (λ (l : LastKey). rises (lastOf l) (c .before .before .before .args .key)) (c .before .last .given .1)))
 

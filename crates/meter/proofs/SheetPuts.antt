@@ -1,0 +1,113 @@
+-- The tally of a sheet, by cases, as the code answers it.
+use Prim.Native.Nat.{ℕ, _+_, _≤_, _<_, _^_}
+use mathlib.Core.Path.{_≡_, refl, sym, ap, subst, _∙_}
+use mathlib.Core.Bool.{Bool, true, false}
+use mathlib.Core.List.{List, []}
+use mathlib.Core.Option.{none}
+use native.Mathlib.Omega.{arith}
+use lib.Dec.{leb}
+use lib.ListN.{length, drop}
+use borrow.Author.Tests.{leb-true}
+use Rattle.wire.specs.Lists.{rest-is}
+use Rattle.wire.specs.Bytes.{Bytes, bytes-drop}
+use Rattle.wire.specs.Read.{done}
+use Rattle.wire.specs.Format.{ends-in}
+use Rattle.wire.specs.Answer.{Answer, good, refusal, plain, no-good, badPart, partsMisfit, sheetMalformed}
+use Rattle.wire.specs.Choice.{pick}
+use Rattle.tally.specs.Walks.{Answered}
+use Rattle.meter.specs.Standing.{Part, goodPart, Placed, nodesIn}
+use Rattle.meter.specs.Counting.{tallyOf, byOne}
+use Rattle.meter.specs.Tallying.{thenAnswer}
+use Rattle.meter.specs.Sheet.{sheetHead, recordsFrom, sheetOf, fittedSheet, tallySheetOf}
+use Rattle.meter.specs.Streaming.{State, noRecords, startOf, finishOf}
+use Rattle.meter.specs.Records.{Misread, at-place, HeadTold, faulty}
+use Rattle.meter.specs.Progress.{Carries, StartTold, FinishTold, toldFinish}
+use Rattle.meter.specs.SheetTold.{answerFrom, Numbered, RecordsTold, toldSheet, SheetPut}
+use Rattle.meter.specs.declared.records.RecordFault.{RecordFault}
+use Rattle.meter.specs.declared.stream.Progress.{Progress}
+use Rattle.meter.specs.declared.stream.StartAnswer.the-variants as starts
+use Rattle.meter.specs.declared.stream.FinishAnswer.{FinishAnswer}
+use Rattle.meter.specs.declared.sheet.Records.the-variants as records
+use Rattle.meter.specs.declared.sheet.SheetAnswer.{SheetAnswer}
+use Rattle.meter.specs.declared.sheet.SheetAnswer.the-variants as sheets
+use Rattle.meter.proofs.Steps.{sheet-misframed, sheet-on}
+use Rattle.meter.proofs.SheetTaken.{head-ok, records-valid}
+use Rattle.meter.proofs.Streaming.{then-same, finishing, finishing-first}
+use Rattle.meter.proofs.Walking.{refusal-as}
+
+-- the tally of the sheet's blocks
+abbrev pub blocksTally : Part → List ℕ → ℕ → Answer (List ℕ)
+blocksTally p s room = thenAnswer (sheetOf s) λ l. fittedSheet byOne room (tallyOf byOne (nodesIn p l)) (length l)
+
+-- ---- the head, then the records
+module _ (p : Part) (s : List ℕ) (d : List ℕ) where
+  pub put-headless : Misread (sheetHead .read s) → SheetPut p s d d (sheets.Malformed 0)
+  put-headless (at-place e h) = rw (sheet-misframed s h) (refl, refl)
+
+  module _ (b : Bytes s) {n : ℕ} (h : sheetHead .read s ≡ done n 9) where
+    pub head-inside : 9 ≤ length s
+    head-inside = ends-in sheetHead h
+
+    pub head-number : Numbered (noRecords byOne) n
+    head-number = omega (arith, head-ok n (sheetHead .backward s n 9 b h .ok))
+
+    from-head : (room : ℕ) → blocksTally p s room ≡ answerFrom p room (noRecords byOne) n (drop 9 s)
+    from-head room =
+        rw (sheet-on s h)
+        (then-same (recordsFrom n 0 none (drop 9 s)) (λ l. fittedSheet byOne room (tallyOf byOne (nodesIn p l)) (length l)) (finishing byOne p room (noRecords byOne))
+        (λ l g. sym (finishing-first byOne p room l (records-valid n 0 none (drop 9 s) l (bytes-drop 9 s b) g))))
+
+    -- a record was refused
+    pub put-refused : {a i c : ℕ} → ((room : ℕ) → answerFrom p room (noRecords byOne) n (drop 9 s) ≡ refusal a i c) → Answered (refusal a i c) d d (blocksTally p s (length d))
+    put-refused f = rw (from-head (length d), f (length d)) (refl, refl)
+
+    -- all were taken, and finished
+    pub put-finished : {e : List ℕ} (v : State byOne) (r : SheetAnswer) (a : FinishAnswer) → ((room : ℕ) → answerFrom p room (noRecords byOne) n (drop 9 s) ≡ finishOf byOne room v)
+        → FinishTold d e a (finishOf byOne (length d) v) → toldSheet r ≡ toldFinish a → SheetPut p s d e r
+    put-finished v r a f g t = rw (from-head (length d), f (length d), t) g
+
+-- ---- the part and the buffers
+module _ (p : Part) (s d : List ℕ) (spare : ℕ) where
+  abbrev whole : Answer (List ℕ)
+  whole = tallySheetOf byOne s p (length d) spare
+
+  pub sheet-bad : startOf byOne p (length d) spare ≡ plain badPart → Answered (plain badPart) d d whole
+  unfolding startOf tallySheetOf
+  sheet-bad h = rw (go (goodPart p) (leb (length d) spare) h) (refl, refl)
+    where
+      go : (a b : Bool) → pick a (pick b (good (noRecords byOne)) (plain partsMisfit)) (plain badPart) ≡ plain badPart
+          → pick a (pick b (blocksTally p s (length d)) (plain partsMisfit)) (plain badPart) ≡ plain badPart
+      go true true e = no-good (sym e)
+      go true false e = refusal-as e
+      go false b e = refl
+
+  pub sheet-misfit : startOf byOne p (length d) spare ≡ plain partsMisfit → Answered (plain partsMisfit) d d whole
+  unfolding startOf tallySheetOf
+  sheet-misfit h = rw (go (goodPart p) (leb (length d) spare) h) (refl, refl)
+    where
+      go : (a b : Bool) → pick a (pick b (good (noRecords byOne)) (plain partsMisfit)) (plain badPart) ≡ plain partsMisfit
+          → pick a (pick b (blocksTally p s (length d)) (plain partsMisfit)) (plain badPart) ≡ plain partsMisfit
+      go true true e = no-good (sym e)
+      go true false e = refl
+      go false b e = refusal-as e
+
+  -- it is started
+  pub record Begun (t : List ℕ) (q : Progress) : Type 0 where
+    pub carries : Carries t q (noRecords byOne)
+    pub fits : length d ≤ spare
+    pub same : whole ≡ blocksTally p s (length d)
+
+  pub begun : (t : List ℕ) (q : Progress) → StartTold t (starts.Started q) (startOf byOne p (length d) spare) → Begun t q
+  unfolding startOf tallySheetOf
+  begun t q (w, e, c) = go (goodPart p) (leb (length d) spare) refl refl e
+    where
+      go : (a b : Bool) → goodPart p ≡ a → leb (length d) spare ≡ b → pick a (pick b (good (noRecords byOne)) (plain partsMisfit)) (plain badPart) ≡ good w → Begun t q
+      go true true f g h =
+          let z : w ≡ noRecords byOne = cc in
+          record { carries = subst (Carries t q) z c; fits = leb-true _ _ g; same = rw (f, g) }
+      go true false f g h = no-good h
+      go false b f g h = no-good h
+
+  pub sheet-put : {t e : List ℕ} {q : Progress} (r : SheetAnswer) → StartTold t (starts.Started q) (startOf byOne p (length d) spare)
+      → (Carries t q (noRecords byOne) → length d ≤ spare → SheetPut p s d e r) → Answered (toldSheet r) d e whole
+  sheet-put {t} {q = q} r g f = let k = begun t q g in rw (k .same) (f (k .carries) (k .fits))

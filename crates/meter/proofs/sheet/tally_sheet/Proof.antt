@@ -1,0 +1,64 @@
+use mathlib.Core.Path.{_≡_, refl, subst}
+use mathlib.Core.List.{List, []}
+use Prim.Native.Nat.{ℕ}
+use lib.ListN.{length}
+use denote.Ref.{now}
+use Rattle.meter.specs.Counting.{byOne}
+use Rattle.meter.specs.Streaming.{startOf}
+use Rattle.meter.specs.Adding.{part}
+use Rattle.meter.specs.Progress.{StartTold}
+use Rattle.meter.specs.declared.stream.StartAnswer.{StartAnswer}
+use Rattle.meter.proofs.SheetPuts.{sheet-bad, sheet-misfit, sheet-put}
+use borrow.Author.Needs.{needs}
+use Rattle.meter.proofs.sheet.tally_sheet.Statement.{statement}
+use Rattle.meter.proofs.sheet.tally_sheet.Tie as tie
+
+-- what start told, of any spare
+started : (c : tie.After-start) (t : List ℕ) {a : StartAnswer} → c .start .result ≡ a
+    → StartTold t a (startOf byOne (part (c .before .before .before .before .args .lot) (c .before .before .before .before .args .span)) (length (now (c .before .before .before .before .args .out))) (length (now (c .before .before .before .before .args .spare))))
+started c t e = subst (λ (a : StartAnswer). StartTold t a (startOf byOne (part (c .before .before .before .before .args .lot) (c .before .before .before .before .args .span)) (length (now (c .before .before .before .before .args .out))) (length (now (c .before .before .before .before .args .spare))))) e (c .start .ensures t)
+
+start-requires : tie.Need-start-requires
+start-requires c κs = search needs
+
+enum-told : tie.Need-enum-told
+enum-told c = search needs
+
+enum-told-2 : tie.Need-enum-told-2
+enum-told-2 c = search needs
+
+enum-known-p : tie.Need-enum-known-p
+enum-known-p c = search needs
+
+from-start-requires : tie.Need-from-start-requires
+from-start-requires c κs = search needs
+
+returns : tie.Need-returns
+returns c = let x = sheet-bad (part (c .before .before .before .before .before .before .args .lot) (c .before .before .before .before .before .before .args .span)) (now (c .before .before .before .before .before .before .args .sheet)) (now (c .before .before .before .before .before .before .args .out)) _ (started (c .before .before) [] (c .enum-told .given .1)) in (x .0, (x .1, refl))
+
+returns-2 : tie.Need-returns-2
+returns-2 c = let x = sheet-misfit (part (c .before .before .before .before .before .before .args .lot) (c .before .before .before .before .before .before .args .span)) (now (c .before .before .before .before .before .before .args .sheet)) (now (c .before .before .before .before .before .before .args .out)) _ (started (c .before .before) [] (c .enum-told2 .given .1)) in (x .0, (x .1, refl))
+
+same-length : tie.Need-same-length
+same-length c = search needs
+
+same-length-2 : tie.Need-same-length-2
+same-length-2 c = search needs
+
+returns-3 : tie.Need-returns-3
+returns-3 c = let x = sheet-put (part (c .before .before .before .before .before .before .before .before .before .before .before .before .before .before .args .lot) (c .before .before .before .before .before .before .before .before .before .before .before .before .before .before .args .span)) (now (c .before .before .before .before .before .before .before .before .before .before .before .before .before .before .args .sheet)) (now (c .before .before .before .before .before .before .before .before .before .before .before .before .before .before .args .out)) _ (c .before .before .before .before .from-start .result) (started (c .before .before .before .before .before .before .before .before .before .before) (now (c .before .before .before .before .before .before .before .before .before .before .before .before .before .before .args .spare)) (c .before .before .before .before .before .before .before .before .p .given .1)) (c .before .before .before .before .from-start .ensures .1) in (x .0, (x .1, c .before .before .before .before .from-start .ensures .0))
+
+pub tally-sheet-spec : {M : Type 1} → statement M
+tally-sheet-spec =
+    tie.close
+    (tie.spec
+    start-requires
+    enum-told
+    enum-told-2
+    enum-known-p
+    from-start-requires
+    returns
+    returns-2
+    same-length
+    same-length-2
+    returns-3)

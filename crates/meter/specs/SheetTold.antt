@@ -1,0 +1,49 @@
+-- What the answers of tallying a sheet say.
+use Prim.Native.Nat.{ℕ, _+_, _<_}
+use mathlib.Core.Path.{_≡_}
+use mathlib.Core.List.{List}
+use lib.ListN.{length}
+use Rattle.wire.specs.Answer.{Answer, good, refusal, plain, badPart, partsMisfit, sheetMalformed, noRoom, tooMany}
+use Rattle.tally.specs.Rows.{plus}
+use Rattle.tally.specs.Tally.{ones}
+use Rattle.tally.specs.Walks.{Answered}
+use Rattle.meter.specs.Standing.{Part, nodesIn}
+use Rattle.meter.specs.Counting.{tallyOf, byOne}
+use Rattle.meter.specs.Tallying.{thenAnswer}
+use Rattle.meter.specs.Sheet.{recordsFrom, sheetOf, fittedSheet}
+use Rattle.meter.specs.Streaming.{State, finishOf}
+use Rattle.meter.specs.Records.{faulty}
+use Rattle.meter.specs.Progress.{Carries}
+use Rattle.meter.specs.declared.sheet.Records.{Records}
+use Rattle.meter.specs.declared.sheet.Records.the-variants as records
+use Rattle.meter.specs.declared.sheet.SheetAnswer.{SheetAnswer}
+use Rattle.meter.specs.declared.sheet.SheetAnswer.the-variants as sheets
+
+-- ---- from one record to the next
+-- what a sheet's tally answers from a state on, with so many records to come in these bytes
+abbrev pub answerFrom : Part → ℕ → State byOne → ℕ → List ℕ → Answer (List ℕ)
+answerFrom p room w k s =
+    thenAnswer (recordsFrom k (w .records) (w .last) s) λ l. fittedSheet byOne room (plus ones (tallyOf byOne (nodesIn p l)) (w .rows)) (w .records + length l)
+
+-- a u32 holds the number of all records
+abbrev pub Numbered : State byOne → ℕ → Type 0
+Numbered w k = w .records + k < 4294967296
+
+abbrev pub RecordsTold : Part → List ℕ → State byOne → ℕ → List ℕ → Records → Type 0
+RecordsTold p t w k s (records.Taken q) = (v : State byOne) × Carries t q v × ((room : ℕ) → answerFrom p room w k s ≡ finishOf byOne room v)
+RecordsTold p t w k s (records.Malformed i) = (room : ℕ) → answerFrom p room w k s ≡ refusal sheetMalformed i 0
+RecordsTold p t w k s (records.Refused f i) = (room : ℕ) → answerFrom p room w k s ≡ faulty f i
+
+-- ---- the whole
+abbrev pub toldSheet : SheetAnswer → Answer ℕ
+toldSheet (sheets.Tallied n) = good n
+toldSheet sheets.BadPart = plain badPart
+toldSheet sheets.Misfit = plain partsMisfit
+toldSheet (sheets.Malformed i) = refusal sheetMalformed i 0
+toldSheet (sheets.Record f i) = faulty f i
+toldSheet (sheets.NoRoom i) = refusal noRoom i 0
+toldSheet (sheets.TooMany i) = refusal tooMany i 0
+
+-- the tally of the sheet's blocks, put into a buffer
+abbrev pub SheetPut : Part → List ℕ → List ℕ → List ℕ → SheetAnswer → Type 0
+SheetPut p s before after r = Answered (toldSheet r) before after (thenAnswer (sheetOf s) λ l. fittedSheet byOne (length before) (tallyOf byOne (nodesIn p l)) (length l))

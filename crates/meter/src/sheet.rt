@@ -1,0 +1,153 @@
+// The tally of a sheet: its records, streamed from the caller's bytes.
+use crate::head::HEAD;
+use crate::head::HeadRead;
+use crate::head::sheet_head;
+use crate::records::BLOCK_AT;
+use crate::records::FrameRead;
+use crate::records::RecordFault;
+use crate::records::frame;
+use crate::stream::FinishAnswer;
+use crate::stream::Progress;
+use crate::stream::StartAnswer;
+use crate::stream::StepAnswer;
+use crate::stream::finish;
+use crate::stream::start;
+use crate::stream::step;
+use position::lot::Lot;
+use position::span::Span;
+ghost use mathlib.Core.Path.{_≡_};
+ghost use Prim.Native.Nat.{_≤_};
+ghost use lib.ListN.{length};
+ghost use Rattle.wire.specs.Answer.{lent, mapAnswer};
+ghost use Rattle.meter.specs.Counting.{byOne};
+ghost use Rattle.meter.specs.Adding.{part};
+ghost use Rattle.meter.specs.Sheet.{tallySheetOf};
+ghost use Rattle.meter.specs.Streaming.{State, noRecords};
+ghost use Rattle.meter.specs.Progress.{Carries, toldFinish};
+ghost use Rattle.meter.specs.SheetTold.{Numbered, RecordsTold, toldSheet, SheetPut};
+
+pub enum Records {
+    Taken(Progress),
+    // With the number of the record that is not framed, or of those there are.
+    Malformed(u32),
+    Refused(RecordFault, u32),
+}
+
+// So many records, and no byte more. The tables are cleared here, once; each step leaves them clear.
+fn take_records(
+    s: &[u8],
+    count: u32,
+    lot: Lot,
+    span: Span,
+    spare: &mut [u8],
+    p: Progress,
+) -> Records
+    ensures { λ _. ⌜ length (now (spare .exit)) ≡ length (now (spare .entry)) ⌝ }
+    ensures { λ r. ⌜ ((w : State byOne) → Carries (now (spare .entry)) p w → Numbered w count
+        → RecordsTold (part lot span) (now (spare .exit)) w count (now (s .entry)) r) ⌝ }
+{
+    let mut ids = [0u8; 65536];
+    let mut counts = [0u16; 65536];
+    let mut places = [0usize; 4096];
+    let mut room = [0usize; 4096];
+    let mut rest = s;
+    let mut left = count;
+    let mut now = p;
+    while 0 < left {
+        match frame(rest) {
+            FrameRead::Misframed => {
+                return Records::Malformed(now.records);
+            }
+            FrameRead::Record(key, n) => match step(
+                now,
+                key,
+                &rest[BLOCK_AT..n + BLOCK_AT],
+                lot,
+                span,
+                spare,
+                &mut ids,
+                &mut counts,
+                &mut places,
+                &mut room,
+            ) {
+                StepAnswer::Refused(f, i) => {
+                    return Records::Refused(f, i);
+                }
+                StepAnswer::Taken(next) => {
+                    now = next;
+                    rest = &rest[n + BLOCK_AT..];
+                    left -= 1;
+                }
+            },
+        }
+    }
+    if 0 < rest.len() {
+        return Records::Malformed(now.records);
+    }
+    Records::Taken(now)
+}
+
+pub enum SheetAnswer {
+    // The tally's length.
+    Tallied(usize),
+    BadPart,
+    // The spare is shorter than the output.
+    Misfit,
+    // The mark, the version or the framing, with the number of the record.
+    Malformed(u32),
+    Record(RecordFault, u32),
+    NoRoom(u32),
+    TooMany(u32),
+}
+
+fn finished(a: FinishAnswer) -> SheetAnswer
+    ensures { λ r. ⌜ toldSheet r ≡ toldFinish a ⌝ }
+{
+    match a {
+        FinishAnswer::Tallied(n) => SheetAnswer::Tallied(n),
+        FinishAnswer::NoRoom(i) => SheetAnswer::NoRoom(i),
+        FinishAnswer::TooMany(i) => SheetAnswer::TooMany(i),
+    }
+}
+
+// The head and the records, once the part and the buffers are judged.
+fn from_start(
+    sheet: &[u8],
+    lot: Lot,
+    span: Span,
+    out: &mut [u8],
+    spare: &mut [u8],
+    p: Progress,
+) -> SheetAnswer
+    ensures { λ _. ⌜ length (now (spare .exit)) ≡ length (now (spare .entry)) ⌝ }
+    ensures { λ r. ⌜ (Carries (now (spare .entry)) p (noRecords byOne) → length (now (out .entry)) ≤ length (now (spare .entry))
+        → SheetPut (part lot span) (now (sheet .entry)) (now (out .entry)) (now (out .exit)) r) ⌝ }
+{
+    let HeadRead::Records(count) = sheet_head(sheet) else {
+        return SheetAnswer::Malformed(0);
+    };
+    match take_records(&sheet[HEAD..], count, lot, span, spare, p) {
+        Records::Malformed(i) => SheetAnswer::Malformed(i),
+        Records::Refused(f, i) => SheetAnswer::Record(f, i),
+        Records::Taken(q) => finished(finish(q, spare, out)),
+    }
+}
+
+// Counts the nodes of a sheet's blocks that stand in a part, name by name. The spare keeps its length; what it holds afterwards is open.
+pub fn tally_sheet(
+    sheet: &[u8],
+    lot: Lot,
+    span: Span,
+    out: &mut [u8],
+    spare: &mut [u8],
+) -> SheetAnswer
+    ensures { λ r. ⌜ toldSheet r ≡ mapAnswer length (tallySheetOf byOne (now (sheet .entry)) (part lot span) (length (now (out .entry))) (length (now (spare .entry)))) ⌝ }
+    ensures { λ _. ⌜ now (out .exit) ≡ lent (tallySheetOf byOne (now (sheet .entry)) (part lot span) (length (now (out .entry))) (length (now (spare .entry)))) (now (out .entry)) ⌝ }
+    ensures { λ _. ⌜ length (now (spare .exit)) ≡ length (now (spare .entry)) ⌝ }
+{
+    match start(lot, span, out.len(), spare.len()) {
+        StartAnswer::BadPart => SheetAnswer::BadPart,
+        StartAnswer::Misfit => SheetAnswer::Misfit,
+        StartAnswer::Started(p) => from_start(sheet, lot, span, out, spare, p),
+    }
+}
