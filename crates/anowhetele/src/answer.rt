@@ -50,3 +50,15 @@ pub(crate) fn refused(fault: Fault, offset: usize) -> AnowAnswer
         length: 0,
     }
 }
+
+// A refusal in a sheet: the record at an index.
+pub(crate) fn in_record(number: u32, index: u32, offset: usize) -> AnowAnswer
+    ensures { λ r. ⌜ r ≡ refusedWith number index offset ⌝ }
+{
+    AnowAnswer {
+        number,
+        index,
+        offset: offset as u64,
+        length: 0,
+    }
+}

@@ -2,6 +2,7 @@
 pub mod answer;
 pub mod blocks;
 pub mod light;
+pub mod metering;
 pub mod numbers;
 pub mod places;
 pub mod rows;

@@ -15,4 +15,6 @@ pub const TALLY_MALFORMED: u32 = 13;
 
 pub const TOO_MANY: u32 = 14;
 
+pub const SHEET_MALFORMED: u32 = 15;
+
 pub const NO_SUCH: u32 = 16;

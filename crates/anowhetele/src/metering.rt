@@ -1,0 +1,84 @@
+// What stands in a part of the world, counted.
+use crate::answer::AnowAnswer;
+use crate::answer::done;
+use crate::answer::in_record;
+use crate::answer::plain;
+use crate::answer::refused;
+use crate::numbers::BAD_PART;
+use crate::numbers::NO_ROOM;
+use crate::numbers::OUT_OF_RANGE;
+use crate::numbers::PARTS_MISFIT;
+use crate::numbers::SHEET_MALFORMED;
+use crate::numbers::TOO_MANY;
+use mapblock::fault::number;
+use meter::block::BlockAnswer;
+use meter::block::tally_block;
+use meter::records::RecordFault;
+use meter::sheet::SheetAnswer;
+use meter::sheet::tally_sheet;
+use position::lot::Lot;
+use position::span::Span;
+ghost use mathlib.Core.Path.{_≡_};
+ghost use lib.ListN.{length};
+ghost use Rattle.wire.specs.Answer.{lent, mapAnswer};
+ghost use Rattle.meter.specs.Counting.{byOne};
+ghost use Rattle.meter.specs.Tallying.{tallyBlockOf};
+ghost use Rattle.meter.specs.Sheet.{tallySheetOf};
+ghost use Rattle.meter.specs.Adding.{part};
+ghost use Rattle.meter.specs.Records.{faultNumber, faultOffset};
+ghost use Rattle.anowhetele.specs.Answers.{handed, refusedWith};
+
+#[no_mangle]
+pub extern "C" fn anow_tally_block(
+    key: i64,
+    block: &[u8],
+    lot: Lot,
+    span: Span,
+    out: &mut [u8],
+) -> AnowAnswer
+    ensures { λ r. ⌜ r ≡ handed (mapAnswer length (tallyBlockOf byOne key (now (block .entry)) (part lot span) (length (now (out .entry))))) ⌝ }
+    ensures { λ _. ⌜ now (out .exit) ≡ lent (tallyBlockOf byOne key (now (block .entry)) (part lot span) (length (now (out .entry)))) (now (out .entry)) ⌝ }
+{
+    match tally_block(key, block, lot, span, out) {
+        BlockAnswer::Tallied(n) => done(n),
+        BlockAnswer::BadPart => plain(BAD_PART),
+        BlockAnswer::OutOfRange => plain(OUT_OF_RANGE),
+        BlockAnswer::Refused(f, p) => refused(f, p),
+        BlockAnswer::NoRoom => plain(NO_ROOM),
+    }
+}
+
+// A fault of the record at an index.
+fn record_refused(fault: RecordFault, index: u32) -> AnowAnswer
+    ensures { λ r. ⌜ r ≡ refusedWith (faultNumber fault) index (faultOffset fault) ⌝ }
+{
+    match fault {
+        RecordFault::OutOfRange => in_record(OUT_OF_RANGE, index, 0),
+        RecordFault::NotRising => in_record(SHEET_MALFORMED, index, 0),
+        RecordFault::Block(f, p) => in_record(number(f), index, p),
+    }
+}
+
+// The spare keeps its length; what it holds afterwards is open.
+#[no_mangle]
+pub extern "C" fn anow_tally_sheet(
+    sheet: &[u8],
+    lot: Lot,
+    span: Span,
+    out: &mut [u8],
+    spare: &mut [u8],
+) -> AnowAnswer
+    ensures { λ r. ⌜ r ≡ handed (mapAnswer length (tallySheetOf byOne (now (sheet .entry)) (part lot span) (length (now (out .entry))) (length (now (spare .entry))))) ⌝ }
+    ensures { λ _. ⌜ now (out .exit) ≡ lent (tallySheetOf byOne (now (sheet .entry)) (part lot span) (length (now (out .entry))) (length (now (spare .entry)))) (now (out .entry)) ⌝ }
+    ensures { λ _. ⌜ length (now (spare .exit)) ≡ length (now (spare .entry)) ⌝ }
+{
+    match tally_sheet(sheet, lot, span, out, spare) {
+        SheetAnswer::Tallied(n) => done(n),
+        SheetAnswer::BadPart => plain(BAD_PART),
+        SheetAnswer::Misfit => plain(PARTS_MISFIT),
+        SheetAnswer::Malformed(i) => in_record(SHEET_MALFORMED, i, 0),
+        SheetAnswer::Record(f, i) => record_refused(f, i),
+        SheetAnswer::NoRoom(i) => in_record(NO_ROOM, i, 0),
+        SheetAnswer::TooMany(i) => in_record(TOO_MANY, i, 0),
+    }
+}
