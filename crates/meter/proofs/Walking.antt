@@ -55,59 +55,65 @@ module _ (p : Part) (w : State byOne) (r : SheetRecord) where
       go (refusal x y z) e = ap (λ l. thenAnswer l (finishing byOne p room w)) (records-refused (w .records) (w .last) s k f e) ∙ refusal-as (sym (step-refused byOne p w r e) ∙ h)
 
 -- ---- the walk
+-- a state from which it may begin: the spare carries it, its records can be numbered, and the tables are clear
+pub record Begins (t : List ℕ) (q : Progress) (ids counts : List ℕ) (count : ℕ) (w : State byOne) : Type 0 where
+  pub carries : Carries t q w
+  pub numbered : Numbered w count
+  pub ids-clear : ids ≡ clearTable
+  pub counts-clear : counts ≡ clearTable
+
 -- from the state w with so many records in s to come, to the state v with so many left in the rest
-pub record Following (p : Part) (w : State byOne) (count : ℕ) (s t counts rest : List ℕ) (left : ℕ) (q : Progress) : Type 0 where
+pub record Following (p : Part) (w : State byOne) (count : ℕ) (s t ids counts rest : List ℕ) (left : ℕ) (q : Progress) : Type 0 where
   pub v : State byOne
   pub carries : Carries t q v
-  pub clear : counts ≡ clearTable
+  pub ids-clear : ids ≡ clearTable
+  pub counts-clear : counts ≡ clearTable
   pub number : v .records + left ≡ w .records + count
   pub same : (room : ℕ) → answerFrom p room v left rest ≡ answerFrom p room w count s
 
-pub record Walking (p : Part) (s : List ℕ) (count : ℕ) (t₀ : List ℕ) (q₀ : Progress) (t ids counts rest : List ℕ) (left : ℕ) (q : Progress) : Type 0 where
-  pub ids-clear : ids ≡ clearTable
+pub record Walking (p : Part) (s : List ℕ) (count : ℕ) (t₀ : List ℕ) (q₀ : Progress) (ids₀ counts₀ t ids counts rest : List ℕ) (left : ℕ) (q : Progress) : Type 0 where
   pub bytes : Bytes rest
   pub short : length rest ≤ length s
   pub size : length t ≡ length t₀
-  pub follows : (w : State byOne) → Carries t₀ q₀ w → Numbered w count → Following p w count s t counts rest left q
+  pub follows : (w : State byOne) → Begins t₀ q₀ ids₀ counts₀ count w → Following p w count s t ids counts rest left q
 
-pub walking-start : (p : Part) (s : List ℕ) (count : ℕ) (t : List ℕ) (q : Progress) → Bytes s → Walking p s count t q t clearTable clearTable s count q
-walking-start p s count t q b = record {
-  ids-clear = refl;
+pub walking-start : (p : Part) (s : List ℕ) (count : ℕ) (t : List ℕ) (q : Progress) (ids counts : List ℕ) → Bytes s → Walking p s count t q ids counts t ids counts s count q
+walking-start p s count t q ids counts b = record {
   bytes = b;
   short = le-refl _;
   size = refl;
-  follows = λ w c n. record { v = w; carries = c; clear = refl; number = refl; same = λ room. refl };
+  follows = λ w g. record { v = w; carries = g .carries; ids-clear = g .ids-clear; counts-clear = g .counts-clear; number = refl; same = λ room. refl };
 }
 
 -- what is told at the end, of every state that the walk may have begun with
-abbrev pub ToldAll : Part → List ℕ → ℕ → List ℕ → Progress → List ℕ → Records → Type 0
-ToldAll p s count t₀ q₀ t r = (w : State byOne) → Carries t₀ q₀ w → Numbered w count → RecordsTold p t w count s r
+abbrev pub ToldAll : Part → List ℕ → ℕ → List ℕ → Progress → List ℕ → List ℕ → List ℕ → Records → Type 0
+ToldAll p s count t₀ q₀ ids₀ counts₀ t r = (w : State byOne) → Begins t₀ q₀ ids₀ counts₀ count w → RecordsTold p t w count s r
 
-module _ {p : Part} {s : List ℕ} {count : ℕ} {t₀ : List ℕ} {q₀ : Progress} {t ids counts rest : List ℕ} {left : ℕ} {q : Progress} (k : Walking p s count t₀ q₀ t ids counts rest left q) where
+module _ {p : Part} {s : List ℕ} {count : ℕ} {t₀ : List ℕ} {q₀ : Progress} {ids₀ counts₀ t ids counts rest : List ℕ} {left : ℕ} {q : Progress} (k : Walking p s count t₀ q₀ ids₀ counts₀ t ids counts rest left q) where
   -- a refusal from here on is that of the whole
   refused-here : {a c : ℕ} → ((room : ℕ) (v : State byOne) → answerFrom p room v left rest ≡ refusal a (v .records) c)
-      → (w : State byOne) → Carries t₀ q₀ w → Numbered w count → (room : ℕ) → answerFrom p room w count s ≡ refusal a (q .records) c
-  refused-here {a} {c} f w g n room =
-      let x = k .follows w g n in
+      → (w : State byOne) → Begins t₀ q₀ ids₀ counts₀ count w → (room : ℕ) → answerFrom p room w count s ≡ refusal a (q .records) c
+  refused-here {a} {c} f w g room =
+      let x = k .follows w g in
       sym (x .same room) ∙ f room (x .v) ∙ ap (λ (i : ℕ). refusal a i c) (sym (x .carries .records))
 
-  pub walking-misframed : 0 < left → Misread (frame .read rest) → ToldAll p s count t₀ q₀ t (records.Malformed (q .records))
+  pub walking-misframed : 0 < left → Misread (frame .read rest) → ToldAll p s count t₀ q₀ ids₀ counts₀ t (records.Malformed (q .records))
   walking-misframed h (at-place e f) = refused-here (λ room v. go left h room v)
     where
       go : (n : ℕ) → 0 < n → (room : ℕ) (v : State byOne) → answerFrom p room v n rest ≡ refusal sheetMalformed (v .records) 0
       go zero l room v = absurd (omega arith)
       go (suc n) l room v = ap (λ a. thenAnswer a (finishing byOne p room v)) (records-misframed (v .records) (v .last) rest n f)
 
-  pub walking-more : left ≤ 0 → 0 < length rest → ToldAll p s count t₀ q₀ t (records.Malformed (q .records))
+  pub walking-more : left ≤ 0 → 0 < length rest → ToldAll p s count t₀ q₀ ids₀ counts₀ t (records.Malformed (q .records))
   walking-more h l = refused-here (λ room v. go left h room v)
     where
       go : (n : ℕ) → n ≤ 0 → (room : ℕ) (v : State byOne) → answerFrom p room v n rest ≡ refusal sheetMalformed (v .records) 0
       go zero z room v = ap (λ a. thenAnswer a (finishing byOne p room v)) (records-more (v .records) (v .last) rest l)
       go (suc n) z room v = absurd (omega arith)
 
-  pub walking-end : left ≤ 0 → length rest ≤ 0 → ToldAll p s count t₀ q₀ t (records.Taken q)
-  walking-end h l w g n =
-      let x = k .follows w g n in
+  pub walking-end : left ≤ 0 → length rest ≤ 0 → ToldAll p s count t₀ q₀ ids₀ counts₀ t (records.Taken q)
+  walking-end h l w g =
+      let x = k .follows w g in
       (x .v, x .carries, λ room. sym (x .same room) ∙ go left h room (x .v))
     where
       go : (n : ℕ) → n ≤ 0 → (room : ℕ) (v : State byOne) → answerFrom p room v n rest ≡ finishOf byOne room v
@@ -129,37 +135,37 @@ module _ {p : Part} {s : List ℕ} {count : ℕ} {t₀ : List ℕ} {q₀ : Progr
     here : frame .read rest ≡ done (recordOf key blockHere) (n + 12)
     here = let e : 12 + n ≡ n + 12 = omega arith in f ∙ ap (λ (l : List ℕ). done (recordOf key l) (12 + n)) (sym block-is) ∙ ap (done (recordOf key blockHere)) e
 
-    may-go : (w : State byOne) (g : Carries t₀ q₀ w) (m : Numbered w count) → Steps ids counts t q (k .follows w g m .v)
-    may-go w g m = let x = k .follows w g m in record { ids-clear = k .ids-clear; counts-clear = x .clear; carries = x .carries; number = omega (arith, x .number) }
+    may-go : (w : State byOne) (g : Begins t₀ q₀ ids₀ counts₀ count w) → Steps ids counts t q (k .follows w g .v)
+    may-go w g = let x = k .follows w g in record { ids-clear = x .ids-clear; counts-clear = x .counts-clear; carries = x .carries; number = omega (arith, x .number, g .numbered) }
 
     module _ (counts′ t′ : List ℕ) (a : StepAnswer) (y : (v : State byOne) → Steps ids counts t q v → StepTold counts′ t′ a (stepOf byOne p v (recordOf key blockHere))) where
-      told : (w : State byOne) (g : Carries t₀ q₀ w) (m : Numbered w count) {b : StepAnswer} → a ≡ b → StepTold counts′ t′ b (stepOf byOne p (k .follows w g m .v) (recordOf key blockHere))
-      told w g m e = subst (λ (b : StepAnswer). StepTold counts′ t′ b (stepOf byOne p (k .follows w g m .v) (recordOf key blockHere))) e (y (k .follows w g m .v) (may-go w g m))
+      told : (w : State byOne) (g : Begins t₀ q₀ ids₀ counts₀ count w) {b : StepAnswer} → a ≡ b → StepTold counts′ t′ b (stepOf byOne p (k .follows w g .v) (recordOf key blockHere))
+      told w g e = subst (λ (b : StepAnswer). StepTold counts′ t′ b (stepOf byOne p (k .follows w g .v) (recordOf key blockHere))) e (y (k .follows w g .v) (may-go w g))
 
-      pub walking-refused : {e : RecordFault} {i : ℕ} → a ≡ steps.Refused e i → ToldAll p s count t₀ q₀ t′ (records.Refused e i)
-      walking-refused {e} {i} j w g m room =
-          let x = k .follows w g m in
-          sym (x .same room) ∙ go left h (x .v) (told w g m j)
+      pub walking-refused : {e : RecordFault} {i : ℕ} → a ≡ steps.Refused e i → ToldAll p s count t₀ q₀ ids₀ counts₀ t′ (records.Refused e i)
+      walking-refused {e} {i} j w g room =
+          let x = k .follows w g in
+          sym (x .same room) ∙ go left h (x .v) (told w g j)
         where
           go : (l : ℕ) → 0 < l → (v : State byOne) → stepOf byOne p v (recordOf key blockHere) ≡ faulty e i → answerFrom p room v l rest ≡ faulty e i
           go zero z v r = absurd (omega arith)
           go (suc l) z v r = step-refuses p v (recordOf key blockHere) room l rest here r
 
       pub walking-on : {o : Progress} {ids′ : List ℕ} → ids′ ≡ ids → length t′ ≡ length t → a ≡ steps.Taken o
-          → Walking p s count t₀ q₀ t′ ids′ counts′ (take (length rest - (n + 12)) (drop (n + 12) rest)) (left - 1) o
+          → Walking p s count t₀ q₀ ids₀ counts₀ t′ ids′ counts′ (take (length rest - (n + 12)) (drop (n + 12) rest)) (left - 1) o
       walking-on {o} z l j = rw (rest-is (n + 12) rest) record {
-        ids-clear = z ∙ k .ids-clear;
         bytes = bytes-drop (n + 12) rest (k .bytes);
         short = omega (arith, k .short, length-drop (n + 12) rest);
         size = l ∙ k .size;
-        follows = λ w g m.
-            let x = k .follows w g m in
-            let u = told w g m j in
+        follows = λ w g.
+            let x = k .follows w g in
+            let u = told w g j in
             let b = step-took p (x .v) (recordOf key blockHere) (u .0) (u .1) in
             record {
               v = u .0;
               carries = u .2;
-              clear = u .3;
+              ids-clear = z ∙ x .ids-clear;
+              counts-clear = u .3;
               number = omega (arith, x .number, ap (λ (y : State byOne). y .records) (b .2));
               same = λ room. go left h room (x .v) (u .0) (b .0) (x .carries .runs .canonical) (b .1) (b .2) ∙ x .same room;
             };
@@ -169,3 +175,6 @@ module _ {p : Part} {s : List ℕ} {count : ℕ} {t₀ : List ℕ} {q₀ : Progr
               → answerFrom p room u (c - 1) (drop (n + 12) rest) ≡ answerFrom p room v c rest
           go zero l room v u y g j e = absurd (omega arith)
           go (suc c) l room v u y g j e = rw sub-one (ap (λ (z : State byOne). answerFrom p room z c (drop (n + 12) rest)) (sym e) ∙ sym (record-on byOne p room c rest (k .bytes) here v g j))
+
+pub begins : {t ids counts : List ℕ} {q : Progress} {count : ℕ} {w : State byOne} → Carries t q w → Numbered w count → ids ≡ clearTable → counts ≡ clearTable → Begins t q ids counts count w
+begins c n i d = record { carries = c; numbered = n; ids-clear = i; counts-clear = d }

@@ -74,13 +74,14 @@ pub fn tally_block(key: i64, block: &[u8], lot: Lot, span: Span, out: &mut [u8])
     ensures { λ r. ⌜ toldBlock r ≡ mapAnswer length (tallyBlockOf byOne key (now (block .entry)) (part lot span) (length (now (out .entry)))) ⌝ }
     ensures { λ _. ⌜ now (out .exit) ≡ lent (tallyBlockOf byOne key (now (block .entry)) (part lot span) (length (now (out .entry)))) (now (out .entry)) ⌝ }
 {
+    // The table comes first, as in the tally of a sheet.
+    let mut ids = [0u8; 65536];
     if !is_part(lot, span) {
         return BlockAnswer::BadPart;
     }
     let SplitAnswer::At(at) = split(key) else {
         return BlockAnswer::OutOfRange;
     };
-    let mut ids = [0u8; 65536];
     match scan(block, &mut ids) {
         Judged::Refused(f, p) => BlockAnswer::Refused(f, p),
         Judged::Taken(found, _) => put_tally(block, found, at, lot, span, out),

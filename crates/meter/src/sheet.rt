@@ -21,6 +21,7 @@ ghost use lib.ListN.{length};
 ghost use Rattle.wire.specs.Answer.{lent, mapAnswer};
 ghost use Rattle.meter.specs.Counting.{byOne};
 ghost use Rattle.meter.specs.Adding.{part};
+ghost use Rattle.meter.specs.Records.{clearTable};
 ghost use Rattle.meter.specs.Sheet.{tallySheetOf};
 ghost use Rattle.meter.specs.Streaming.{State, noRecords};
 ghost use Rattle.meter.specs.Progress.{Carries, toldFinish};
@@ -33,7 +34,7 @@ pub enum Records {
     Refused(RecordFault, u32),
 }
 
-// So many records, and no byte more. The tables are cleared here, once; each step leaves them clear.
+// So many records, and no byte more. The tables are clear, and each step leaves them so.
 fn take_records(
     s: &[u8],
     count: u32,
@@ -41,15 +42,15 @@ fn take_records(
     span: Span,
     spare: &mut [u8],
     p: Progress,
+    ids: &mut [u8; 65536],
+    counts: &mut [u16; 65536],
+    places: &mut [usize; 4096],
+    room: &mut [usize; 4096],
 ) -> Records
     ensures { λ _. ⌜ length (now (spare .exit)) ≡ length (now (spare .entry)) ⌝ }
-    ensures { λ r. ⌜ ((w : State byOne) → Carries (now (spare .entry)) p w → Numbered w count
+    ensures { λ r. ⌜ (now (ids .entry) ≡ clearTable → now (counts .entry) ≡ clearTable → (w : State byOne) → Carries (now (spare .entry)) p w → Numbered w count
         → RecordsTold (part lot span) (now (spare .exit)) w count (now (s .entry)) r) ⌝ }
 {
-    let mut ids = [0u8; 65536];
-    let mut counts = [0u16; 65536];
-    let mut places = [0usize; 4096];
-    let mut room = [0usize; 4096];
     let mut rest = s;
     let mut left = count;
     let mut now = p;
@@ -65,10 +66,10 @@ fn take_records(
                 lot,
                 span,
                 spare,
-                &mut ids,
-                &mut counts,
-                &mut places,
-                &mut room,
+                ids,
+                counts,
+                places,
+                room,
             ) {
                 StepAnswer::Refused(f, i) => {
                     return Records::Refused(f, i);
@@ -118,15 +119,30 @@ fn from_start(
     out: &mut [u8],
     spare: &mut [u8],
     p: Progress,
+    ids: &mut [u8; 65536],
+    counts: &mut [u16; 65536],
+    places: &mut [usize; 4096],
+    room: &mut [usize; 4096],
 ) -> SheetAnswer
     ensures { λ _. ⌜ length (now (spare .exit)) ≡ length (now (spare .entry)) ⌝ }
-    ensures { λ r. ⌜ (Carries (now (spare .entry)) p (noRecords byOne) → length (now (out .entry)) ≤ length (now (spare .entry))
+    ensures { λ r. ⌜ (now (ids .entry) ≡ clearTable → now (counts .entry) ≡ clearTable → Carries (now (spare .entry)) p (noRecords byOne) → length (now (out .entry)) ≤ length (now (spare .entry))
         → SheetPut (part lot span) (now (sheet .entry)) (now (out .entry)) (now (out .exit)) r) ⌝ }
 {
     let HeadRead::Records(count) = sheet_head(sheet) else {
         return SheetAnswer::Malformed(0);
     };
-    match take_records(&sheet[HEAD..], count, lot, span, spare, p) {
+    match take_records(
+        &sheet[HEAD..],
+        count,
+        lot,
+        span,
+        spare,
+        p,
+        ids,
+        counts,
+        places,
+        room,
+    ) {
         Records::Malformed(i) => SheetAnswer::Malformed(i),
         Records::Refused(f, i) => SheetAnswer::Record(f, i),
         Records::Taken(q) => finished(finish(q, spare, out)),
@@ -145,9 +161,25 @@ pub fn tally_sheet(
     ensures { λ _. ⌜ now (out .exit) ≡ lent (tallySheetOf byOne (now (sheet .entry)) (part lot span) (length (now (out .entry))) (length (now (spare .entry)))) (now (out .entry)) ⌝ }
     ensures { λ _. ⌜ length (now (spare .exit)) ≡ length (now (spare .entry)) ⌝ }
 {
+    // The tables come first and are cleared once: a large frame that is set up behind a test has lost a register's value in compiled code.
+    let mut ids = [0u8; 65536];
+    let mut counts = [0u16; 65536];
+    let mut places = [0usize; 4096];
+    let mut room = [0usize; 4096];
     match start(lot, span, out.len(), spare.len()) {
         StartAnswer::BadPart => SheetAnswer::BadPart,
         StartAnswer::Misfit => SheetAnswer::Misfit,
-        StartAnswer::Started(p) => from_start(sheet, lot, span, out, spare, p),
+        StartAnswer::Started(p) => from_start(
+            sheet,
+            lot,
+            span,
+            out,
+            spare,
+            p,
+            &mut ids,
+            &mut counts,
+            &mut places,
+            &mut room,
+        ),
     }
 }

@@ -9,7 +9,7 @@ use Rattle.wire.specs.Read.{done}
 use Rattle.meter.specs.Counting.{byOne}
 use Rattle.meter.specs.Sheet.{sheetHead}
 use Rattle.meter.specs.Streaming.{noRecords}
-use Rattle.meter.specs.Records.{HeadTold}
+use Rattle.meter.specs.Records.{HeadTold, clearTable}
 use Rattle.meter.specs.Adding.{part}
 use Rattle.meter.specs.Progress.{Carries}
 use Rattle.meter.specs.SheetTold.{RecordsTold}
@@ -23,11 +23,11 @@ use Rattle.meter.proofs.sheet.from_start.Tie as tie
 headed : (c : tie.After-known-told) → sheetHead .read (now (c .before .before .before .before .before .before .before .args .sheet)) ≡ done (c .before .count .given .0 .0) 9
 headed c = subst (HeadTold (now (c .before .before .before .before .before .before .before .args .sheet))) (c .before .count .given .1) (c .before .before .before .sheet-head .ensures)
 
-walked : (c : tie.After-take-records) → Carries (now (c .before .before .before .before .before .before .before .before .before .before .args .spare)) (c .before .before .before .before .before .before .before .before .before .before .args .p) (noRecords byOne) → {r : Records} → c .take-records .result ≡ r
-    → RecordsTold (part (c .before .before .before .before .before .before .before .before .before .before .args .lot) (c .before .before .before .before .before .before .before .before .before .before .args .span)) (c .take-records .last .1 .1 .1 .1 .0) (noRecords byOne) (c .before .before .before .before .count .given .0 .0) (drop 9 (now (c .before .before .before .before .before .before .before .before .before .before .args .sheet))) r
-walked c k {r} e =
-    subst (λ (l : List ℕ). RecordsTold (part (c .before .before .before .before .before .before .before .before .before .before .args .lot) (c .before .before .before .before .before .before .before .before .before .before .args .span)) (c .take-records .last .1 .1 .1 .1 .0) (noRecords byOne) (c .before .before .before .before .count .given .0 .0) l r) (rest-is 9 (now (c .before .before .before .before .before .before .before .before .before .before .args .sheet)))
-    (subst (RecordsTold (part (c .before .before .before .before .before .before .before .before .before .before .args .lot) (c .before .before .before .before .before .before .before .before .before .before .args .span)) (c .take-records .last .1 .1 .1 .1 .0) (noRecords byOne) (c .before .before .before .before .count .given .0 .0) _) e (c .take-records .ensures .1 (noRecords byOne) k (head-number (part (c .before .before .before .before .before .before .before .before .before .before .args .lot) (c .before .before .before .before .before .before .before .before .before .before .args .span)) _ (now (c .before .before .before .before .before .before .before .before .before .before .args .out)) (λ i. c .before .before .before .before .before .before .before .before .before .shared-slice-known .given i .fits) (headed (c .before .before .before)))))
+walked : (c : tie.After-take-records) → now (c .before .before .before .before .before .before .before .before .before .before .before .before .before .before .args .ids) ≡ clearTable → now (c .before .before .before .before .before .before .before .before .before .before .before .before .before .before .args .counts) ≡ clearTable → Carries (now (c .before .before .before .before .before .before .before .before .before .before .before .before .before .before .args .spare)) (c .before .before .before .before .before .before .before .before .before .before .before .before .before .before .args .p) (noRecords byOne) → {r : Records} → c .take-records .result ≡ r
+    → RecordsTold (part (c .before .before .before .before .before .before .before .before .before .before .before .before .before .before .args .lot) (c .before .before .before .before .before .before .before .before .before .before .before .before .before .before .args .span)) (c .take-records .last .1 .1 .1 .1 .0) (noRecords byOne) (c .before .before .before .before .before .before .before .before .count .given .0 .0) (drop 9 (now (c .before .before .before .before .before .before .before .before .before .before .before .before .before .before .args .sheet))) r
+walked c i d k {r} e =
+    subst (λ (l : List ℕ). RecordsTold (part (c .before .before .before .before .before .before .before .before .before .before .before .before .before .before .args .lot) (c .before .before .before .before .before .before .before .before .before .before .before .before .before .before .args .span)) (c .take-records .last .1 .1 .1 .1 .0) (noRecords byOne) (c .before .before .before .before .before .before .before .before .count .given .0 .0) l r) (rest-is 9 (now (c .before .before .before .before .before .before .before .before .before .before .before .before .before .before .args .sheet)))
+    (subst (RecordsTold (part (c .before .before .before .before .before .before .before .before .before .before .before .before .before .before .args .lot) (c .before .before .before .before .before .before .before .before .before .before .before .before .before .before .args .span)) (c .take-records .last .1 .1 .1 .1 .0) (noRecords byOne) (c .before .before .before .before .before .before .before .before .count .given .0 .0) _) e (c .take-records .ensures .1 i d (noRecords byOne) k (head-number (part (c .before .before .before .before .before .before .before .before .before .before .before .before .before .before .args .lot) (c .before .before .before .before .before .before .before .before .before .before .before .before .before .before .args .span)) _ (now (c .before .before .before .before .before .before .before .before .before .before .before .before .before .before .args .out)) (λ i. c .before .before .before .before .before .before .before .before .before .before .before .before .before .shared-slice-known .given i .fits) (headed (c .before .before .before .before .before .before .before)))))
 
 sheet-head-requires : tie.Need-sheet-head-requires
 sheet-head-requires c κs = search needs
@@ -39,7 +39,7 @@ enum-told : tie.Need-enum-told
 enum-told c = search needs
 
 returns : tie.Need-returns
-returns c = (refl, λ k f. put-headless (part (c .before .before .before .before .before .before .args .lot) (c .before .before .before .before .before .before .args .span)) _ (now (c .before .before .before .before .before .before .args .out)) (subst (HeadTold (now (c .before .before .before .before .before .before .args .sheet))) (c .enum-told .given .1) (c .before .before .sheet-head .ensures)))
+returns c = (refl, λ i d k f. put-headless (part (c .before .before .before .before .before .before .args .lot) (c .before .before .before .before .before .before .args .span)) _ (now (c .before .before .before .before .before .before .args .out)) (subst (HeadTold (now (c .before .before .before .before .before .before .args .sheet))) (c .enum-told .given .1) (c .before .before .sheet-head .ensures)))
 
 sub-take-records : tie.Need-sub-take-records
 sub-take-records c = head-inside (part (c .before .before .before .before .before .before .before .args .lot) (c .before .before .before .before .before .before .before .args .span)) _ (now (c .before .before .before .before .before .before .before .args .out)) (λ i. c .before .before .before .before .before .before .shared-slice-known .given i .fits) (headed c)
@@ -72,13 +72,13 @@ same-length : tie.Need-same-length
 same-length c = search needs
 
 returns-2 : tie.Need-returns-2
-returns-2 c = (c .before .before .before .before .before .take-records .ensures .0, λ k f. put-refused (part (c .before .before .before .before .before .before .before .before .before .before .before .before .before .before .before .args .lot) (c .before .before .before .before .before .before .before .before .before .before .before .before .before .before .before .args .span)) _ (now (c .before .before .before .before .before .before .before .before .before .before .before .before .before .before .before .args .out)) (λ i. c .before .before .before .before .before .before .before .before .before .before .before .before .before .before .shared-slice-known .given i .fits) (headed (c .before .before .before .before .before .before .before .before)) (walked (c .before .before .before .before .before) k (c .before .i .given .1)))
+returns-2 c = (c .before .before .before .before .before .take-records .ensures .0, λ i d k f. put-refused (part (c .before .before .before .before .before .before .before .before .before .before .before .before .before .before .before .before .before .before .before .args .lot) (c .before .before .before .before .before .before .before .before .before .before .before .before .before .before .before .before .before .before .before .args .span)) _ (now (c .before .before .before .before .before .before .before .before .before .before .before .before .before .before .before .before .before .before .before .args .out)) (λ i. c .before .before .before .before .before .before .before .before .before .before .before .before .before .before .before .before .before .before .shared-slice-known .given i .fits) (headed (c .before .before .before .before .before .before .before .before .before .before .before .before)) (walked (c .before .before .before .before .before) i d k (c .before .i .given .1)))
 
 same-length-2 : tie.Need-same-length-2
 same-length-2 c = search needs
 
 returns-3 : tie.Need-returns-3
-returns-3 c = (c .before .before .before .before .before .take-records .ensures .0, λ k f. put-refused (part (c .before .before .before .before .before .before .before .before .before .before .before .before .before .before .before .args .lot) (c .before .before .before .before .before .before .before .before .before .before .before .before .before .before .before .args .span)) _ (now (c .before .before .before .before .before .before .before .before .before .before .before .before .before .before .before .args .out)) (λ i. c .before .before .before .before .before .before .before .before .before .before .before .before .before .before .shared-slice-known .given i .fits) (headed (c .before .before .before .before .before .before .before .before)) (walked (c .before .before .before .before .before) k (c .before .f .given .1)))
+returns-3 c = (c .before .before .before .before .before .take-records .ensures .0, λ i d k f. put-refused (part (c .before .before .before .before .before .before .before .before .before .before .before .before .before .before .before .before .before .before .before .args .lot) (c .before .before .before .before .before .before .before .before .before .before .before .before .before .before .before .before .before .before .before .args .span)) _ (now (c .before .before .before .before .before .before .before .before .before .before .before .before .before .before .before .before .before .before .before .args .out)) (λ i. c .before .before .before .before .before .before .before .before .before .before .before .before .before .before .before .before .before .before .shared-slice-known .given i .fits) (headed (c .before .before .before .before .before .before .before .before .before .before .before .before)) (walked (c .before .before .before .before .before) i d k (c .before .f .given .1)))
 
 same-length-3 : tie.Need-same-length-3
 same-length-3 c = search needs
@@ -87,7 +87,7 @@ same-length-4 : tie.Need-same-length-4
 same-length-4 c = search needs
 
 returns-4 : tie.Need-returns-4
-returns-4 c = (c .before .before .before .before .before .before .before .before .before .before .before .take-records .ensures .0, λ k f. let x = walked (c .before .before .before .before .before .before .before .before .before .before .before) k (c .before .before .before .before .before .before .before .q .given .1) in put-finished (part (c .before .before .before .before .before .before .before .before .before .before .before .before .before .before .before .before .before .before .before .before .before .args .lot) (c .before .before .before .before .before .before .before .before .before .before .before .before .before .before .before .before .before .before .before .before .before .args .span)) _ (now (c .before .before .before .before .before .before .before .before .before .before .before .before .before .before .before .before .before .before .before .before .before .args .out)) (λ i. c .before .before .before .before .before .before .before .before .before .before .before .before .before .before .before .before .before .before .before .before .shared-slice-known .given i .fits) (headed (c .before .before .before .before .before .before .before .before .before .before .before .before .before .before)) (x .0) (c .finished .result) (c .before .before .before .finish .result) (x .2) (c .before .before .before .finish .ensures (x .0) (x .1) (omega (arith, c .before .before .before .before .before .before .before .before .before .before .before .take-records .ensures .0, f))) (c .finished .ensures))
+returns-4 c = (c .before .before .before .before .before .before .before .before .before .before .before .take-records .ensures .0, λ i d k f. let x = walked (c .before .before .before .before .before .before .before .before .before .before .before) i d k (c .before .before .before .before .before .before .before .q .given .1) in put-finished (part (c .before .before .before .before .before .before .before .before .before .before .before .before .before .before .before .before .before .before .before .before .before .before .before .before .before .args .lot) (c .before .before .before .before .before .before .before .before .before .before .before .before .before .before .before .before .before .before .before .before .before .before .before .before .before .args .span)) _ (now (c .before .before .before .before .before .before .before .before .before .before .before .before .before .before .before .before .before .before .before .before .before .before .before .before .before .args .out)) (λ i. c .before .before .before .before .before .before .before .before .before .before .before .before .before .before .before .before .before .before .before .before .before .before .before .before .shared-slice-known .given i .fits) (headed (c .before .before .before .before .before .before .before .before .before .before .before .before .before .before .before .before .before .before)) (x .0) (c .finished .result) (c .before .before .before .finish .result) (x .2) (c .before .before .before .finish .ensures (x .0) (x .1) (omega (arith, c .before .before .before .before .before .before .before .before .before .before .before .take-records .ensures .0, f))) (c .finished .ensures))
 
 pub from-start-spec : {M : Type 1} → statement M
 from-start-spec =

@@ -13,13 +13,13 @@ use Rattle.meter.specs.Records.{clearTable, FrameTold, recordOf}
 use Rattle.meter.specs.Adding.{part}
 use Rattle.meter.specs.Progress.{Steps, StepTold}
 use Rattle.meter.specs.declared.records.FrameRead.the-variants as frames
-use Rattle.meter.proofs.Walking.{Walking, walking-start, walking-misframed, walking-more, walking-end, frame-inside, blockHere, walking-refused, walking-on}
+use Rattle.meter.proofs.Walking.{Walking, walking-start, walking-misframed, walking-more, walking-end, frame-inside, blockHere, walking-refused, walking-on, begins}
 use Rattle.meter.proofs.sheet.take_records.Statement.{statement}
 use Rattle.meter.proofs.sheet.take_records.Tie as tie
 
 abbrev Inv-loop : tie.InvT-loop
 Inv-loop s count lot span spare₀ ids₀ counts₀ places₀ room₀ rest₀ left₀ now₀ spare ids counts places room rest left now =
-    Walking (part lot span) s count spare₀ now₀ spare ids counts rest left now
+    Walking (part lot span) s count spare₀ now₀ ids₀ counts₀ spare ids counts rest left now
 
 abbrev μ-loop : tie.MeasureT-loop
 μ-loop s count lot span spare₀ ids₀ counts₀ places₀ room₀ rest₀ left₀ now₀ spare ids counts places room rest left now =
@@ -38,8 +38,7 @@ stepped : (c : tie.After-step Inv-loop μ-loop) (v : State byOne) → Steps (c .
 stepped c v s = simp (toZ-ofZ w64 (c .before .before .before .before .before .before .before .before .key .given .0 .0) (record { sfits = c .before .before .before .before .before .before .before .known-told .given .0 .1 })) at (c .step .ensures .1 .1 v s)
 
 loop-holds : tie.Need-loop-holds Inv-loop μ-loop
-unfolding clearTable
-loop-holds c = walking-start (part (c .before .before .args .lot) (c .before .before .args .span)) _ _ _ _ (λ i. c .before .shared-slice-known .given i .fits)
+loop-holds c = walking-start (part (c .before .before .args .lot) (c .before .before .args .span)) _ _ _ _ _ _ (λ i. c .before .shared-slice-known .given i .fits)
 
 frame-requires : tie.Need-frame-requires Inv-loop μ-loop
 frame-requires c κs = search needs
@@ -51,7 +50,7 @@ same-length : tie.Need-same-length Inv-loop μ-loop
 same-length c = search needs
 
 returns : tie.Need-returns Inv-loop μ-loop
-returns c = (c .before .before .before .before .loop .inv .size, walking-misframed (c .before .before .before .before .loop .inv) (c .before .before .before .loop-test .taken) (subst (FrameTold (now (c .before .before .before .before .loop .rest))) (c .enum-told .given .1) (c .before .before .frame .ensures)))
+returns c = (c .before .before .before .before .loop .inv .size, λ i d w g m. walking-misframed (c .before .before .before .before .loop .inv) (c .before .before .before .loop-test .taken) (subst (FrameTold (now (c .before .before .before .before .loop .rest))) (c .enum-told .given .1) (c .before .before .frame .ensures)) w (begins g m i d))
 
 enum-known-key : tie.Need-enum-known-key Inv-loop μ-loop
 enum-known-key c = search needs
@@ -78,7 +77,7 @@ same-length-2 : tie.Need-same-length-2 Inv-loop μ-loop
 same-length-2 c = search needs
 
 returns-2 : tie.Need-returns-2 Inv-loop μ-loop
-returns-2 c = (c .before .before .before .before .before .step .ensures .0 ∙ c .before .before .before .before .before .before .before .before .before .before .before .before .before .before .before .before .before .loop .inv .size, walking-refused (c .before .before .before .before .before .before .before .before .before .before .before .before .before .before .before .before .before .loop .inv) (c .before .before .before .before .before .before .before .before .before .before .before .before .before .before .before .before .loop-test .taken) (c .before .before .before .before .before .before .before .before .before .before .before .before .before .key .given .0 .0) (c .before .before .before .before .before .before .before .before .before .before .before .before .before .key .given .0 .1 .0) (framed (c .before .before .before .before .before .before .before .before .before .before .before .before)) (c .before .before .before .before .before .step .last .1 .1 .1 .1 .1 .1 .1 .0) (c .before .before .before .before .before .step .last .1 .1 .1 .1 .1 .0) (c .before .before .before .before .before .step .result) (stepped (c .before .before .before .before .before)) (c .before .f .given .1))
+returns-2 c = (c .before .before .before .before .before .step .ensures .0 ∙ c .before .before .before .before .before .before .before .before .before .before .before .before .before .before .before .before .before .loop .inv .size, λ i d w g m. walking-refused (c .before .before .before .before .before .before .before .before .before .before .before .before .before .before .before .before .before .loop .inv) (c .before .before .before .before .before .before .before .before .before .before .before .before .before .before .before .before .loop-test .taken) (c .before .before .before .before .before .before .before .before .before .before .before .before .before .key .given .0 .0) (c .before .before .before .before .before .before .before .before .before .before .before .before .before .key .given .0 .1 .0) (framed (c .before .before .before .before .before .before .before .before .before .before .before .before)) (c .before .before .before .before .before .step .last .1 .1 .1 .1 .1 .1 .1 .0) (c .before .before .before .before .before .step .last .1 .1 .1 .1 .1 .0) (c .before .before .before .before .before .step .result) (stepped (c .before .before .before .before .before)) (c .before .f .given .1) w (begins g m i d))
 
 enum-known-next : tie.Need-enum-known-next Inv-loop μ-loop
 enum-known-next c = search needs
@@ -108,13 +107,13 @@ same-length-3 : tie.Need-same-length-3 Inv-loop μ-loop
 same-length-3 c = search needs
 
 returns-3 : tie.Need-returns-3 Inv-loop μ-loop
-returns-3 c = (c .before .before .loop .inv .size, walking-more (c .before .before .loop .inv) (c .before .loop-test .left) (c .if1 .taken))
+returns-3 c = (c .before .before .loop .inv .size, λ i d w g m. walking-more (c .before .before .loop .inv) (c .before .loop-test .left) (c .if1 .taken) w (begins g m i d))
 
 same-length-4 : tie.Need-same-length-4 Inv-loop μ-loop
 same-length-4 c = search needs
 
 returns-4 : tie.Need-returns-4 Inv-loop μ-loop
-returns-4 c = (c .before .before .loop .inv .size, walking-end (c .before .before .loop .inv) (c .before .loop-test .left) (c .if1 .left))
+returns-4 c = (c .before .before .loop .inv .size, λ i d w g m. walking-end (c .before .before .loop .inv) (c .before .loop-test .left) (c .if1 .left) w (begins g m i d))
 
 pub take-records-spec : {M : Type 1} → statement M
 take-records-spec =

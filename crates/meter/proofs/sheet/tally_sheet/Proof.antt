@@ -5,6 +5,7 @@ use lib.ListN.{length}
 use denote.Ref.{now}
 use Rattle.meter.specs.Counting.{byOne}
 use Rattle.meter.specs.Streaming.{startOf}
+use Rattle.meter.specs.Records.{clearTable}
 use Rattle.meter.specs.Adding.{part}
 use Rattle.meter.specs.Progress.{StartTold}
 use Rattle.meter.specs.declared.stream.StartAnswer.{StartAnswer}
@@ -46,7 +47,8 @@ same-length-2 : tie.Need-same-length-2
 same-length-2 c = search needs
 
 returns-3 : tie.Need-returns-3
-returns-3 c = let x = sheet-put (part (c .before .before .before .before .before .before .before .before .before .before .before .before .before .before .args .lot) (c .before .before .before .before .before .before .before .before .before .before .before .before .before .before .args .span)) (now (c .before .before .before .before .before .before .before .before .before .before .before .before .before .before .args .sheet)) (now (c .before .before .before .before .before .before .before .before .before .before .before .before .before .before .args .out)) _ (c .before .before .before .before .from-start .result) (started (c .before .before .before .before .before .before .before .before .before .before) (now (c .before .before .before .before .before .before .before .before .before .before .before .before .before .before .args .spare)) (c .before .before .before .before .before .before .before .before .p .given .1)) (c .before .before .before .before .from-start .ensures .1) in (x .0, (x .1, c .before .before .before .before .from-start .ensures .0))
+unfolding clearTable
+returns-3 c = let x = sheet-put (part (c .before .before .before .before .before .before .before .before .before .before .before .before .before .before .before .before .before .before .args .lot) (c .before .before .before .before .before .before .before .before .before .before .before .before .before .before .before .before .before .before .args .span)) (now (c .before .before .before .before .before .before .before .before .before .before .before .before .before .before .before .before .before .before .args .sheet)) (now (c .before .before .before .before .before .before .before .before .before .before .before .before .before .before .before .before .before .before .args .out)) _ (c .before .before .before .before .from-start .result) (started (c .before .before .before .before .before .before .before .before .before .before .before .before .before .before) (now (c .before .before .before .before .before .before .before .before .before .before .before .before .before .before .before .before .before .before .args .spare)) (c .before .before .before .before .before .before .before .before .before .before .before .before .p .given .1)) (c .before .before .before .before .from-start .ensures .1 refl refl) in (x .0, (x .1, c .before .before .before .before .from-start .ensures .0))
 
 pub tally-sheet-spec : {M : Type 1} → statement M
 tally-sheet-spec =
