@@ -38,3 +38,8 @@ pub cnt-none : (p : ℕ → Bool) (a n : ℕ) → ((i : ℕ) → a ≤ i → i <
 unfolding cnt
 cnt-none p a zero e = refl
 cnt-none p a (suc n) e = omega (arith, cnt-none p a n (λ i h k. e i h (omega arith)), ap bit (e (a + n) (omega arith) (omega arith)))
+
+pub cnt-all : (p : ℕ → Bool) (a n : ℕ) → ((i : ℕ) → a ≤ i → i < a + n → p i ≡ true) → cnt p a n ≡ n
+unfolding cnt
+cnt-all p a zero e = refl
+cnt-all p a (suc n) e = omega (arith, cnt-all p a n (λ i h k. e i h (omega arith)), ap bit (e (a + n) (omega arith) (omega arith)))

@@ -1,15 +1,16 @@
 -- The counters after a run of indices.
-use Prim.Native.Nat.{ℕ, _+_, _-_, _%_, _≤_, _<_}
+use Prim.Native.Nat.{ℕ, zero, suc, _+_, _-_, _%_, _≤_, _<_}
 use mathlib.Core.Path.{_≡_, refl, sym, ap, subst, _∙_}
 use mathlib.Core.Bool.{Bool, true, false}
 use mathlib.Core.List.{List}
 use native.Mathlib.Omega.{arith}
+use lib.Dec.{eqb}
 use lib.ListN.{getD, set, length-set}
 use lib.Seq.{getD-set-same, getD-set-other}
-use borrow.Author.Tests.{eqb-true, eqb-false, eq-eqb}
-use Rattle.counters.specs.Counting.{bit, cnt}
+use borrow.Author.Tests.{eqb-true, eqb-false, eq-eqb, ne-eqb}
+use Rattle.counters.specs.Counting.{cnt}
 use Rattle.counters.specs.Table.{Table, Raised, isAt}
-use Rattle.counters.proofs.Counts.{cnt-zero, cnt-one, cnt-add, cnt-same, cnt-none}
+use Rattle.counters.proofs.Counts.{cnt-zero, cnt-add, cnt-same, cnt-none, cnt-all}
 
 pub raised-table : {p : ℕ → ℕ → Bool} {a n : ℕ} {old new : List ℕ} → Table old → Raised p a n old new → Table new
 raised-table t r = record { size = r .long ∙ t .size; fits = λ k h. omega (arith, r .each k h) }
@@ -17,23 +18,18 @@ raised-table t r = record { size = r .long ∙ t .size; fits = λ k h. omega (ar
 pub raised-none : (p : ℕ → ℕ → Bool) (a n : ℕ) {old : List ℕ} → Table old → n ≡ 0 → Raised p a n old old
 raised-none p a n t e = record { long = refl; each = λ k h. omega (arith, ap (cnt (p k) a) e, cnt-zero (p k) a, t .fits k h) }
 
--- one index more: the counter of its id goes up by one
-module _ (ids : ℕ → ℕ) (a n : ℕ) {old new : List ℕ} (t : Table old) (c : Raised (isAt ids) a n old new) where
-  pub raised-one : (i m id : ℕ) {x : ℕ} → i ≡ a + n → m ≡ n + 1 → id ≡ ids i → id < 65536 → x ≡ (getD new id 0 + 1) % 65536
-      → Raised (isAt ids) a m old (set new id x)
-  raised-one i m id {x} ei em e h ex = record { long = length-set new id x ∙ c .long; each = λ k g. go k g (isAt ids k i) refl }
+-- indices that all have one id: its counter goes up by as many
+module _ (ids : ℕ → ℕ) (a n id : ℕ) {old : List ℕ} (t : Table old) (h : id < 65536) (same : (i : ℕ) → a ≤ i → i < a + n → ids i ≡ id) where
+  pub raised-run : {x : ℕ} → x ≡ (getD old id 0 + n) % 65536 → Raised (isAt ids) a n old (set old id x)
+  raised-run {x} ex = record { long = length-set old id x; each = λ k g. go k g (eqb id k) refl }
     where
-      more : (k : ℕ) (b : Bool) → isAt ids k i ≡ b → cnt (isAt ids k) a m ≡ cnt (isAt ids k) a n + bit b
-      more k b q = ap (cnt (isAt ids k) a) em ∙ cnt-one (isAt ids k) a n ∙ ap (λ (y : Bool). cnt (isAt ids k) a n + bit y) (ap (isAt ids k) (sym ei) ∙ q)
+      own : getD (set old id x) id 0 ≡ (getD old id 0 + cnt (isAt ids id) a n) % 65536
+      own = omega (arith, getD-set-same old id x 0 (omega (arith, t .size)), ex, cnt-all (isAt ids id) a n (λ i y z. eq-eqb (ids i) id (same i y z)))
 
-      own : getD (set new id x) id 0 ≡ (getD old id 0 + cnt (isAt ids id) a m) % 65536
-      own =
-          omega (arith, getD-set-same new id x 0 (omega (arith, c .long, t .size)), c .each id h, more id true (eq-eqb (ids i) id (sym e)))
-
-      go : (k : ℕ) → k < 65536 → (b : Bool) → isAt ids k i ≡ b → getD (set new id x) k 0 ≡ (getD old k 0 + cnt (isAt ids k) a m) % 65536
-      go k g true q = subst (λ (j : ℕ). getD (set new id x) j 0 ≡ (getD old j 0 + cnt (isAt ids j) a m) % 65536) (e ∙ eqb-true (ids i) k q) own
+      go : (k : ℕ) → k < 65536 → (b : Bool) → eqb id k ≡ b → getD (set old id x) k 0 ≡ (getD old k 0 + cnt (isAt ids k) a n) % 65536
+      go k g true q = subst (λ (j : ℕ). getD (set old id x) j 0 ≡ (getD old j 0 + cnt (isAt ids j) a n) % 65536) (eqb-true id k q) own
       go k g false q =
-          getD-set-other new id k x 0 (λ w. eqb-false (ids i) k q (sym (w ∙ e))) ∙ omega (arith, c .each k g, more k false q)
+          omega (arith, getD-set-other old id k x 0 (λ w. eqb-false id k q (sym w)), t .fits k g, cnt-none (isAt ids k) a n (λ i y z. ne-eqb (ids i) k (λ e. eqb-false id k q (sym (same i y z) ∙ e))))
 
 -- indices that no test passes may be passed over
 module _ (p : ℕ → ℕ → Bool) (a n m : ℕ) {old new : List ℕ} where
@@ -56,3 +52,20 @@ raised-on p a n s m b c d es e = record { long = d .long ∙ c .long; each = λ 
   where
     run : (k : ℕ) → cnt (p k) a b ≡ cnt (p k) a n + cnt (p k) s m
     run k = ap (cnt (p k) a) e ∙ cnt-add (p k) a n m ∙ omega (arith, ap (λ (x : ℕ). cnt (p k) x m) es)
+
+-- one index more: the counter of its id goes up by one
+pub raised-one : (ids : ℕ → ℕ) (a n : ℕ) {old new : List ℕ} → Table old → Raised (isAt ids) a n old new → (i m id : ℕ) {x : ℕ} → i ≡ a + n → m ≡ n + 1 → id ≡ ids i → id < 65536
+    → x ≡ (getD new id 0 + 1) % 65536 → Raised (isAt ids) a m old (set new id x)
+raised-one ids a n t c i m id ei em e h ex =
+    raised-on (isAt ids) a n i 1 m c (raised-run ids i 1 id (raised-table t c) h (λ j y z. let k : j ≡ i = omega arith in ap ids k ∙ sym e) ex) ei em
+
+-- four neighbours, each of which has the id
+pub four-same : (ids : ℕ → ℕ) (a id : ℕ) → ids a ≡ id → ids (a + 1) ≡ id → ids (a + 2) ≡ id → ids (a + 3) ≡ id → (i : ℕ) → a ≤ i → i < a + 4 → ids i ≡ id
+four-same ids a id p q r s i h g = go (i - a) (omega arith) (omega arith)
+  where
+    go : (d : ℕ) → i ≡ a + d → d < 4 → ids i ≡ id
+    go zero e l = let k : i ≡ a = omega arith in ap ids k ∙ p
+    go (suc zero) e l = let k : i ≡ a + 1 = omega arith in ap ids k ∙ q
+    go (suc (suc zero)) e l = let k : i ≡ a + 2 = omega arith in ap ids k ∙ r
+    go (suc (suc (suc zero))) e l = let k : i ≡ a + 3 = omega arith in ap ids k ∙ s
+    go (suc (suc (suc (suc d)))) e l = absurd (omega arith)
