@@ -44,12 +44,12 @@ fn put_tally(
     requires { ⌜ ((b : Block) × FoundAs (now block) found b) ⌝ }
     ensures { λ r. ⌜ ((b : Block) → FoundAs (now (block .entry)) found b → PutAs (part lot span) at b (now (out .entry)) (now (out .exit)) r) ⌝ }
 {
-    if out.len() < HEAD {
-        return BlockAnswer::NoRoom;
-    }
     let mut counts = [0u16; 65536];
     let mut places = [0usize; 4096];
     let mut room = [0usize; 4096];
+    if out.len() < HEAD {
+        return BlockAnswer::NoRoom;
+    }
     let w = add_block(
         block,
         found,
@@ -74,7 +74,7 @@ pub fn tally_block(key: i64, block: &[u8], lot: Lot, span: Span, out: &mut [u8])
     ensures { λ r. ⌜ toldBlock r ≡ mapAnswer length (tallyBlockOf byOne key (now (block .entry)) (part lot span) (length (now (out .entry)))) ⌝ }
     ensures { λ _. ⌜ now (out .exit) ≡ lent (tallyBlockOf byOne key (now (block .entry)) (part lot span) (length (now (out .entry)))) (now (out .entry)) ⌝ }
 {
-    // The table comes first, as in the tally of a sheet.
+    // The table comes first, here and in put_tally, as in the tally of a sheet.
     let mut ids = [0u8; 65536];
     if !is_part(lot, span) {
         return BlockAnswer::BadPart;
