@@ -109,6 +109,15 @@ anow_answer anow_tally_add(uint8_t *buffer, size_t room, uint64_t used, const ui
 /* Writes the sum of two tallies to the front of out. A refusal leaves out as it was. Refused: 13; 14; 11. */
 anow_answer anow_tally_merge(const uint8_t *a, size_t a_length, const uint8_t *b, size_t b_length, uint8_t *out, size_t room);
 
+/* Tallies the nodes of the block at a key that stand in a lot, if the block was saved within a span, to the front of out. A refusal leaves out as
+ * it was. Refused: 10; 9; 1 to 8; 11. */
+anow_answer anow_tally_block(int64_t key, const uint8_t *block, size_t length, anow_lot lot, anow_span span, uint8_t *out, size_t room);
+/* The same of a sheet: WSH, u16 1, u32 number of records, records of s64 key, u32 length and block, with rising keys. The spare is at least as long as
+ * out and does not overlap it; what it holds afterwards is open, also after a refusal. A refusal leaves out as it was; the answer's record is that of
+ * the fault, or the number of records for trailing bytes, 11 and 14. Refused: 10; 12 for a short spare; 15; by record 15, 9, 15 and 1 to 8, with the
+ * offset from the block's first byte; 11; 14. */
+anow_answer anow_tally_sheet(const uint8_t *sheet, size_t length, anow_lot lot, anow_span span, uint8_t *out, size_t room, uint8_t *spare, size_t spare_length);
+
 #ifdef __cplusplus
 }
 #endif

@@ -5,6 +5,7 @@ use mapblock::head::Part;
 use mapblock::head::cut;
 use mapblock::scan::Found;
 use names::sort::sort;
+use names::used::sized;
 use names::used::used;
 use position::key::Coordinates;
 use position::lot::Lot;
@@ -18,13 +19,6 @@ ghost use Rattle.mapblock.specs.Data.{Block};
 ghost use Rattle.tally.specs.Rows.{Rows};
 ghost use Rattle.tally.specs.Tally.{ones};
 ghost use Rattle.meter.specs.Adding.{part, MayAdd, UsedAdded, Adds, Added, withBlock};
-
-// A table of places has the length that its type says; this says so to proofs, and does nothing.
-fn sized(places: &[usize; 4096])
-    ensures { λ _. ⌜ length (now (places .entry)) ≡ 4096 ⌝ }
-{
-    let _whole: &[usize] = places;
-}
 
 // The counted names at the first n places, put in order and added.
 fn add_used(

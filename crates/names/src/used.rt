@@ -9,8 +9,8 @@ ghost use Rattle.mapblock.specs.Data.{NameRow};
 ghost use Rattle.mapblock.specs.Questions.{NameRun};
 ghost use Rattle.names.specs.Used.{usedIn};
 
-// An array has the length that its type says; this says so to proofs, and does nothing.
-fn sized(places: &[usize; 4096])
+// A table of places has the length that its type says; this says so to proofs, and does nothing.
+pub fn sized(places: &[usize; 4096])
     ensures { λ _. ⌜ length (now (places .entry)) ≡ 4096 ⌝ }
 {
     let _whole: &[usize] = places;
