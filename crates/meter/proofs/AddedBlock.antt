@@ -1,19 +1,19 @@
 -- A block added to a running tally: what the counters, the places and the rows are on the way, and that the sum is right.
 use Prim.Native.Nat.{ℕ, _+_, _-_, _*_, _≤_, _<_}
 use mathlib.Core.Path.{_≡_, refl, sym, ap, subst, _∙_}
-use mathlib.Core.Bool.{Bool, true, false}
+use mathlib.Core.Bool.{true, false}
 use mathlib.Core.List.{List, [], _∷_}
 use native.Mathlib.Omega.{arith}
-use lib.ListN.{length, take, drop, length-drop}
+use lib.ListN.{length, drop, length-drop}
 use lib.Seq.{take-all}
 use borrow.Author.Tests.{le-leb}
 use Rattle.wire.specs.Bytes.{Bytes}
-use Rattle.wire.specs.Read.{Read, done, mapRead}
+use Rattle.wire.specs.Read.{done, mapRead}
 use Rattle.position.specs.Spans.{inSpan}
 use Rattle.position.specs.declared.key.Coordinates.{Coordinates}
 use Rattle.mapblock.specs.Data.{Block, NameRow}
-use Rattle.mapblock.specs.Layout.{all, width}
-use Rattle.mapblock.specs.Block.{verdict, idAt}
+use Rattle.mapblock.specs.Layout.{width}
+use Rattle.mapblock.specs.Block.{idAt}
 use Rattle.mapblock.specs.Params.{idIn, holdsLists}
 use Rattle.mapblock.specs.Rows.{part}
 use Rattle.mapblock.specs.Sections.{found, within}
@@ -34,9 +34,9 @@ use Rattle.names.specs.Used.{usedIn, counted, Counted, heavy}
 use Rattle.names.proofs.UsedRuns.{used-run, used-named}
 use Rattle.names.proofs.Sums.{arranged-length, arranged-counted, arranged-count, arranged-heavy}
 use Rattle.counters.specs.Counting as counting
-use Rattle.running.specs.Running.{tooHeavy, Runs, Absorbs, Absorbed}
+use Rattle.running.specs.Running.{Absorbs, Absorbed}
 use Rattle.running.specs.declared.running.Running.{Running}
-use Rattle.meter.specs.Standing.{Part, Placed, nodesIn}
+use Rattle.meter.specs.Standing.{Part, nodesIn}
 use Rattle.meter.specs.Counting.{tallyOf, byOne}
 use Rattle.meter.specs.Tallying.{placed}
 use Rattle.meter.specs.Records.{clearTable, FoundAs}
@@ -58,9 +58,6 @@ module _ (s : List ℕ) (w : Found) (b : Block) (y : Bytes s) (f : FoundAs s w b
 
   pub found-names : NameRun (within s (w .sections .names)) (b .names)
   found-names = subst (λ (x : Block). NameRun (within s (w .sections .names)) (x .names)) same-block (names-run scanned y)
-
-  pub found-version : b .head .version ≡ w .head .version
-  found-version = ap (λ (x : Found). x .head .version) (f .shows)
 
   pub found-time : b .head .timestamp ≡ w .head .timestamp
   found-time = ap (λ (x : Found). x .head .timestamp) (f .shows)

@@ -4,13 +4,13 @@ use mathlib.Core.Path.{_≡_, refl, sym, ap, _∙_}
 use mathlib.Core.Bool.{Bool, true, false}
 use mathlib.Core.List.{List, [], _∷_, _++_}
 use native.Mathlib.Omega.{arith}
-use lib.ListN.{length, length-append}
+use lib.ListN.{length}
 use Rattle.wire.specs.Bytes.{Bytes}
 use Rattle.wire.specs.Choice.{pick, yes-and}
 use Rattle.wire.specs.Order.{order, order-same}
 use Rattle.wire.specs.declared.order.Order.{Order}
 use Rattle.wire.specs.declared.order.Order.the-variants.{Before, Same, After}
-use Rattle.tally.specs.Rows.{isName, choose, joined, addRow, plus, countIn, Above, Canonical}
+use Rattle.tally.specs.Rows.{isName, choose, joined, addRow, plus, countIn, Canonical}
 use Rattle.tally.specs.Tally.{KindRow, limited}
 use Rattle.tally.proofs.Canon.{count-plus, canonical-add, canonical-plus, determined, count-head, count-above, count-past}
 use Rattle.meter.specs.Standing.{Node, those}

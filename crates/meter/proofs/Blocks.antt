@@ -1,8 +1,8 @@
 -- The nodes of blocks that are taken: their number, and that their names may stand in a tally.
-use Prim.Native.Nat.{ℕ, zero, suc, _+_, _*_, _<_}
-use mathlib.Core.Path.{_≡_, refl, sym, ap, subst, _∙_}
+use Prim.Native.Nat.{ℕ, zero, suc, _*_}
+use mathlib.Core.Path.{_≡_, refl, ap, _∙_}
 use mathlib.Core.Bool.{Bool, true, false}
-use mathlib.Core.List.{List, [], _∷_, _++_}
+use mathlib.Core.List.{List, [], _∷_}
 use native.Mathlib.Omega.{arith}
 use lib.Dec.{eqb}
 use lib.IntN.{ℤ}
@@ -13,7 +13,6 @@ use Rattle.wire.specs.Bytes.{Bytes, bytes-nil}
 use Rattle.wire.specs.Read.{Read, done, refused}
 use Rattle.wire.specs.Answer.{Answer, good, refusal, mapAnswer, no-good}
 use Rattle.position.specs.Keys.{splitOf}
-use Rattle.position.specs.declared.key.Coordinates.{Coordinates}
 use Rattle.mapblock.specs.Data.{NameRow, Block}
 use Rattle.mapblock.specs.Layout.{all}
 use Rattle.mapblock.specs.Block.{block, verdict, idAt}
@@ -22,10 +21,10 @@ use Rattle.mapblock.specs.Valid.{Each, NameGood, Valid}
 use Rattle.mapblock.specs.declared.fault.Fault.{Fault}
 use Rattle.mapblock.proofs.Taken.{taken}
 use Rattle.tally.specs.Rows.{isName, Canonical}
-use Rattle.meter.specs.Standing.{Part, Placed, Node, inPart, nodeOf, nodesFrom, standing, nodesIn}
+use Rattle.meter.specs.Standing.{Part, Placed, inPart, nodesFrom, standing, nodesIn}
 use Rattle.meter.specs.Counting.{Measure, MeasureRows, tallyOf}
 use Rattle.meter.specs.Tallying.{thenAnswer, placed, placedAt}
-use Rattle.meter.proofs.Amounts.{Named, AllNamed, named-append, named-those, tally-canonical}
+use Rattle.meter.proofs.Amounts.{AllNamed, named-append, named-those, tally-canonical}
 
 -- ---- an answer that is good
 pub then-good : {A B : Type 0} (a : Answer A) (f : A → Answer B) (b : B) → thenAnswer a f ≡ good b → (x : A) × (a ≡ good x) × (f x ≡ good b)

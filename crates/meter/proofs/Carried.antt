@@ -1,39 +1,36 @@
 -- A sheet between its records: what start, a step and finish make of the state.
-use Prim.Native.Nat.{ℕ, zero-le, suc, _+_, _-_, _*_, _%_, _≤_, _<_}
+use Prim.Native.Nat.{ℕ, zero-le, _+_, _-_, _%_, _≤_, _<_}
 use mathlib.Core.Path.{_≡_, refl, sym, ap, subst, _∙_}
-use mathlib.Core.Bool.{Bool, true, false}
+use mathlib.Core.Bool.{true, false}
 use mathlib.Core.List.{List, [], _∷_, _++_}
 use mathlib.Core.Option.{Option, some}
 use native.Mathlib.Omega.{arith}
 use lib.IntN.{ℤ}
 use lib.ListN.{length, take, drop}
 use borrow.Author.Tests.{le-leb, lt-leb}
-use Rattle.wire.specs.Bytes.{Bytes}
 use Rattle.wire.specs.Answer.{Answer, good, refusal, plain, badPart, partsMisfit, noRoom, tooMany}
 use Rattle.wire.specs.Store.{stored, laid}
 use Rattle.wire.proofs.Laid.{stored-fits, laid-length}
 use Rattle.position.specs.declared.key.Coordinates.{Coordinates}
 use Rattle.mapblock.specs.declared.scan.Found.{Found}
-use Rattle.mapblock.specs.Data.{Block}
-use Rattle.tally.specs.Rows.{Rows, addRow, plus}
+use Rattle.tally.specs.Rows.{Rows, plus}
 use Rattle.tally.specs.Tally.{tally, headBytes, mostRows, ones, one}
 use Rattle.tally.specs.Walks.{rowsBytes, Answered}
 use Rattle.tally.proofs.Held.{tally-size, head-size}
 use Rattle.names.specs.Used.{heavy}
-use Rattle.running.specs.Running.{Held, Runs, Absorbed, none}
+use Rattle.running.specs.Running.{Held, Runs, none}
 use Rattle.running.specs.declared.running.Running.{Running}
 use Rattle.running.proofs.Counts.{heavy-add, heavy-plus}
 use Rattle.running.proofs.Absorbing.{runs-empty}
 use Rattle.meter.specs.Standing.{Part, goodPart, Placed, Node, inPart, standing, nodesIn}
 use Rattle.meter.specs.Counting.{rowOf, tallyOf, byOne}
 use Rattle.meter.specs.Tallying.{placed}
-use Rattle.meter.specs.Sheet.{SheetRecord, judgeRecord}
+use Rattle.meter.specs.Sheet.{judgeRecord}
 use Rattle.meter.specs.Streaming.{State, noRecords, startOf, taking, stepOf, finishOf}
-use Rattle.meter.specs.Records.{clearTable, lastOf, recordOf, faultNumber, faultOffset, faulty, FoundAs, RecordTold}
+use Rattle.meter.specs.Records.{lastOf, recordOf, faultNumber, faultOffset, faulty, RecordTold}
 use Rattle.meter.specs.Adding.{Adds, Added, withBlock}
 use Rattle.meter.specs.Progress.{Carries, StartTold, Steps, StepTold}
 use Rattle.meter.specs.declared.records.RecordFault.{RecordFault}
-use Rattle.meter.specs.declared.records.LastKey.{LastKey}
 use Rattle.meter.specs.declared.records.LastKey.the-variants as lasts
 use Rattle.meter.specs.declared.records.RecordAnswer.the-variants as records
 use Rattle.meter.specs.declared.stream.Progress.{Progress}

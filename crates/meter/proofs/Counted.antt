@@ -16,13 +16,12 @@ use Rattle.wire.specs.declared.order.Order.the-variants.{Before, Same, After}
 use Rattle.position.specs.Lots.{inLot}
 use Rattle.position.specs.Spans.{inSpan}
 use Rattle.position.specs.declared.key.Coordinates.{Coordinates}
-use Rattle.position.specs.declared.lot.Lot.{Lot}
 use Rattle.mapblock.specs.Data.{NameRow, Block}
 use Rattle.mapblock.specs.Block.{idAt}
 use Rattle.mapblock.specs.Params.{idIn}
 use Rattle.mapblock.specs.Questions.{nameOf, nameAt}
 use Rattle.mapblock.specs.Table.{unmarked}
-use Rattle.mapblock.specs.Valid.{Has, Distinct, Each, NameGood, Valid}
+use Rattle.mapblock.specs.Valid.{Has, Each, NameGood, Valid}
 use Rattle.mapblock.proofs.BlockAnswers.{zeros-at}
 use Rattle.tally.specs.Rows.{isNamed, choose, countIn}
 use Rattle.tally.specs.Tally.{ones}
@@ -33,7 +32,7 @@ use Rattle.counters.proofs.Counts.{cnt-add, cnt-zero, cnt-one, cnt-same}
 use Rattle.counters.proofs.Names.{by-name, counted-bound}
 use Rattle.counters.proofs.Cleared.{fresh, clear-again, cleared-length}
 use Rattle.meter.specs.Standing.{Part, Placed, Node, inPart, nodeOf, nodesFrom, those, nodesIn}
-use Rattle.meter.specs.Counting.{bears, bearing, amountOf, byOne}
+use Rattle.meter.specs.Counting.{bearing, amountOf, byOne}
 use Rattle.meter.specs.Tallying.{placed}
 use Rattle.meter.specs.Records.{clearTable}
 use Rattle.meter.proofs.NamesAlone.{standing-one}

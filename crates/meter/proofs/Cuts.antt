@@ -5,14 +5,14 @@ use mathlib.Core.Bool.{Bool, true, false, _&&_, and-true, and-assoc}
 use mathlib.Core.List.{List, [], _∷_, _++_}
 use native.Mathlib.Omega.{arith}
 use lib.Dec.{leb, ltb}
-use lib.IntN.{ℤ, pos, negsuc, _+ℤ_}
+use lib.IntN.{ℤ, pos, _+ℤ_}
 use lib.Signed.{leZ}
 use borrow.Author.Tests.{leb-true, ltb-true, ltb-false, le-leb, lt-leb, lt-ltb}
 use Rattle.wire.specs.Choice.{and-yes, yes-and}
 use Rattle.wire.specs.Ints.{up, down, plus-is, le-yes, le-no, yes-le, no-le}
 use Rattle.position.specs.Keys.{between}
 use Rattle.position.specs.Lots.{axis, inLot, goodLot}
-use Rattle.position.specs.Spans.{inSpan, goodSpan}
+use Rattle.position.specs.Spans.{goodSpan}
 use Rattle.position.proofs.Ranges.{between-yes}
 use Rattle.position.proofs.Lots.{axis-yes, yes-axis}
 use Rattle.meter.specs.Standing.{Part, goodPart, Node, inPart}

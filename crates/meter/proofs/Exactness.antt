@@ -14,14 +14,14 @@ use Rattle.wire.specs.Bytes.{Bytes}
 use Rattle.wire.specs.Choice.{pick, and-yes, yes-and}
 use Rattle.wire.specs.Answer.{Answer, good, refusal, plain, mapAnswer, lent, no-good, badPart, partsMisfit, noRoom, tooMany}
 use Rattle.tally.specs.Rows.{countIn, Canonical}
-use Rattle.tally.specs.Tally.{tally, rowsOf, limited, countable, mostRows}
+use Rattle.tally.specs.Tally.{tally, rowsOf, limited, mostRows}
 use Rattle.tally.specs.Theorems.{IsTally, rowsIn, Fits}
 use Rattle.tally.proofs.Held.{rows-of-tally, tally-bytewise}
 use Rattle.meter.specs.Standing.{Part, goodPart, Placed, inPart, standing, nodesIn}
-use Rattle.meter.specs.Counting.{Measure, MeasureRows, tallyOf, amountOf}
+use Rattle.meter.specs.Counting.{Measure, MeasureRows}
 use Rattle.meter.specs.Tallying.{thenAnswer, placedAt, fitted, tallyBlockOf}
 use Rattle.meter.specs.Sheet.{sheetOf, fittedSheet, tallySheetOf}
-use Rattle.meter.specs.Theorems.{Source, one-block, whole-sheet, blocksOf, SpareFits, IsBytes, Gives, tallyFrom, tallied, Talliable, CountsOf, Exact}
+use Rattle.meter.specs.Theorems.{Source, one-block, whole-sheet, blocksOf, IsBytes, Gives, tallyFrom, tallied, Talliable, Exact}
 use Rattle.meter.proofs.Amounts.{those-fewer, count-tally, tally-limited, tally-fewer}
 use Rattle.meter.proofs.Blocks.{then-good, map-good, block-valid, placed-taken, AllValid, standing-number, held, rows-named, rows-canonical}
 use Rattle.meter.proofs.SheetTaken.{sheet-valid}

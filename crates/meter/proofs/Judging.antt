@@ -1,7 +1,7 @@
 -- A record judged, as the code told it.
 use Prim.Native.Nat.{ℕ}
 use mathlib.Core.Path.{_≡_, refl, ap, sym, _∙_}
-use mathlib.Core.Bool.{Bool, true, false}
+use mathlib.Core.Bool.{true, false}
 use mathlib.Core.List.{List}
 use mathlib.Core.Option.{Option}
 use lib.IntN.{ℤ}
@@ -16,9 +16,9 @@ use Rattle.mapblock.specs.Sections.{found}
 use Rattle.mapblock.specs.Table.{freeIn}
 use Rattle.mapblock.specs.declared.fault.Fault.{Fault}
 use Rattle.mapblock.specs.declared.scan.Found.{Found}
-use Rattle.mapblock.proofs.BlockAnswers.{clear-table, block-refused, TakenAs, taken-as}
+use Rattle.mapblock.proofs.BlockAnswers.{clear-table, block-refused, taken-as}
 use Rattle.meter.specs.Sheet.{SheetRecord, rises, judgeRecord}
-use Rattle.meter.specs.Records.{clearTable, recordOf, RecordTold, faulty}
+use Rattle.meter.specs.Records.{clearTable, RecordTold, faulty}
 use Rattle.meter.specs.declared.records.RecordFault.the-variants as faults
 use Rattle.meter.specs.declared.records.RecordAnswer.the-variants as records
 use Rattle.meter.proofs.Steps.{judge-astray, judge-falling, judge-refused, judge-good}

@@ -1,22 +1,21 @@
 -- The tally of a block depends on the names of its nodes alone.
 use Prim.Native.Nat.{ℕ, zero, suc, _+_, _≤_, _<_}
-use mathlib.Core.Path.{_≡_, refl, sym, ap, _∙_}
+use mathlib.Core.Path.{_≡_, refl, ap, _∙_}
 use mathlib.Core.Bool.{Bool, true, false, _&&_}
-use mathlib.Core.List.{List, [], _∷_, _++_, append-nil}
+use mathlib.Core.List.{List, [], _∷_, append-nil}
 use native.Mathlib.Omega.{arith}
-use lib.IntN.{ℤ}
 use Rattle.wire.specs.Choice.{pick}
-use Rattle.wire.specs.Answer.{Answer, good, refusal, mapAnswer, plain, badPart}
+use Rattle.wire.specs.Answer.{Answer, good, refusal, plain, badPart}
 use Rattle.position.specs.Keys.{splitOf}
 use Rattle.position.specs.Nodes.{nodeAt}
 use Rattle.position.specs.Lots.{inLot}
 use Rattle.position.specs.Spans.{inSpan}
 use Rattle.position.specs.declared.key.Coordinates.{Coordinates}
 use Rattle.mapblock.specs.Data.{Block}
-use Rattle.mapblock.specs.Questions.{blockOf, nameAt}
-use Rattle.tally.specs.Rows.{Row, Rows, addRow}
+use Rattle.mapblock.specs.Questions.{nameAt}
+use Rattle.tally.specs.Rows.{Rows, addRow}
 use Rattle.tally.specs.Tally.{ones}
-use Rattle.meter.specs.Standing.{Part, goodPart, Placed, Node, inPart, nodeOf, nodesFrom, standing, those, nodesIn}
+use Rattle.meter.specs.Standing.{Part, goodPart, Placed, inPart, nodeOf, nodesFrom, standing, those, nodesIn}
 use Rattle.meter.specs.Counting.{tallyOf, byOne}
 use Rattle.meter.specs.Tallying.{thenAnswer, placed, placedAt, fitted, tallyBlockOf}
 use Rattle.meter.specs.Theorems.{NamesAlone}

@@ -1,7 +1,7 @@
 -- Parts of which each node of the whole lies in exactly one: their tallies sum up to the whole's, and the cut law follows.
-use Prim.Native.Nat.{ℕ, suc, _+_, _≤_}
+use Prim.Native.Nat.{ℕ, suc, _+_}
 use mathlib.Core.Path.{_≡_, refl, sym, ap, subst, _∙_}
-use mathlib.Core.Bool.{Bool, true, false, _&&_}
+use mathlib.Core.Bool.{Bool, true, false}
 use mathlib.Core.List.{List, [], _∷_, _++_}
 use native.Mathlib.Omega.{arith}
 use lib.ListN.{length}
@@ -10,18 +10,18 @@ use Rattle.wire.specs.Order.{order}
 use Rattle.wire.specs.Answer.{good}
 use Rattle.tally.specs.Rows.{choose, plus, countIn, Canonical}
 use Rattle.tally.specs.Tally.{tally}
-use Rattle.tally.specs.Theorems.{merged, Merges, AllTallies, rowsIn, sumOf, Fits}
+use Rattle.tally.specs.Theorems.{merged, Merges, AllTallies, sumOf, Fits}
 use Rattle.tally.proofs.Canon.{count-plus, canonical-plus, determined, plus-unit}
 use Rattle.tally.proofs.Fitting.{fits-left, fits-right}
 use Rattle.tally.proofs.MergeLaw.{merge-law, empty-changes-nothing}
 use Rattle.meter.specs.Standing.{Part, goodPart, Placed, Node, inPart, those, standing, nodesIn}
-use Rattle.meter.specs.Counting.{bears, bearing, Measure, MeasureRows, tallyOf, amountOf}
+use Rattle.meter.specs.Counting.{Measure, MeasureRows, amountOf}
 use Rattle.meter.specs.Cuts.{Cuts, uncut, cut, lower, upper, once, shares, allGood, Partition}
 use Rattle.meter.specs.Theorems.{Source, blocksOf, SpareFits, IsBytes, Gives, tallied, Talliable, AllGive, CutLaw, PartitionLaw, Demand3}
 use Rattle.meter.proofs.Amounts.{first-amount, count-tally}
 use Rattle.meter.proofs.Blocks.{AllValid, held, rows-canonical}
 use Rattle.meter.proofs.Cuts.{partition}
-use Rattle.meter.proofs.Exactness.{blocks-valid, TalliedAs, tallied-told, told-gives, gives-tallied, rows-read, is-tally, exact}
+use Rattle.meter.proofs.Exactness.{blocks-valid, tallied-told, told-gives, gives-tallied, rows-read, is-tally, exact}
 
 module _ (m : Measure) where
   abbrev C : Type 0

@@ -1,12 +1,12 @@
 -- Rows put into an output as a tally: where they fit, and where they do not.
 use Prim.Native.Nat.{ℕ, _+_, _-_, _≤_, _<_}
 use mathlib.Core.Path.{_≡_, refl, sym, ap, subst, _∙_}
-use mathlib.Core.Bool.{Bool, true, false}
+use mathlib.Core.Bool.{true, false}
 use mathlib.Core.List.{List, [], _∷_, _++_, append-assoc}
 use native.Mathlib.Nat.{add-comm, zero-add}
 use native.Mathlib.Omega.{arith}
-use lib.ListN.{length, take, drop, length-append, length-take, length-drop, take-append-drop}
-use lib.Seq.{drop-drop, drop-append-seam, drop-at, length-take-le}
+use lib.ListN.{length, take, drop, length-append, length-drop, take-append-drop}
+use lib.Seq.{drop-drop, drop-at, length-take-le}
 use borrow.Author.Tests.{le-leb, lt-leb}
 use borrow.Rule.Slice.PartMut.{putMid}
 use Rattle.wire.specs.Lists.{rest-is}
@@ -16,7 +16,7 @@ use Rattle.mapblock.specs.Data.{Block}
 use Rattle.mapblock.specs.declared.scan.Found.{Found}
 use Rattle.tally.proofs.Canon.{plus-unit}
 use lib.Dec.{lit<}
-use Rattle.wire.specs.Answer.{Answer, good, refusal, plain, noRoom, tooMany}
+use Rattle.wire.specs.Answer.{good, refusal, plain, noRoom, tooMany}
 use Rattle.wire.specs.Store.{laid, stored}
 use Rattle.wire.proofs.Laid.{stored-fits, laid-two, part-back}
 use Rattle.tally.specs.Rows.{Rows}

@@ -1,33 +1,30 @@
 -- The tally of a sheet, by cases, as the code answers it.
-use Prim.Native.Nat.{ℕ, _+_, _≤_, _<_, _^_}
-use mathlib.Core.Path.{_≡_, refl, sym, ap, subst, _∙_}
+use Prim.Native.Nat.{ℕ, _≤_}
+use mathlib.Core.Path.{_≡_, refl, sym, subst}
 use mathlib.Core.Bool.{Bool, true, false}
-use mathlib.Core.List.{List, []}
+use mathlib.Core.List.{List}
 use mathlib.Core.Option.{none}
 use native.Mathlib.Omega.{arith}
 use lib.Dec.{leb}
 use lib.ListN.{length, drop}
 use borrow.Author.Tests.{leb-true}
-use Rattle.wire.specs.Lists.{rest-is}
 use Rattle.wire.specs.Bytes.{Bytes, bytes-drop}
 use Rattle.wire.specs.Read.{done}
 use Rattle.wire.specs.Format.{ends-in}
-use Rattle.wire.specs.Answer.{Answer, good, refusal, plain, no-good, badPart, partsMisfit, sheetMalformed}
+use Rattle.wire.specs.Answer.{Answer, good, refusal, plain, no-good, badPart, partsMisfit}
 use Rattle.wire.specs.Choice.{pick}
 use Rattle.tally.specs.Walks.{Answered}
-use Rattle.meter.specs.Standing.{Part, goodPart, Placed, nodesIn}
+use Rattle.meter.specs.Standing.{Part, goodPart, nodesIn}
 use Rattle.meter.specs.Counting.{tallyOf, byOne}
 use Rattle.meter.specs.Tallying.{thenAnswer}
 use Rattle.meter.specs.Sheet.{sheetHead, recordsFrom, sheetOf, fittedSheet, tallySheetOf}
 use Rattle.meter.specs.Streaming.{State, noRecords, startOf, finishOf}
-use Rattle.meter.specs.Records.{Misread, at-place, HeadTold, faulty}
+use Rattle.meter.specs.Records.{Misread, at-place}
 use Rattle.meter.specs.Progress.{Carries, StartTold, FinishTold, toldFinish}
-use Rattle.meter.specs.SheetTold.{answerFrom, Numbered, RecordsTold, toldSheet, SheetPut}
-use Rattle.meter.specs.declared.records.RecordFault.{RecordFault}
+use Rattle.meter.specs.SheetTold.{answerFrom, Numbered, toldSheet, SheetPut}
 use Rattle.meter.specs.declared.stream.Progress.{Progress}
 use Rattle.meter.specs.declared.stream.StartAnswer.the-variants as starts
 use Rattle.meter.specs.declared.stream.FinishAnswer.{FinishAnswer}
-use Rattle.meter.specs.declared.sheet.Records.the-variants as records
 use Rattle.meter.specs.declared.sheet.SheetAnswer.{SheetAnswer}
 use Rattle.meter.specs.declared.sheet.SheetAnswer.the-variants as sheets
 use Rattle.meter.proofs.Steps.{sheet-misframed, sheet-on}

@@ -1,38 +1,37 @@
 -- Tallying that is exact is neither always empty nor always refused, and invents nothing: shown by the shortest block of air at key 0.
-use Prim.Native.Nat.{ℕ, suc, _+_, _<_, _≤_}
-use mathlib.Core.Path.{_≡_, refl, sym, ap, _∙_}
-use mathlib.Core.Bool.{Bool, true, false}
+use Prim.Native.Nat.{ℕ, _<_, _≤_}
+use mathlib.Core.Path.{_≡_, refl, ap}
+use mathlib.Core.Bool.{true, false}
 use mathlib.Core.List.{List, [], _∷_}
 use mathlib.Core.Option.{Option, Option·getD}
-use native.Mathlib.Nat.{le-refl}
 use native.Mathlib.Omega.{arith}
 use lib.Dec.{lit<, lit≤}
-use lib.IntN.{ℤ, pos}
+use lib.IntN.{pos}
 use lib.ListN.{length}
 use Rattle.wire.specs.Bytes.{Bytes}
-use Rattle.wire.specs.Choice.{pick, yes-and}
+use Rattle.wire.specs.Choice.{yes-and}
 use Rattle.wire.specs.Answer.{good, mapAnswer}
 use Rattle.position.specs.Keys.{between, moved, isKey, splitOf}
-use Rattle.position.specs.Nodes.{isBlock, nodeAt}
-use Rattle.position.specs.Lots.{axis, inLot, world}
+use Rattle.position.specs.Nodes.{isBlock}
+use Rattle.position.specs.Lots.{axis, world}
 use Rattle.position.specs.Spans.{allTime}
 use Rattle.position.specs.declared.key.Coordinates.{Coordinates}
 use Rattle.position.proofs.Theorems.{keys-have-triples, node-in-the-world}
 use Rattle.mapblock.specs.Layout.{all}
 use Rattle.mapblock.specs.Block.{block}
-use Rattle.mapblock.specs.Questions.{blockOf, nameAt}
+use Rattle.mapblock.specs.Questions.{nameAt}
 use Rattle.mapblock.specs.Valid.{Valid}
 use Rattle.mapblock.proofs.ValidOk.{valid-is-ok}
 use Rattle.mapblock.proofs.Taken.{airAt, air-valid}
 use Rattle.wire.specs.Order.{order, order-refl}
 use Rattle.tally.specs.Rows.{choose, countIn}
 use Rattle.tally.specs.Tally.{tally}
-use Rattle.tally.specs.Theorems.{rowsIn, Fits}
+use Rattle.tally.specs.Theorems.{rowsIn}
 use Rattle.tally.proofs.Held.{rows-of-tally}
-use Rattle.meter.specs.Standing.{Part, Placed, Node, inPart, nodeOf, nodesFrom, standing, those, nodesIn}
-use Rattle.meter.specs.Counting.{bears, bearing, tallyOf, amountOf, byOne}
-use Rattle.meter.specs.Tallying.{thenAnswer, placed, placedAt}
-use Rattle.meter.specs.Theorems.{Source, one-block, blocksOf, Tallier, Gives, Talliable, Exact, AlwaysEmpty, RefusesAll, Invents, ShutOut}
+use Rattle.meter.specs.Standing.{Part, Placed, Node, inPart, nodeOf, nodesFrom, those, nodesIn}
+use Rattle.meter.specs.Counting.{amountOf, byOne}
+use Rattle.meter.specs.Tallying.{placed, placedAt}
+use Rattle.meter.specs.Theorems.{Source, one-block, blocksOf, Talliable, ShutOut}
 use Rattle.meter.proofs.Blocks.{valid-block, held}
 use Rattle.meter.proofs.Exactness.{fits-in-own}
 use Rattle.meter.proofs.NamesAlone.{standing-one}

@@ -23,7 +23,7 @@ use Rattle.meter.specs.Tallying.{thenAnswer}
 use Rattle.meter.specs.Sheet.{Misframed, SheetRecord, frame, judgeRecord, recordsFrom, sheetOf, fittedSheet, tallySheetOf}
 use Rattle.meter.specs.Streaming.{State, noRecords, startOf, taking, stepOf, stepsOf, finishOf}
 use Rattle.meter.specs.Theorems.{sheetBytes, Framed, streamed, broken, Streams}
-use Rattle.meter.proofs.Amounts.{those-append, named-those, tally-canonical, tally-append}
+use Rattle.meter.proofs.Amounts.{those-append, named-those, tally-append}
 use Rattle.meter.proofs.Blocks.{map-good, AllValid, standing-named, held, rows-canonical}
 use Rattle.meter.proofs.Steps.{records-end, records-more, records-misframed, records-on, written-refused, written-on, none-taken}
 use Rattle.meter.proofs.SheetTaken.{sheet-behind, record-valid, records-valid}

@@ -1,13 +1,13 @@
 -- The tally of a block, by cases.
 use Prim.Native.Nat.{ℕ}
-use mathlib.Core.Path.{_≡_, refl, ap, sym, _∙_}
+use mathlib.Core.Path.{_≡_, refl}
 use mathlib.Core.Bool.{true, false}
-use mathlib.Core.List.{List, [], _∷_}
+use mathlib.Core.List.{List}
 use lib.IntN.{ℤ}
 use lib.ListN.{length, replicate}
 use Rattle.wire.specs.Bytes.{Bytes}
 use Rattle.wire.specs.Read.{done, refused, mapRead}
-use Rattle.wire.specs.Answer.{Answer, good, refusal, plain, badPart, outOfRange}
+use Rattle.wire.specs.Answer.{good, refusal, plain, badPart, outOfRange}
 use Rattle.position.specs.Keys.{splitOf}
 use Rattle.position.specs.declared.key.Coordinates.{Coordinates}
 use Rattle.mapblock.specs.Data.{Block}
@@ -19,9 +19,9 @@ use Rattle.mapblock.specs.declared.fault.Fault.{Fault}
 use Rattle.mapblock.specs.declared.scan.Found.{Found}
 use Rattle.mapblock.proofs.BlockAnswers.{clear-table, block-refused, TakenAs, taken-as}
 use Rattle.tally.specs.Walks.{Answered}
-use Rattle.meter.specs.Standing.{Part, goodPart, nodesIn}
-use Rattle.meter.specs.Counting.{tallyOf, byOne}
-use Rattle.meter.specs.Tallying.{placed, placedAt, fitted, tallyBlockOf}
+use Rattle.meter.specs.Standing.{Part, goodPart}
+use Rattle.meter.specs.Counting.{byOne}
+use Rattle.meter.specs.Tallying.{placedAt, tallyBlockOf}
 use Rattle.meter.specs.Records.{FoundAs}
 use Rattle.meter.specs.Told.{toldBlock, PutAs}
 use Rattle.meter.specs.declared.block.BlockAnswer.{BlockAnswer}

@@ -1,15 +1,15 @@
 -- A sheet's records, walked from one to the next: what the walk knows, and its steps.
 use Prim.Native.Nat.{ℕ, zero, suc, _+_, _-_, _≤_, _<_}
 use mathlib.Core.Path.{_≡_, refl, sym, ap, subst, _∙_}
-use mathlib.Core.List.{List, []}
+use mathlib.Core.List.{List}
 use native.Mathlib.Nat.{le-refl}
 use native.Mathlib.Numerals.{sub-one}
 use native.Mathlib.Omega.{arith}
 use lib.IntN.{ℤ}
 use lib.ListN.{length, take, drop, length-drop}
-use Rattle.wire.specs.Lists.{rest-is, nil-is}
+use Rattle.wire.specs.Lists.{rest-is}
 use Rattle.wire.specs.Bytes.{Bytes, bytes-drop}
-use Rattle.wire.specs.Read.{done, refused}
+use Rattle.wire.specs.Read.{done}
 use Rattle.wire.specs.Format.{ends-in}
 use Rattle.wire.specs.Answer.{Answer, good, refusal, sheetMalformed, no-good}
 use Rattle.tally.specs.Rows.{Canonical}
@@ -17,9 +17,9 @@ use Rattle.tally.specs.Tally.{ones}
 use Rattle.meter.specs.Standing.{Part, Placed}
 use Rattle.meter.specs.Counting.{byOne}
 use Rattle.meter.specs.Tallying.{thenAnswer}
-use Rattle.meter.specs.Sheet.{SheetRecord, frame, judgeRecord, recordsFrom}
+use Rattle.meter.specs.Sheet.{SheetRecord, frame, judgeRecord}
 use Rattle.meter.specs.Streaming.{State, taking, stepOf, finishOf}
-use Rattle.meter.specs.Records.{clearTable, Misread, at-place, recordOf, FrameTold, faulty, faultNumber, faultOffset}
+use Rattle.meter.specs.Records.{clearTable, Misread, at-place, recordOf, FrameTold, faulty}
 use Rattle.meter.specs.Progress.{Carries, Steps, StepTold}
 use Rattle.meter.specs.SheetTold.{answerFrom, Numbered, RecordsTold}
 use Rattle.meter.specs.declared.records.FrameRead.the-variants as frames
@@ -29,7 +29,6 @@ use Rattle.meter.specs.declared.sheet.Records.the-variants as records
 use Rattle.meter.specs.declared.stream.Progress.{Progress}
 use Rattle.meter.specs.declared.stream.StepAnswer.{StepAnswer}
 use Rattle.meter.specs.declared.stream.StepAnswer.the-variants as steps
-use Rattle.meter.proofs.Blocks.{then-good}
 use Rattle.meter.proofs.Steps.{records-end, records-more, records-misframed, records-refused}
 use Rattle.meter.proofs.Streaming.{finishing, finishing-none, step-refused, step-good, record-on}
 

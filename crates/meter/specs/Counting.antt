@@ -1,6 +1,6 @@
 -- The tally of nodes: document 01, 'Tallies, lots, spans, sheets'. What a node counts stays open here, so that a kind of tally with more
 -- than one number to a row shares every law.
-use Prim.Native.Nat.{ℕ, _+_, _<_}
+use Prim.Native.Nat.{ℕ, _<_}
 use mathlib.Core.Path.{_≡_, refl}
 use mathlib.Core.Bool.{Bool, true}
 use mathlib.Core.List.{List, [], _∷_}

@@ -14,7 +14,6 @@ use Rattle.wire.specs.Format.{Format, such}
 use Rattle.wire.specs.Formats.{_▹_, u32, s64, counted, listed, fixed, mark, into, Shape}
 use Rattle.wire.specs.Answer.{Answer, good, refusal, plain, mapAnswer, badPart, partsMisfit, sheetMalformed, noRoom, tooMany}
 use Rattle.position.specs.Keys.{isKey, splitOf}
-use Rattle.position.specs.declared.key.Coordinates.{Coordinates}
 use Rattle.mapblock.specs.Questions.{blockOf}
 use Rattle.tally.specs.Tally.{tally, mostRows}
 use Rattle.meter.specs.Standing.{Part, goodPart, Placed, nodesIn}

@@ -40,7 +40,3 @@ module _ (m : Measure) where
   -- 11, then 14
   abbrev pub finishOf : ℕ → State → Answer (List ℕ)
   finishOf room w = fittedSheet m room (w .rows) (w .records)
-
-  -- start, a step for each record, finish
-  abbrev pub streamOf : Part → ℕ → ℕ → List SheetRecord → Answer (List ℕ)
-  streamOf p room spare l = thenAnswer (startOf p room spare) λ w. thenAnswer (stepsOf p w l) λ v. finishOf room v

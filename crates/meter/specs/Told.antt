@@ -1,9 +1,8 @@
 -- What the code's answers say, as document 01 numbers them.
 use Prim.Native.Nat.{ℕ}
-use mathlib.Core.Path.{_≡_}
 use mathlib.Core.List.{List, [], _∷_}
 use lib.ListN.{length}
-use Rattle.wire.specs.Answer.{Answer, good, refusal, plain, mapAnswer, lent, outOfRange, badPart, noRoom}
+use Rattle.wire.specs.Answer.{Answer, good, refusal, plain, outOfRange, badPart, noRoom}
 use Rattle.position.specs.declared.key.Coordinates.{Coordinates}
 use Rattle.mapblock.specs.Data.{Block}
 use Rattle.mapblock.specs.Numbers.{number}

@@ -1,5 +1,5 @@
 -- The row at a place, by what was read there.
-use Prim.Native.Nat.{ℕ, _-_, _<_, _≤_}
+use Prim.Native.Nat.{ℕ, _-_, _<_}
 use mathlib.Core.Path.{_≡_, refl, ap, sym, _∙_}
 use mathlib.Core.List.{List, [], _++_, append-assoc}
 use native.Mathlib.Omega.{arith}
@@ -7,7 +7,7 @@ use lib.ListN.{length, take, drop, drop-of-length-le}
 use lib.Seq.{take-at, drop-at}
 use Rattle.wire.specs.Lists.{rest-is}
 use Rattle.wire.specs.Bytes.{Bytes, bytes-drop}
-use Rattle.wire.specs.Read.{Read, done, refused, mapRead, map-done, map-refused}
+use Rattle.wire.specs.Read.{done, refused, mapRead, map-done, map-refused}
 use Rattle.wire.specs.Format.{run, such, _⨾_, along}
 use Rattle.wire.specs.Formats.{number, counted}
 use Rattle.mapblock.specs.Data.{NameRow}

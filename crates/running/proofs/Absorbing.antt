@@ -5,7 +5,7 @@ use mathlib.Core.Bool.{true, false}
 use mathlib.Core.List.{List, []}
 use native.Mathlib.Omega.{arith}
 use lib.Dec.{lit<}
-use lib.ListN.{length, take, drop}
+use lib.ListN.{length, drop}
 use lib.Seq.{drop-drop}
 use Rattle.wire.specs.Bytes.{Bytes}
 use Rattle.wire.specs.Choice.{no-true, no-false}
@@ -32,9 +32,6 @@ runs-empty t = record {
   held = λ e. record { size = refl; bytes = refl; inside = omega arith; rows = refl };
   lost = λ e. no-true e;
 }
-
-pub runs-bytes : {t : List ℕ} {w : Running} {R : Rows ones} → Runs t w R → w .over ≡ false → take (w .size) t ≡ rowsBytes one R
-runs-bytes r e = r .held e .bytes
 
 -- ---- adding counted names
 module _ (s c ps t : List ℕ) (w : Running) (b : Bytes s) (R : Rows ones) (x : Absorbs s c ps t w R) where

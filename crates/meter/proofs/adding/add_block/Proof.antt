@@ -1,9 +1,6 @@
-use mathlib.Core.Path.{_≡_, refl, ap, sym, _∙_}
-use mathlib.Core.Bool.{Bool}
-use denote.Ref.{now}
+use mathlib.Core.Path.{refl, sym, _∙_}
 use borrow.Author.Tests.{not-true, not-false}
 use native.Mathlib.Omega.{arith}
-use Rattle.position.specs.Spans.{inSpan}
 use Rattle.meter.specs.Adding.{part}
 use Rattle.meter.proofs.AddedBlock.{added-none, added-block}
 use borrow.Author.Needs.{needs}

@@ -1,8 +1,6 @@
 use mir.Syntax.{w64}
 use mir.ValLaws.{toZ-ofZ}
 use mathlib.Core.Path.{ap, sym}
-use mathlib.Core.Option.{Option}
-use lib.IntN.{ℤ}
 use Rattle.meter.specs.Sheet.{rises}
 use Rattle.meter.specs.Records.{lastOf}
 use Rattle.meter.specs.declared.records.LastKey.{LastKey}

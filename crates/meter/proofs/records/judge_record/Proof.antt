@@ -2,8 +2,7 @@ use mir.ValLaws.{toZ-ofZ}
 use Rattle.position.specs.Keys.{splitOf}
 use Rattle.meter.specs.Sheet.{rises}
 use Rattle.meter.specs.Records.{lastOf, recordOf}
-use mathlib.Core.Path.{_≡_, refl, ap, sym, _∙_}
-use denote.Ref.{now}
+use mathlib.Core.Path.{_≡_, refl, sym, _∙_}
 use borrow.Author.Tests.{not-true, not-false}
 use Rattle.position.specs.Keys.{toldSplit}
 use Rattle.mapblock.specs.Scan.{toldScan}

@@ -1,15 +1,14 @@
 use borrow.Author.Needs.{needs}
-use Prim.Native.Nat.{ℕ, _+_, _-_, _≤_}
-use mathlib.Core.Path.{_≡_, refl, subst, sym, _∙_}
-use mathlib.Core.List.{List}
+use Prim.Native.Nat.{_+_, _-_, _≤_}
+use mathlib.Core.Path.{subst, _∙_}
 use native.Mathlib.Omega.{arith}
-use lib.ListN.{length, take, drop}
+use lib.ListN.{length}
 use denote.Ref.{now}
 use mir.Syntax.{w64}
 use mir.ValLaws.{toZ-ofZ}
 use Rattle.meter.specs.Counting.{byOne}
 use Rattle.meter.specs.Streaming.{State, stepOf}
-use Rattle.meter.specs.Records.{clearTable, FrameTold, recordOf}
+use Rattle.meter.specs.Records.{FrameTold, recordOf}
 use Rattle.meter.specs.Adding.{part}
 use Rattle.meter.specs.Progress.{Steps, StepTold}
 use Rattle.meter.specs.declared.records.FrameRead.the-variants as frames

@@ -1,7 +1,5 @@
 use borrow.Author.Needs.{needs}
-use mathlib.Core.Path.{_≡_, ap, sym, _∙_}
-use mathlib.Core.List.{[]}
-use denote.Ref.{now}
+use mathlib.Core.Path.{ap, sym, _∙_}
 use Rattle.mapblock.specs.Data.{NameRow}
 use Rattle.mapblock.specs.Told.{toldName}
 use Rattle.names.proofs.RowsAt.{row-beyond, row-refused, row-id}

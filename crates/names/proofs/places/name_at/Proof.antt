@@ -1,10 +1,8 @@
 use borrow.Author.Needs.{needs}
-use mathlib.Core.Path.{_≡_, ap, sym, _∙_}
-use mathlib.Core.List.{[]}
-use denote.Ref.{now}
+use mathlib.Core.Path.{ap, sym, _∙_}
 use Rattle.mapblock.specs.Data.{NameRow}
 use Rattle.mapblock.specs.Told.{toldName}
-use Rattle.names.proofs.RowsAt.{row-beyond, row-refused, row-id, row-name}
+use Rattle.names.proofs.RowsAt.{row-beyond, row-refused, row-name}
 use Rattle.names.proofs.places.name_at.Statement.{statement}
 use Rattle.names.proofs.places.name_at.Tie as tie
 
