@@ -8,7 +8,7 @@ use position::key::Coordinates;
 use position::lot::Lot;
 use std::num::wrapping_add_u16;
 ghost use mathlib.Core.Path.{_≡_};
-ghost use mathlib.Core.Bool.{true};
+ghost use mathlib.Core.Bool.{true, false};
 ghost use Prim.Native.Nat.{_+_, _-_, _*_, _<_, _≤_};
 ghost use lib.ListN.{length};
 ghost use Rattle.mapblock.specs.Layout.{width};
@@ -133,6 +133,7 @@ fn sized(counts: &[u16; 65536])
 // Bytes that do not hold the lists have no nodes.
 pub fn count_in(version: u8, lists: &[u8], at: Coordinates, lot: Lot, counts: &mut [u16; 65536])
     ensures { λ _. ⌜ (holdsLists version (now (lists .entry)) ≡ true → Counted version (now (lists .entry)) lot at (now (counts .entry)) (now (counts .exit))) ⌝ }
+    ensures { λ _. ⌜ (holdsLists version (now (lists .entry)) ≡ false → now (counts .exit) ≡ now (counts .entry)) ⌝ }
 {
     sized(counts);
     if NODES * width(version) + 2 * NODES <= lists.len() {

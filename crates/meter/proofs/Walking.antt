@@ -144,7 +144,7 @@ module _ {p : Part} {s : List ℕ} {count : ℕ} {t₀ : List ℕ} {q₀ : Progr
       pub walking-refused : {e : RecordFault} {i : ℕ} → a ≡ steps.Refused e i → ToldAll p s count t₀ q₀ ids₀ counts₀ t′ (records.Refused e i)
       walking-refused {e} {i} j w g room =
           let x = k .follows w g in
-          sym (x .same room) ∙ go left h (x .v) (told w g j)
+          sym (x .same room) ∙ go left h (x .v) (told w g j .0)
         where
           go : (l : ℕ) → 0 < l → (v : State byOne) → stepOf byOne p v (recordOf key blockHere) ≡ faulty e i → answerFrom p room v l rest ≡ faulty e i
           go zero z v r = absurd (omega arith)

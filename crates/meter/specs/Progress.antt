@@ -41,7 +41,7 @@ pub record Steps (ids counts t : List ℕ) (p : Progress) (w : State byOne) : Ty
 
 abbrev pub StepTold : List ℕ → List ℕ → StepAnswer → Answer (State byOne) → Type 0
 StepTold counts t (steps.Taken p) a = (w : State byOne) × (a ≡ good w) × Carries t p w × (counts ≡ clearTable)
-StepTold counts t (steps.Refused f i) a = a ≡ faulty f i
+StepTold counts t (steps.Refused f i) a = (a ≡ faulty f i) × (counts ≡ clearTable)
 
 abbrev pub toldFinish : FinishAnswer → Answer ℕ
 toldFinish (finishes.Tallied n) = good n

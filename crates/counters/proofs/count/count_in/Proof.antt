@@ -1,8 +1,9 @@
 use borrow.Author.Needs.{needs}
 use Prim.Native.Nat.{_+_, _*_}
+use mathlib.Core.Path.{refl}
 use native.Mathlib.Omega.{arith}
 use lib.ListN.{length}
-use borrow.Author.Tests.{leb-true}
+use borrow.Author.Tests.{leb-true, leb-false}
 use Rattle.mapblock.specs.Layout.{width}
 use Rattle.mapblock.proofs.Entries.{width-range}
 use Rattle.counters.proofs.Clips.{clip-sides, lot-counted}
@@ -34,13 +35,15 @@ count-clip-requires c κs =
 
 returns : tie.Need-returns
 returns c =
-    let a = c .before .before .before .before .before .before .before .before .args in
-    λ _. lot-counted (a .version) (a .lists .now) (a .lot) (a .at) (c .before .before .clip-to .ensures) (c .count-clip .ensures)
+    let a = c .before .before .before .before .before .before .before .before .args in (
+      λ _. lot-counted (a .version) (a .lists .now) (a .lot) (a .at) (c .before .before .clip-to .ensures) (c .count-clip .ensures),
+      λ h. absurd (omega (arith, leb-false (4096 * width (a .version) + 8192) (length (a .lists .now)) h, c .before .before .before .before .width .ensures)),
+    )
 
 returns-2 : tie.Need-returns-2
 returns-2 c =
     let a = c .before .before .before .before .before .args in
-    λ h. absurd (omega (arith, leb-true (4096 * width (a .version) + 8192) (length (a .lists .now)) h, c .before .width .ensures))
+    (λ h. absurd (omega (arith, leb-true (4096 * width (a .version) + 8192) (length (a .lists .now)) h, c .before .width .ensures)), λ _. refl)
 
 pub count-in-spec : {M : Type 1} → statement M
 count-in-spec =

@@ -36,7 +36,7 @@ wrapping-add-u32-requires : tie.Need-wrapping-add-u32-requires
 wrapping-add-u32-requires c κs = search needs
 
 returns : tie.Need-returns
-returns c = (refl, (c .before .before .before .judge-record .ensures .0, λ w s. stepped-refused s (part (c .before .before .before .before .before .before .before .before .args .lot) (c .before .before .before .before .before .before .before .before .args .span)) (c .before .before .before .before .before .before .before .before .args .key) (now (c .before .before .before .before .before .before .before .before .args .block)) (c .before .f .given .0 .0) (judged (c .before .before .before) (s .ids-clear) (c .before .f .given .1))))
+returns c = (refl, (c .before .before .before .judge-record .ensures .0, λ w s. (stepped-refused s (part (c .before .before .before .before .before .before .before .before .args .lot) (c .before .before .before .before .before .before .before .before .args .span)) (c .before .before .before .before .before .before .before .before .args .key) (now (c .before .before .before .before .before .before .before .before .args .block)) (c .before .f .given .0 .0) (judged (c .before .before .before) (s .ids-clear) (c .before .f .given .1)), s .counts-clear)))
 
 same-length : tie.Need-same-length
 same-length c = search needs
