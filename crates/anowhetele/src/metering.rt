@@ -26,6 +26,7 @@ ghost use Rattle.meter.specs.Tallying.{tallyBlockOf};
 ghost use Rattle.meter.specs.Sheet.{tallySheetOf};
 ghost use Rattle.meter.specs.Adding.{part};
 ghost use Rattle.meter.specs.Records.{faultNumber, faultOffset};
+ghost use Rattle.meter.specs.SheetTold.{toldSheet};
 ghost use Rattle.anowhetele.specs.Answers.{handed, refusedWith};
 
 #[no_mangle]
@@ -59,6 +60,21 @@ fn record_refused(fault: RecordFault, index: u32) -> AnowAnswer
     }
 }
 
+// What tallying a sheet answered, as it is handed to a host.
+pub fn sheet_answer(answer: SheetAnswer) -> AnowAnswer
+    ensures { λ r. ⌜ r ≡ handed (toldSheet answer) ⌝ }
+{
+    match answer {
+        SheetAnswer::Tallied(n) => done(n),
+        SheetAnswer::BadPart => plain(BAD_PART),
+        SheetAnswer::Misfit => plain(PARTS_MISFIT),
+        SheetAnswer::Malformed(i) => in_record(SHEET_MALFORMED, i, 0),
+        SheetAnswer::Record(f, i) => record_refused(f, i),
+        SheetAnswer::NoRoom(i) => in_record(NO_ROOM, i, 0),
+        SheetAnswer::TooMany(i) => in_record(TOO_MANY, i, 0),
+    }
+}
+
 // The spare keeps its length; what it holds afterwards is open.
 #[no_mangle]
 pub extern "C" fn anow_tally_sheet(
@@ -72,13 +88,5 @@ pub extern "C" fn anow_tally_sheet(
     ensures { λ _. ⌜ now (out .exit) ≡ lent (tallySheetOf byOne (now (sheet .entry)) (part lot span) (length (now (out .entry))) (length (now (spare .entry)))) (now (out .entry)) ⌝ }
     ensures { λ _. ⌜ length (now (spare .exit)) ≡ length (now (spare .entry)) ⌝ }
 {
-    match tally_sheet(sheet, lot, span, out, spare) {
-        SheetAnswer::Tallied(n) => done(n),
-        SheetAnswer::BadPart => plain(BAD_PART),
-        SheetAnswer::Misfit => plain(PARTS_MISFIT),
-        SheetAnswer::Malformed(i) => in_record(SHEET_MALFORMED, i, 0),
-        SheetAnswer::Record(f, i) => record_refused(f, i),
-        SheetAnswer::NoRoom(i) => in_record(NO_ROOM, i, 0),
-        SheetAnswer::TooMany(i) => in_record(TOO_MANY, i, 0),
-    }
+    sheet_answer(tally_sheet(sheet, lot, span, out, spare))
 }

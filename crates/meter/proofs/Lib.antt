@@ -12,12 +12,15 @@ pub mod Tallied
 pub mod SheetTaken
 pub mod Streaming
 pub mod Carried
+pub mod Taking
 pub mod Walking
 pub mod SheetPuts
 -- When a part is tallied, and what its tally counts.
 pub mod Exactness
 pub mod NamesAlone
 pub mod ShutOut
+-- The program.
+pub mod Sheetcount
 -- Cuts, and demand 3.
 pub mod Cuts
 pub mod Partitions

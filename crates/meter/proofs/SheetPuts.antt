@@ -30,7 +30,7 @@ use Rattle.meter.specs.declared.sheet.SheetAnswer.the-variants as sheets
 use Rattle.meter.proofs.Steps.{sheet-misframed, sheet-on}
 use Rattle.meter.proofs.SheetTaken.{head-ok, records-valid}
 use Rattle.meter.proofs.Streaming.{then-same, finishing, finishing-first}
-use Rattle.meter.proofs.Walking.{refusal-as}
+use Rattle.meter.proofs.Taking.{refusal-as}
 
 -- the tally of the sheet's blocks
 abbrev pub blocksTally : Part → List ℕ → ℕ → Answer (List ℕ)
@@ -41,25 +41,25 @@ module _ (p : Part) (s : List ℕ) (d : List ℕ) where
   pub put-headless : Misread (sheetHead .read s) → SheetPut p s d d (sheets.Malformed 0)
   put-headless (at-place e h) = rw (sheet-misframed s h) (refl, refl)
 
-  module _ (b : Bytes s) {n : ℕ} (h : sheetHead .read s ≡ done n 9) where
-    pub head-inside : 9 ≤ length s
+  module _ (b : Bytes s) {n k : ℕ} (h : sheetHead .read s ≡ done n k) where
+    pub head-inside : k ≤ length s
     head-inside = ends-in sheetHead h
 
     pub head-number : Numbered (noRecords byOne) n
-    head-number = omega (arith, head-ok n (sheetHead .backward s n 9 b h .ok))
+    head-number = omega (arith, head-ok n (sheetHead .backward s n k b h .ok))
 
-    from-head : (room : ℕ) → blocksTally p s room ≡ answerFrom p room (noRecords byOne) n (drop 9 s)
+    pub from-head : (room : ℕ) → blocksTally p s room ≡ answerFrom p room (noRecords byOne) n (drop k s)
     from-head room =
         rw (sheet-on s h)
-        (then-same (recordsFrom n 0 none (drop 9 s)) (λ l. fittedSheet byOne room (tallyOf byOne (nodesIn p l)) (length l)) (finishing byOne p room (noRecords byOne))
-        (λ l g. sym (finishing-first byOne p room l (records-valid n 0 none (drop 9 s) l (bytes-drop 9 s b) g))))
+        (then-same (recordsFrom n 0 none (drop k s)) (λ l. fittedSheet byOne room (tallyOf byOne (nodesIn p l)) (length l)) (finishing byOne p room (noRecords byOne))
+        (λ l g. sym (finishing-first byOne p room l (records-valid n 0 none (drop k s) l (bytes-drop k s b) g))))
 
     -- a record was refused
-    pub put-refused : {a i c : ℕ} → ((room : ℕ) → answerFrom p room (noRecords byOne) n (drop 9 s) ≡ refusal a i c) → Answered (refusal a i c) d d (blocksTally p s (length d))
+    pub put-refused : {a i c : ℕ} → ((room : ℕ) → answerFrom p room (noRecords byOne) n (drop k s) ≡ refusal a i c) → Answered (refusal a i c) d d (blocksTally p s (length d))
     put-refused f = rw (from-head (length d), f (length d)) (refl, refl)
 
     -- all were taken, and finished
-    pub put-finished : {e : List ℕ} (v : State byOne) (r : SheetAnswer) (a : FinishAnswer) → ((room : ℕ) → answerFrom p room (noRecords byOne) n (drop 9 s) ≡ finishOf byOne room v)
+    pub put-finished : {e : List ℕ} (v : State byOne) (r : SheetAnswer) (a : FinishAnswer) → ((room : ℕ) → answerFrom p room (noRecords byOne) n (drop k s) ≡ finishOf byOne room v)
         → FinishTold d e a (finishOf byOne (length d) v) → toldSheet r ≡ toldFinish a → SheetPut p s d e r
     put-finished v r a f g t = rw (from-head (length d), f (length d), t) g
 

@@ -95,7 +95,7 @@ mark-bytes : Bytes sheetMark
 mark-bytes = bytes-cons 87 (83 ∷ 72 ∷ []) (lit< tt) (bytes-cons 83 (72 ∷ []) (lit< tt) (bytes-cons 72 [] (lit< tt) bytes-nil))
 
 -- any number that a u32 holds may stand in a head
-ok-head : (n : ℕ) → n < 256 ^ 4 → sheetHead .Ok n
+pub ok-head : (n : ℕ) → n < 256 ^ 4 → sheetHead .Ok n
 unfolding sheetHead behind along such number run
 ok-head n h = (((refl, mark-bytes), refl), ((lit< tt, refl), h))
 

@@ -37,7 +37,7 @@ then-map : {A B C : Type 0} (a : Answer A) (f : A → B) (g : B → Answer C) �
 then-map (good x) f g = refl
 then-map (refusal n r o) f g = refl
 
-then-then : {A B C : Type 0} (a : Answer A) (f : A → Answer B) (g : B → Answer C) → thenAnswer (thenAnswer a f) g ≡ thenAnswer a (λ x. thenAnswer (f x) g)
+pub then-then : {A B C : Type 0} (a : Answer A) (f : A → Answer B) (g : B → Answer C) → thenAnswer (thenAnswer a f) g ≡ thenAnswer a (λ x. thenAnswer (f x) g)
 then-then (good x) f g = refl
 then-then (refusal n r o) f g = refl
 
@@ -56,19 +56,19 @@ clean-first k r t ok c i last l h = go (judgeRecord last r) refl
     go (refusal a b d) j = no-good (sym (written-refused k i last r t ok j) ∙ h)
 
 -- these records and so many more
-abbrev more : ℕ → List SheetRecord → ℕ
+abbrev pub more : ℕ → List SheetRecord → ℕ
 more k [] = k
 more k (r ∷ rs) = suc (more k rs)
 
-more-is : (k : ℕ) (rs : List SheetRecord) → more k rs ≡ k + length rs
+pub more-is : (k : ℕ) (rs : List SheetRecord) → more k rs ≡ k + length rs
 more-is k [] = omega arith
 more-is k (r ∷ rs) = omega (arith, more-is k rs)
 
 -- these records, and then these bytes
-abbrev frames : List SheetRecord → List SheetRecord → List ℕ → List ℕ
+abbrev pub frames : List SheetRecord → List SheetRecord → List ℕ → List ℕ
 frames seen rs rest = encodeItems (λ _. frame) seen rs ++ rest
 
-frames-first : (seen : List SheetRecord) (r : SheetRecord) (rs : List SheetRecord) (rest : List ℕ) → frames seen (r ∷ rs) rest ≡ frame .encode r ++ frames (r ∷ seen) rs rest
+pub frames-first : (seen : List SheetRecord) (r : SheetRecord) (rs : List SheetRecord) (rest : List ℕ) → frames seen (r ∷ rs) rest ≡ frame .encode r ++ frames (r ∷ seen) rs rest
 frames-first seen r rs rest = append-assoc (frame .encode r) (encodeItems (λ _. frame) (r ∷ seen) rs) rest
 
 clean-all : (k : ℕ) (seen rs : List SheetRecord) (rest : List ℕ) → Framed rs → Clean k rest → Clean (more k rs) (frames seen rs rest)

@@ -14,3 +14,5 @@ pub mod SheetTold
 -- What holds of them.
 pub mod Cuts
 pub mod Theorems
+-- The program.
+pub mod Program

@@ -3,7 +3,7 @@ use Prim.Native.Nat.{ℕ, _*_, _≤_, _<_}
 use mathlib.Core.Path.{_≡_}
 use mathlib.Core.List.{List}
 use lib.ListN.{length}
-use Rattle.wire.specs.Answer.{Answer, good, refusal, plain, badPart, partsMisfit, noRoom, tooMany}
+use Rattle.wire.specs.Answer.{Answer, good, refusal, plain, badPart, partsMisfit, sheetMalformed, noRoom, tooMany}
 use Rattle.tally.specs.Walks.{Answered}
 use Rattle.names.specs.Used.{heavy}
 use Rattle.running.specs.Running.{Runs}
@@ -15,6 +15,8 @@ use Rattle.meter.specs.declared.stream.StartAnswer.{StartAnswer}
 use Rattle.meter.specs.declared.stream.StartAnswer.the-variants as starts
 use Rattle.meter.specs.declared.stream.StepAnswer.{StepAnswer}
 use Rattle.meter.specs.declared.stream.StepAnswer.the-variants as steps
+use Rattle.meter.specs.declared.stream.TakeAnswer.{TakeAnswer}
+use Rattle.meter.specs.declared.stream.TakeAnswer.the-variants as takes
 use Rattle.meter.specs.declared.stream.FinishAnswer.{FinishAnswer}
 use Rattle.meter.specs.declared.stream.FinishAnswer.the-variants as finishes
 
@@ -42,6 +44,17 @@ pub record Steps (ids counts t : List ℕ) (p : Progress) (w : State byOne) : Ty
 abbrev pub StepTold : List ℕ → List ℕ → StepAnswer → Answer (State byOne) → Type 0
 StepTold counts t (steps.Taken p) a = (w : State byOne) × (a ≡ good w) × Carries t p w × (counts ≡ clearTable)
 StepTold counts t (steps.Refused f i) a = (a ≡ faulty f i) × (counts ≡ clearTable)
+
+-- a record that is taken lies within the bytes that it is taken from
+abbrev pub TakenInside : List ℕ → TakeAnswer → Type 0
+TakenInside s (takes.Taken p n) = n ≤ length s
+TakenInside s (takes.Misframed i) = Unit {0}
+TakenInside s (takes.Refused f i) = Unit {0}
+
+abbrev pub TakeTold : List ℕ → List ℕ → TakeAnswer → Answer (State byOne × ℕ) → Type 0
+TakeTold counts t (takes.Taken p n) a = (w : State byOne) × (a ≡ good (w, n)) × Carries t p w × (counts ≡ clearTable)
+TakeTold counts t (takes.Misframed i) a = (a ≡ refusal sheetMalformed i 0) × (counts ≡ clearTable)
+TakeTold counts t (takes.Refused f i) a = (a ≡ faulty f i) × (counts ≡ clearTable)
 
 abbrev pub toldFinish : FinishAnswer → Answer ℕ
 toldFinish (finishes.Tallied n) = good n

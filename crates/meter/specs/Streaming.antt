@@ -10,7 +10,7 @@ use Rattle.tally.specs.Rows.{plus}
 use Rattle.meter.specs.Standing.{Part, goodPart, Placed, nodesIn}
 use Rattle.meter.specs.Counting.{Measure, MeasureRows, tallyOf}
 use Rattle.meter.specs.Tallying.{thenAnswer}
-use Rattle.meter.specs.Sheet.{SheetRecord, inRecord, judgeRecord, fittedSheet}
+use Rattle.meter.specs.Sheet.{SheetRecord, frame, inRecord, framed, judgeRecord, fittedSheet}
 
 module _ (m : Measure) where
   -- between two records: the last key, how many records were taken, and the rows of what they hold
@@ -36,6 +36,10 @@ module _ (m : Measure) where
   unfoldable pub stepsOf : Part → State → List SheetRecord → Answer State
   stepsOf p w [] = good w
   stepsOf p w (r ∷ l) = thenAnswer (stepOf p w r) λ v. stepsOf p v l
+
+  -- the record at the front of some bytes, with how many of them it takes: its framing, 15, and then a step
+  unfoldable pub takeOf : Part → State → List ℕ → Answer (State × ℕ)
+  takeOf p w s = framed (w .records) (frame .read s) λ r n. thenAnswer (stepOf p w r) λ v. good (v, n)
 
   -- 11, then 14
   abbrev pub finishOf : ℕ → State → Answer (List ℕ)

@@ -3,6 +3,7 @@ mod adding;
 pub mod block;
 pub mod head;
 pub mod part;
+pub mod program;
 pub mod records;
 pub mod sheet;
 pub mod stream;

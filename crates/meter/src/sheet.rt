@@ -2,17 +2,14 @@
 use crate::head::HEAD;
 use crate::head::HeadRead;
 use crate::head::sheet_head;
-use crate::records::BLOCK_AT;
-use crate::records::FrameRead;
 use crate::records::RecordFault;
-use crate::records::frame;
 use crate::stream::FinishAnswer;
 use crate::stream::Progress;
 use crate::stream::StartAnswer;
-use crate::stream::StepAnswer;
+use crate::stream::TakeAnswer;
 use crate::stream::finish;
 use crate::stream::start;
-use crate::stream::step;
+use crate::stream::take_record;
 use position::lot::Lot;
 use position::span::Span;
 ghost use mathlib.Core.Path.{_≡_};
@@ -55,31 +52,18 @@ fn take_records(
     let mut left = count;
     let mut now = p;
     while 0 < left {
-        match frame(rest) {
-            FrameRead::Misframed => {
-                return Records::Malformed(now.records);
+        match take_record(now, rest, lot, span, spare, ids, counts, places, room) {
+            TakeAnswer::Misframed(i) => {
+                return Records::Malformed(i);
             }
-            FrameRead::Record(key, n) => match step(
-                now,
-                key,
-                &rest[BLOCK_AT..n + BLOCK_AT],
-                lot,
-                span,
-                spare,
-                ids,
-                counts,
-                places,
-                room,
-            ) {
-                StepAnswer::Refused(f, i) => {
-                    return Records::Refused(f, i);
-                }
-                StepAnswer::Taken(next) => {
-                    now = next;
-                    rest = &rest[n + BLOCK_AT..];
-                    left -= 1;
-                }
-            },
+            TakeAnswer::Refused(f, i) => {
+                return Records::Refused(f, i);
+            }
+            TakeAnswer::Taken(next, n) => {
+                now = next;
+                rest = &rest[n..];
+                left -= 1;
+            }
         }
     }
     if 0 < rest.len() {
@@ -101,7 +85,8 @@ pub enum SheetAnswer {
     TooMany(u32),
 }
 
-fn finished(a: FinishAnswer) -> SheetAnswer
+// What finishing answered, as tallying the sheet answers it.
+pub fn finished(a: FinishAnswer) -> SheetAnswer
     ensures { λ r. ⌜ toldSheet r ≡ toldFinish a ⌝ }
 {
     match a {

@@ -1,18 +1,12 @@
 use borrow.Author.Needs.{needs}
-use Prim.Native.Nat.{_+_, _-_, _≤_}
+use Prim.Native.Nat.{ℕ, _≤_}
 use mathlib.Core.Path.{subst, _∙_}
-use native.Mathlib.Omega.{arith}
+use mathlib.Core.List.{List}
 use lib.ListN.{length}
 use denote.Ref.{now}
-use mir.Syntax.{w64}
-use mir.ValLaws.{toZ-ofZ}
-use Rattle.meter.specs.Counting.{byOne}
-use Rattle.meter.specs.Streaming.{State, stepOf}
-use Rattle.meter.specs.Records.{FrameTold, recordOf}
 use Rattle.meter.specs.Adding.{part}
-use Rattle.meter.specs.Progress.{Steps, StepTold}
-use Rattle.meter.specs.declared.records.FrameRead.the-variants as frames
-use Rattle.meter.proofs.Walking.{Walking, walking-start, walking-misframed, walking-more, walking-end, frame-inside, blockHere, walking-refused, walking-on, begins}
+use Rattle.meter.specs.Progress.{TakenInside}
+use Rattle.meter.proofs.Walking.{Walking, walking-start, walking-more, walking-end, walking-misframed, walking-refused, walking-on, begins}
 use Rattle.meter.proofs.sheet.take_records.Statement.{statement}
 use Rattle.meter.proofs.sheet.take_records.Tie as tie
 
@@ -24,50 +18,34 @@ abbrev μ-loop : tie.MeasureT-loop
 μ-loop s count lot span spare₀ ids₀ counts₀ places₀ room₀ rest₀ left₀ now₀ spare ids counts places room rest left now =
     left
 
--- a record stands at the front of the rest
-framed : (c : tie.After-known-told Inv-loop μ-loop) → FrameTold (now (c .before .before .before .before .before .loop .rest)) (frames.Record (c .before .key .given .0 .0) (c .before .key .given .0 .1 .0))
-framed c = subst (FrameTold (now (c .before .before .before .before .before .loop .rest))) (c .before .key .given .1) (c .before .before .before .frame .ensures)
+-- what a record leaves in the counters and in the spare
+abbrev counts : tie.After-take-record Inv-loop μ-loop → List ℕ
+counts x = x .take-record .last .1 .1 .1 .1 .1 .1 .0
 
-inside : (c : tie.After-known-told Inv-loop μ-loop) → c .before .key .given .0 .1 .0 + 12 ≤ length (now (c .before .before .before .before .before .loop .rest))
-inside c = frame-inside (c .before .before .before .before .before .loop .inv) (c .before .before .before .before .loop-test .taken) _ _ (framed c)
+abbrev spare : tie.After-take-record Inv-loop μ-loop → List ℕ
+spare x = x .take-record .last .1 .1 .1 .1 .0
 
--- what the step told of it, whose key was handed over by its bits
-stepped : (c : tie.After-step Inv-loop μ-loop) (v : State byOne) → Steps (c .before .before .before .before .before .before .before .before .before .before .before .before .loop .ids) (c .before .before .before .before .before .before .before .before .before .before .before .before .loop .counts) (c .before .before .before .before .before .before .before .before .before .before .before .before .loop .spare) (c .before .before .before .before .before .before .before .before .before .before .before .before .loop .now) v
-    → StepTold (c .step .last .1 .1 .1 .1 .1 .1 .1 .0) (c .step .last .1 .1 .1 .1 .1 .0) (c .step .result) (stepOf byOne (part (c .before .before .before .before .before .before .before .before .before .before .before .before .before .before .before .args .lot) (c .before .before .before .before .before .before .before .before .before .before .before .before .before .before .before .args .span)) v (recordOf (c .before .before .before .before .before .before .before .before .key .given .0 .0) (blockHere (c .before .before .before .before .before .before .before .before .before .before .before .before .loop .inv) (c .before .before .before .before .before .before .before .before .before .before .before .loop-test .taken) (c .before .before .before .before .before .before .before .before .key .given .0 .0) (c .before .before .before .before .before .before .before .before .key .given .0 .1 .0) (framed (c .before .before .before .before .before .before .before)))))
-stepped c v s = simp (toZ-ofZ w64 (c .before .before .before .before .before .before .before .before .key .given .0 .0) (record { sfits = c .before .before .before .before .before .before .before .known-told .given .0 .1 })) at (c .step .ensures .1 .1 v s)
+-- a record that is taken lies in the rest
+inside : (c : tie.After-known-told3 Inv-loop μ-loop) → c .before .next .given .0 .1 .0 ≤ length (now (c .before .before .before .before .before .before .before .before .before .before .before .before .loop .rest))
+inside c = subst (TakenInside (now (c .before .before .before .before .before .before .before .before .before .before .before .before .loop .rest))) (c .before .next .given .1) (c .before .before .before .before .before .take-record .ensures .1 .1 .0)
 
 loop-holds : tie.Need-loop-holds Inv-loop μ-loop
 loop-holds c = walking-start (part (c .before .before .args .lot) (c .before .before .args .span)) _ _ _ _ _ _ (λ i. c .before .shared-slice-known .given i .fits)
 
-frame-requires : tie.Need-frame-requires Inv-loop μ-loop
-frame-requires c κs = search needs
+take-record-requires : tie.Need-take-record-requires Inv-loop μ-loop
+take-record-requires c κs = search needs
 
-enum-told : tie.Need-enum-told Inv-loop μ-loop
-enum-told c = search needs
+enum-known-i : tie.Need-enum-known-i Inv-loop μ-loop
+enum-known-i c = search needs
 
 same-length : tie.Need-same-length Inv-loop μ-loop
 same-length c = search needs
 
 returns : tie.Need-returns Inv-loop μ-loop
-returns c = (c .before .before .before .before .loop .inv .size, λ i d w g m. walking-misframed (c .before .before .before .before .loop .inv) (c .before .before .before .loop-test .taken) (subst (FrameTold (now (c .before .before .before .before .loop .rest))) (c .enum-told .given .1) (c .before .before .frame .ensures)) w (begins g m i d))
-
-enum-known-key : tie.Need-enum-known-key Inv-loop μ-loop
-enum-known-key c = search needs
-
-add-step : tie.Need-add-step Inv-loop μ-loop
-add-step c = record { fits = omega (arith, inside c, c .before .before .before .before .before .loop .inv .short, c .before .before .before .before .before .before .before .before .good) }
-
-sub-step : tie.Need-sub-step Inv-loop μ-loop
-sub-step c = omega (arith, inside c)
-
-part-step-start : tie.Need-part-step-start Inv-loop μ-loop
-part-step-start c = omega (arith, inside c)
-
-part-step-end : tie.Need-part-step-end Inv-loop μ-loop
-part-step-end c = inside c
-
-step-requires : tie.Need-step-requires Inv-loop μ-loop
-step-requires c κs = search needs
+returns c =
+    let x = c .before .before .before .before .before in
+    let l = x .before .before .before .before .before .before .before in
+    (x .take-record .ensures .0 ∙ l .loop .inv .size, λ i d w g m. walking-misframed (l .loop .inv) (x .before .before .before .before .before .before .loop-test .taken) (counts x) (spare x) (x .take-record .result) (x .take-record .ensures .1 .1 .1) (c .before .i .given .1) w (begins g m i d))
 
 enum-known-f : tie.Need-enum-known-f Inv-loop μ-loop
 enum-known-f c = search needs
@@ -76,19 +54,19 @@ same-length-2 : tie.Need-same-length-2 Inv-loop μ-loop
 same-length-2 c = search needs
 
 returns-2 : tie.Need-returns-2 Inv-loop μ-loop
-returns-2 c = (c .before .before .before .before .before .step .ensures .0 ∙ c .before .before .before .before .before .before .before .before .before .before .before .before .before .before .before .before .before .loop .inv .size, λ i d w g m. walking-refused (c .before .before .before .before .before .before .before .before .before .before .before .before .before .before .before .before .before .loop .inv) (c .before .before .before .before .before .before .before .before .before .before .before .before .before .before .before .before .loop-test .taken) (c .before .before .before .before .before .before .before .before .before .before .before .before .before .key .given .0 .0) (c .before .before .before .before .before .before .before .before .before .before .before .before .before .key .given .0 .1 .0) (framed (c .before .before .before .before .before .before .before .before .before .before .before .before)) (c .before .before .before .before .before .step .last .1 .1 .1 .1 .1 .1 .1 .0) (c .before .before .before .before .before .step .last .1 .1 .1 .1 .1 .0) (c .before .before .before .before .before .step .result) (stepped (c .before .before .before .before .before)) (c .before .f .given .1) w (begins g m i d))
+returns-2 c =
+    let x = c .before .before .before .before .before in
+    let l = x .before .before .before .before .before .before .before in
+    (x .take-record .ensures .0 ∙ l .loop .inv .size, λ i d w g m. walking-refused (l .loop .inv) (x .before .before .before .before .before .before .loop-test .taken) (counts x) (spare x) (x .take-record .result) (x .take-record .ensures .1 .1 .1) (c .before .f .given .1) w (begins g m i d))
 
 enum-known-next : tie.Need-enum-known-next Inv-loop μ-loop
 enum-known-next c = search needs
 
-add-rest : tie.Need-add-rest Inv-loop μ-loop
-add-rest c = record { fits = omega (arith, inside (c .before .before .before .before .before .before .before .before .before .before .before .before), c .before .before .before .before .before .before .before .before .before .before .before .before .before .before .before .before .before .loop .inv .short, c .before .before .before .before .before .before .before .before .before .before .before .before .before .before .before .before .before .before .before .before .good) }
-
 sub-rest : tie.Need-sub-rest Inv-loop μ-loop
-sub-rest c = inside (c .before .before .before .before .before .before .before .before .before .before .before .before)
+sub-rest c = inside c
 
 part-rest-start : tie.Need-part-rest-start Inv-loop μ-loop
-part-rest-start c = inside (c .before .before .before .before .before .before .before .before .before .before .before .before)
+part-rest-start c = inside c
 
 part-rest-end : tie.Need-part-rest-end Inv-loop μ-loop
 part-rest-end c = search needs
@@ -100,7 +78,10 @@ loop-less : tie.Need-loop-less Inv-loop μ-loop
 loop-less c = search needs
 
 loop-again : tie.Need-loop-again Inv-loop μ-loop
-loop-again c = walking-on (c .before .before .before .before .before .before .before .before .before .before .before .before .before .before .before .before .before .before .loop .inv) (c .before .before .before .before .before .before .before .before .before .before .before .before .before .before .before .before .before .loop-test .taken) _ _ (framed (c .before .before .before .before .before .before .before .before .before .before .before .before .before)) (c .before .before .before .before .before .before .step .last .1 .1 .1 .1 .1 .1 .1 .0) (c .before .before .before .before .before .before .step .last .1 .1 .1 .1 .1 .0) (c .before .before .before .before .before .before .step .result) (stepped (c .before .before .before .before .before .before)) (c .before .before .before .before .before .before .step .ensures .1 .0) (c .before .before .before .before .before .before .step .ensures .0) (c .before .before .next .given .1)
+loop-again c =
+    let x = c .before .before .before .before .before .before in
+    let l = x .before .before .before .before .before .before .before in
+    walking-on (l .loop .inv) (x .before .before .before .before .before .before .loop-test .taken) (counts x) (spare x) (x .take-record .result) (x .take-record .ensures .1 .1 .1) (x .take-record .ensures .1 .0) (x .take-record .ensures .0) (c .before .before .next .given .1)
 
 same-length-3 : tie.Need-same-length-3 Inv-loop μ-loop
 same-length-3 c = search needs
@@ -121,21 +102,14 @@ take-records-spec =
     Inv-loop
     μ-loop
     loop-holds
-    frame-requires
-    enum-told
+    take-record-requires
+    enum-known-i
     same-length
     returns
-    enum-known-key
-    add-step
-    sub-step
-    part-step-start
-    part-step-end
-    step-requires
     enum-known-f
     same-length-2
     returns-2
     enum-known-next
-    add-rest
     sub-rest
     part-rest-start
     part-rest-end

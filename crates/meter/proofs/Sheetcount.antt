@@ -1,0 +1,210 @@
+-- The program: the length of a block as its first fields are told, and what the whole input comes to.
+use Prim.Native.Nat.{ℕ, zero, suc, _-_, _^_, _≤_, _<_}
+use mathlib.Core.Path.{_≡_, refl, ap, sym, subst, _∙_}
+use mathlib.Core.Bool.{Bool, true, false}
+use mathlib.Core.List.{List, [], _∷_, _++_, append-assoc}
+use native.Mathlib.Omega.{arith}
+use lib.Dec.{eqb}
+use lib.IntN.{ℤ}
+use lib.ListN.{length, drop}
+use lib.Seq.{drop-append-seam}
+use borrow.Author.Tests.{le-leb, lt-leb, eqb-true, eqb-false}
+use Rattle.wire.specs.Choice.{pick}
+use Rattle.wire.specs.Bytes.{Bytes, bytes-drop}
+use Rattle.wire.specs.Read.{Read, done, refused}
+use Rattle.wire.specs.Format.{_⨾_, along, run, pair}
+use Rattle.wire.specs.Formats.{u32, s64, half64, number, counted}
+use Rattle.wire.specs.Answer.{Answer, good, refusal, noRoom, sheetMalformed}
+use Rattle.wire.specs.Told.{Short, short}
+use Rattle.wire.proofs.Steps.{number-told, signed-told}
+use Rattle.position.specs.Keys.{between}
+use Rattle.position.specs.Lots.{axis}
+use Rattle.tally.specs.Rows.{Canonical}
+use Rattle.tally.specs.Tally.{ones}
+use Rattle.meter.specs.Counting.{byOne}
+use Rattle.meter.specs.Tallying.{thenAnswer}
+use Rattle.meter.specs.Sheet.{Misframed, misframed, SheetRecord, frame, sheetHead, framed, tallySheetOf}
+use Rattle.meter.specs.Streaming.{State, noRecords, stepOf, stepsOf, takeOf, finishOf}
+use Rattle.meter.specs.SheetTold.{answerFrom}
+use Rattle.meter.specs.Theorems.{Framed}
+use Rattle.meter.specs.Program.{everything, mostBlock, mostTally, recordHead, blockLengthOf, nextOf, countedFrom, sheetcountOf, AllWithin, Within, AllShort, Sheetcount}
+use Rattle.meter.proofs.Steps.{records-end, records-more, sheet-misframed}
+use Rattle.meter.proofs.SheetTaken.{ok-head, record-valid}
+use Rattle.meter.proofs.Streaming.{then-same, then-then, more, more-is, frames, frames-first, finishing, finishing-none, taking-canonical}
+use Rattle.meter.proofs.Taking.{take-misframed, take-refused, take-good, took, from-refused, from-good}
+use Rattle.meter.proofs.SheetPuts.{blocksTally, from-head}
+
+-- ---- the length of a block, by the fields as the leaves tell them
+module _ (i : ℕ) (s : List ℕ) where
+  pub length-short-key : {e : Short} {p : ℕ} → refused e p ≡ s64 {ends = short} .read s → blockLengthOf i s ≡ refusal sheetMalformed i 0
+  unfolding blockLengthOf recordHead _⨾_
+  length-short-key h = rw (signed-told misframed 8 half64 refl s h)
+
+  module _ {key : ℤ} (h : done key 8 ≡ s64 {ends = short} .read s) where
+    pub length-short : {e : Short} {p : ℕ} → refused e p ≡ u32 {ends = short} .read (drop 8 s) → blockLengthOf i s ≡ refusal sheetMalformed i 0
+    unfolding blockLengthOf recordHead _⨾_
+    length-short g = rw (signed-told misframed 8 half64 refl s h, number-told misframed 4 (drop 8 s) g)
+
+    module _ (n : ℕ) (g : done n 4 ≡ u32 {ends = short} .read (drop 8 s)) where
+      pub length-long : mostBlock < n → blockLengthOf i s ≡ refusal noRoom i 0
+      unfolding blockLengthOf recordHead _⨾_
+      length-long l = rw (signed-told misframed 8 half64 refl s h, number-told misframed 4 (drop 8 s) g, lt-leb n mostBlock l)
+
+      pub length-good : n ≤ mostBlock → blockLengthOf i s ≡ good n
+      unfolding blockLengthOf recordHead _⨾_
+      length-good l = rw (signed-told misframed 8 half64 refl s h, number-told misframed 4 (drop 8 s) g, le-leb n mostBlock l)
+
+-- the same of its first fields read as one
+module _ (i : ℕ) (s : List ℕ) where
+  unread : {e : Misframed} {p : ℕ} → recordHead .read s ≡ refused e p → blockLengthOf i s ≡ refusal sheetMalformed i 0
+  unfolding blockLengthOf
+  unread h = rw h
+
+  module _ {h : ℤ × ℕ} {m : ℕ} (e : recordHead .read s ≡ done h m) where
+    wanted : h .1 ≤ mostBlock → blockLengthOf i s ≡ good (h .1)
+    unfolding blockLengthOf
+    wanted l = rw (e, le-leb (h .1) mostBlock l)
+
+    unwanted : mostBlock < h .1 → blockLengthOf i s ≡ refusal noRoom i 0
+    unfolding blockLengthOf
+    unwanted l = rw (e, lt-leb (h .1) mostBlock l)
+
+-- ---- a record that is framed states the length of its block
+head-bytes : (r : SheetRecord) → frame .encode r ≡ recordHead .encode (r .key, length (r .block)) ++ r .block
+unfolding frame recordHead along _⨾_ counted run
+head-bytes r = sym (append-assoc (s64 {ends = misframed} .encode (r .key)) (u32 {ends = misframed} .encode (length (r .block))) (r .block))
+
+head-ok : (r : SheetRecord) → frame .Ok r → recordHead .Ok (r .key, length (r .block))
+unfolding frame recordHead along _⨾_ counted number
+head-ok r h = (h .0, h .1 .0)
+
+head-written : (r : SheetRecord) (t : List ℕ) → frame .Ok r → recordHead .read (frame .encode r ++ t) ≡ done (pair (r .key) (length (r .block))) (length (recordHead .encode (r .key, length (r .block))))
+head-written r t ok =
+    rw (head-bytes r, append-assoc (recordHead .encode (r .key, length (r .block))) (r .block) t)
+    (recordHead .forward (r .key, length (r .block)) (head-ok r ok) (r .block ++ t))
+
+head-read : (s : List ℕ) (r : SheetRecord) (n : ℕ) → Bytes s → frame .read s ≡ done r n → (m : ℕ) × (recordHead .read s ≡ done (pair (r .key) (length (r .block))) m)
+head-read s r n b f =
+    let t = frame .backward s r n b f in
+    (_, ap (recordHead .read) (t .front) ∙ head-written r (drop n s) (t .ok))
+
+-- ---- so many records from a state on
+module _ (w : State byOne) (s : List ℕ) where
+  counted-end : countedFrom 0 w s ≡ answerFrom everything mostTally w 0 s
+  unfolding countedFrom
+  counted-end = go (eqb (length s) 0) refl
+    where
+      go : (b : Bool) → eqb (length s) 0 ≡ b → pick b (finishOf byOne mostTally w) (refusal sheetMalformed (w .records) 0) ≡ answerFrom everything mostTally w 0 s
+      go true e = sym (ap (λ a. thenAnswer a (finishing byOne everything mostTally w)) (records-end (w .records) (w .last) s (eqb-true (length s) 0 e)) ∙ finishing-none byOne everything mostTally w)
+      go false e = sym (ap (λ a. thenAnswer a (finishing byOne everything mostTally w)) (records-more (w .records) (w .last) s (let n = eqb-false (length s) 0 e in omega arith)))
+
+  pub next-unread : {a i c : ℕ} → blockLengthOf (w .records) s ≡ refusal a i c → nextOf w s ≡ refusal a i c
+  unfolding nextOf
+  next-unread h = rw h
+
+  pub next-take : {m : ℕ} → blockLengthOf (w .records) s ≡ good m → nextOf w s ≡ takeOf byOne everything w s
+  unfolding nextOf
+  next-take h = rw h
+
+  module _ (k : ℕ) where
+    pub counted-refused : {a i c : ℕ} → nextOf w s ≡ refusal a i c → countedFrom (suc k) w s ≡ refusal a i c
+    unfolding countedFrom
+    counted-refused h = rw h
+
+    counted-on : {v : State byOne} {n : ℕ} → nextOf w s ≡ good (v, n) → countedFrom (suc k) w s ≡ countedFrom k v (drop n s)
+    unfolding countedFrom
+    counted-on h = rw h
+
+next-canonical : (w : State byOne) (s : List ℕ) {v : State byOne} {n : ℕ} → Bytes s → Canonical ones (w .rows) → takeOf byOne everything w s ≡ good (v, n) → Canonical ones (v .rows)
+next-canonical w s {n = n} b c h =
+    let x = took everything w s h in
+    subst (λ (u : State byOne). Canonical ones (u .rows)) (x .state)
+    (taking-canonical byOne everything w (x .taken .key) (x .block) (record-valid (w .last) (x .taken) (x .block) (frame .backward s (x .taken) n b (x .reads) .ok) (x .judged)) c)
+
+-- where no block is longer, the answer is that of the sheet
+counted-within : (k : ℕ) (w : State byOne) (s : List ℕ) → Bytes s → Canonical ones (w .rows) → AllWithin k s → countedFrom k w s ≡ answerFrom everything mostTally w k s
+counted-within zero w s b c h = counted-end w s
+counted-within (suc k) w s b c h = framed (frame .read s) refl (λ v n. counted-within k v (drop n s) (bytes-drop n s b))
+  where
+    Behind : Type 0
+    Behind = (v : State byOne) (n : ℕ) → Canonical ones (v .rows) → AllWithin k (drop n s) → countedFrom k v (drop n s) ≡ answerFrom everything mostTally v k (drop n s)
+
+    -- the record is not whole
+    short-of : (x : Read Misframed (ℤ × ℕ)) → recordHead .read s ≡ x → takeOf byOne everything w s ≡ refusal sheetMalformed (w .records) 0 → countedFrom (suc k) w s ≡ refusal sheetMalformed (w .records) 0
+    short-of (refused e p) g t = counted-refused w s k (next-unread w s (unread (w .records) s g))
+    short-of (done a m) g t = counted-refused w s k (next-take w s (wanted (w .records) s g (h .0 a m g)) ∙ t)
+
+    -- it is whole
+    taken : (r : SheetRecord) (n m : ℕ) → frame .read s ≡ done r n → blockLengthOf (w .records) s ≡ good m → (a : Answer (State byOne × ℕ)) → takeOf byOne everything w s ≡ a → Behind → countedFrom (suc k) w s ≡ answerFrom everything mostTally w (suc k) s
+    taken r n m f g (refusal x y z) t ih = counted-refused w s k (next-take w s g ∙ t) ∙ sym (from-refused everything w s mostTally k t)
+    taken r n m f g (good (v, q)) t ih =
+        counted-on w s k (next-take w s g ∙ t) ∙ ih v q (next-canonical w s b c t) (h .1 (took everything w s t .taken) q (took everything w s t .reads)) ∙ sym (from-good everything w s t mostTally k b c)
+
+    framed : (x : Read Misframed SheetRecord) → frame .read s ≡ x → Behind → countedFrom (suc k) w s ≡ answerFrom everything mostTally w (suc k) s
+    framed (refused e p) f ih =
+        let t = take-misframed everything w s f in
+        short-of (recordHead .read s) refl t ∙ sym (from-refused everything w s mostTally k t)
+    framed (done r n) f ih =
+        let g = head-read s r n b f in
+        taken r n (length (r .block)) f (wanted (w .records) s (g .1) (h .0 _ (g .0) (g .1))) (takeOf byOne everything w s) refl ih
+
+-- ---- the whole input
+everything-good : (s : List ℕ) → tallySheetOf byOne s everything mostTally mostTally ≡ blocksTally everything s mostTally
+unfolding tallySheetOf axis between
+everything-good s = refl
+
+within : (s : List ℕ) → Bytes s → Within s → sheetcountOf s ≡ tallySheetOf byOne s everything mostTally mostTally
+unfolding sheetcountOf
+within s b h = go (sheetHead .read s) refl ∙ sym (everything-good s)
+  where
+    go : (x : Read Misframed ℕ) → sheetHead .read s ≡ x → framed 0 x (λ n k. countedFrom n (noRecords byOne) (drop k s)) ≡ blocksTally everything s mostTally
+    go (refused e p) f = rw (sheet-misframed s f)
+    go (done n k) f = counted-within n (noRecords byOne) (drop k s) (bytes-drop k s b) tt (h n k f) ∙ sym (from-head everything s [] b f mostTally)
+
+-- ---- a longer block
+module _ (k : ℕ) (h : ℤ × ℕ) (rest : List ℕ) (ok : recordHead .Ok h) (l : mostBlock < h .1) where
+  abbrev stop : State byOne → Answer (List ℕ)
+  stop v = refusal noRoom (v .records) 0
+
+  long-next : (w : State byOne) → countedFrom (suc k) w (recordHead .encode h ++ rest) ≡ stop w
+  long-next w = counted-refused w (recordHead .encode h ++ rest) k (next-unread w (recordHead .encode h ++ rest) (unwanted (w .records) (recordHead .encode h ++ rest) (recordHead .forward h ok rest) l))
+
+  -- a record before it, and what follows
+  stepped : (n : ℕ) (w : State byOne) (r : SheetRecord) (t : List ℕ) → frame .Ok r → length (r .block) ≤ mostBlock
+      → countedFrom (suc n) w (frame .encode r ++ t) ≡ thenAnswer (stepOf byOne everything w r) (λ v. countedFrom n v t)
+  stepped n w r t f few = go (stepOf byOne everything w r) refl
+    where
+      s : List ℕ
+      s = frame .encode r ++ t
+
+      sized : blockLengthOf (w .records) s ≡ good (length (r .block))
+      sized = wanted (w .records) s (head-written r t f) few
+
+      go : (a : Answer (State byOne)) → stepOf byOne everything w r ≡ a → countedFrom (suc n) w s ≡ thenAnswer a (λ v. countedFrom n v t)
+      go (refusal x y z) e = counted-refused w s n (next-take w s sized ∙ take-refused everything w s (frame .forward r f t) e)
+      go (good v) e = counted-on w s n (next-take w s sized ∙ take-good everything w s (frame .forward r f t) e) ∙ rw (drop-append-seam (frame .encode r) t)
+
+  long-behind : (seen rs : List SheetRecord) (w : State byOne) → Framed rs → AllShort rs
+      → countedFrom (more (suc k) rs) w (frames seen rs (recordHead .encode h ++ rest)) ≡ thenAnswer (stepsOf byOne everything w rs) stop
+  unfolding stepsOf
+  long-behind seen [] w f few = long-next w
+  long-behind seen (r ∷ rs) w f few =
+      ap (countedFrom (suc (more (suc k) rs)) w) (frames-first seen r rs (recordHead .encode h ++ rest))
+      ∙ stepped (more (suc k) rs) w r (frames (r ∷ seen) rs (recordHead .encode h ++ rest)) (f .0) (few .0)
+      ∙ then-same (stepOf byOne everything w r) (λ v. countedFrom (more (suc k) rs) v (frames (r ∷ seen) rs (recordHead .encode h ++ rest))) (λ v. thenAnswer (stepsOf byOne everything v rs) stop) (λ v _. long-behind (r ∷ seen) rs v (f .1) (few .1))
+      ∙ sym (then-then (stepOf byOne everything w r) (λ v. stepsOf byOne everything v rs) stop)
+
+behind-head : (n : ℕ) (t : List ℕ) → n < 256 ^ 4 → sheetcountOf (sheetHead .encode n ++ t) ≡ countedFrom n (noRecords byOne) t
+unfolding sheetcountOf
+behind-head n t h = rw (sheetHead .forward n (ok-head n h) t) (ap (countedFrom n (noRecords byOne)) (drop-append-seam (sheetHead .encode n) t))
+
+pub sheetcount : Sheetcount
+sheetcount = record {
+  within = within;
+  longer = λ n rs h rest bound fewer f few ok l.
+      let k = n - suc (length rs) in
+      let size : more (suc k) rs ≡ n = omega (arith, more-is (suc k) rs) in
+      behind-head n (frames [] rs (recordHead .encode h ++ rest)) bound
+      ∙ ap (λ (i : ℕ). countedFrom i (noRecords byOne) (frames [] rs (recordHead .encode h ++ rest))) (sym size)
+      ∙ long-behind k h rest ok l [] rs (noRecords byOne) f few;
+}
