@@ -4,18 +4,19 @@ use mathlib.Core.Path.{_≡_, refl, ap, sym, subst, _∙_}
 use mathlib.Core.Bool.{Bool, true, false}
 use mathlib.Core.List.{List, [], _∷_, _++_, append-assoc}
 use native.Mathlib.Omega.{arith}
-use lib.Dec.{eqb}
+use lib.Dec.{eqb, leb}
 use lib.IntN.{ℤ}
 use lib.ListN.{length, drop}
 use lib.Seq.{drop-append-seam}
-use borrow.Author.Tests.{le-leb, lt-leb, eqb-true, eqb-false}
+use borrow.Author.Tests.{le-leb, lt-leb, leb-true, leb-false, eqb-true, eqb-false, ne-eqb}
 use Rattle.wire.specs.Choice.{pick}
 use Rattle.wire.specs.Bytes.{Bytes, bytes-drop}
 use Rattle.wire.specs.Read.{Read, done, refused}
-use Rattle.wire.specs.Format.{_⨾_, along, run, pair}
-use Rattle.wire.specs.Formats.{u32, s64, half64, number, counted}
-use Rattle.wire.specs.Answer.{Answer, good, refusal, noRoom, sheetMalformed}
+use Rattle.wire.specs.Format.{_⨾_, along, run, pair, ends-in}
+use Rattle.wire.specs.Formats.{u32, s64, half64, number, signed, counted}
+use Rattle.wire.specs.Answer.{Answer, good, refusal, noRoom, sheetMalformed, no-good}
 use Rattle.wire.specs.Told.{Short, short}
+use Rattle.wire.proofs.EveryFormat.{every-format}
 use Rattle.wire.proofs.Steps.{number-told, signed-told}
 use Rattle.position.specs.Keys.{between}
 use Rattle.position.specs.Lots.{axis}
@@ -30,8 +31,8 @@ use Rattle.meter.specs.Theorems.{Framed}
 use Rattle.meter.specs.Program.{everything, mostBlock, mostTally, recordHead, blockLengthOf, nextOf, countedFrom, sheetcountOf, AllWithin, Within, AllShort, Sheetcount}
 use Rattle.meter.proofs.Steps.{records-end, records-more, sheet-misframed}
 use Rattle.meter.proofs.SheetTaken.{ok-head, record-valid}
-use Rattle.meter.proofs.Streaming.{then-same, then-then, more, more-is, frames, frames-first, finishing, finishing-none, taking-canonical}
-use Rattle.meter.proofs.Taking.{take-misframed, take-refused, take-good, took, from-refused, from-good}
+use Rattle.meter.proofs.Streaming.{then-same, then-then, more, more-is, frames, frames-first, finishing, finishing-none, step-good, taking-canonical}
+use Rattle.meter.proofs.Taking.{take-misframed, take-refused, take-good, took, take-number, from-refused, from-good}
 use Rattle.meter.proofs.SheetPuts.{blocksTally, from-head}
 
 -- ---- the length of a block, by the fields as the leaves tell them
@@ -74,6 +75,10 @@ head-bytes : (r : SheetRecord) → frame .encode r ≡ recordHead .encode (r .ke
 unfolding frame recordHead along _⨾_ counted run
 head-bytes r = sym (append-assoc (s64 {ends = misframed} .encode (r .key)) (u32 {ends = misframed} .encode (length (r .block))) (r .block))
 
+head-size : (h : ℤ × ℕ) → length (recordHead .encode h) ≡ 12
+unfolding recordHead along _⨾_ number signed run
+head-size h = refl
+
 head-ok : (r : SheetRecord) → frame .Ok r → recordHead .Ok (r .key, length (r .block))
 unfolding frame recordHead along _⨾_ counted number
 head-ok r h = (h .0, h .1 .0)
@@ -88,6 +93,42 @@ head-read s r n b f =
     let t = frame .backward s r n b f in
     (_, ap (recordHead .read) (t .front) ∙ head-written r (drop n s) (t .ok))
 
+-- what the length tells of the bytes that it was read from, and of more of them
+module _ (i n : ℕ) (s : List ℕ) (b : Bytes s) (h : blockLengthOf i s ≡ good n) where
+  length-read : (x : Read Misframed (ℤ × ℕ)) → recordHead .read s ≡ x → (a : ℤ × ℕ) × (m : ℕ) × (recordHead .read s ≡ done a m) × (a .1 ≡ n) × (n ≤ mostBlock)
+  length-read (refused e p) g = no-good (sym (unread i s g) ∙ h)
+  length-read (done a m) g = go (leb (a .1) mostBlock) refl
+    where
+      go : (t : Bool) → leb (a .1) mostBlock ≡ t → (a : ℤ × ℕ) × (m : ℕ) × (recordHead .read s ≡ done a m) × (a .1 ≡ n) × (n ≤ mostBlock)
+      go true e =
+          let l = leb-true (a .1) mostBlock e in
+          let z : good (a .1) ≡ good n = sym (wanted i s g l) ∙ h in
+          let same : a .1 ≡ n = cc in
+          (a, m, g, same, omega arith)
+      go false e = no-good (sym (unwanted i s g (leb-false (a .1) mostBlock e)) ∙ h)
+
+  pub length-most : n ≤ mostBlock
+  length-most = length-read (recordHead .read s) refl .4
+
+  pub length-twelve : 12 ≤ length s
+  length-twelve =
+      let x = length-read (recordHead .read s) refl in
+      omega (arith, head-size (x .0), recordHead .backward s (x .0) (x .1) b (x .2) .ends, ends-in recordHead (x .2))
+
+  pub length-local : (t : List ℕ) → blockLengthOf i (s ++ t) ≡ good n
+  length-local t =
+      let x = length-read (recordHead .read s) refl in
+      wanted i (s ++ t) (every-format recordHead .local s t (x .0) (x .1) b (x .2)) (omega (arith, x .3, x .4)) ∙ ap good (x .3)
+
+-- the length of a record's block is the one that it states
+stated-length : (i : ℕ) (s : List ℕ) (m : ℕ) (r : SheetRecord) (n : ℕ) → Bytes s → frame .read s ≡ done r n → blockLengthOf i s ≡ good m → length (r .block) ≡ m
+stated-length i s m r n b f h =
+    let x = length-read i m s b h (recordHead .read s) refl in
+    let y = head-read s r n b f in
+    let z : _≡_ {A = Read Misframed (ℤ × ℕ)} (done (pair (r .key) (length (r .block))) (y .0)) (done (x .0) (x .1)) = sym (y .1) ∙ x .2 in
+    let e : pair (r .key) (length (r .block)) ≡ x .0 = cc in
+    ap (λ (a : ℤ × ℕ). a .1) e ∙ x .3
+
 -- ---- so many records from a state on
 module _ (w : State byOne) (s : List ℕ) where
   counted-end : countedFrom 0 w s ≡ answerFrom everything mostTally w 0 s
@@ -97,6 +138,10 @@ module _ (w : State byOne) (s : List ℕ) where
       go : (b : Bool) → eqb (length s) 0 ≡ b → pick b (finishOf byOne mostTally w) (refusal sheetMalformed (w .records) 0) ≡ answerFrom everything mostTally w 0 s
       go true e = sym (ap (λ a. thenAnswer a (finishing byOne everything mostTally w)) (records-end (w .records) (w .last) s (eqb-true (length s) 0 e)) ∙ finishing-none byOne everything mostTally w)
       go false e = sym (ap (λ a. thenAnswer a (finishing byOne everything mostTally w)) (records-more (w .records) (w .last) s (let n = eqb-false (length s) 0 e in omega arith)))
+
+  pub counted-more : 0 < length s → countedFrom 0 w s ≡ refusal sheetMalformed (w .records) 0
+  unfolding countedFrom
+  counted-more h = rw (ne-eqb (length s) 0 (λ e. omega arith))
 
   pub next-unread : {a i c : ℕ} → blockLengthOf (w .records) s ≡ refusal a i c → nextOf w s ≡ refusal a i c
   unfolding nextOf
@@ -114,6 +159,10 @@ module _ (w : State byOne) (s : List ℕ) where
     counted-on : {v : State byOne} {n : ℕ} → nextOf w s ≡ good (v, n) → countedFrom (suc k) w s ≡ countedFrom k v (drop n s)
     unfolding countedFrom
     counted-on h = rw h
+
+pub counted-none : (w : State byOne) → countedFrom 0 w [] ≡ finishOf byOne mostTally w
+unfolding countedFrom
+counted-none w = refl
 
 next-canonical : (w : State byOne) (s : List ℕ) {v : State byOne} {n : ℕ} → Bytes s → Canonical ones (w .rows) → takeOf byOne everything w s ≡ good (v, n) → Canonical ones (v .rows)
 next-canonical w s {n = n} b c h =
@@ -148,6 +197,46 @@ counted-within (suc k) w s b c h = framed (frame .read s) refl (λ v n. counted-
         let g = head-read s r n b f in
         taken r n (length (r .block)) f (wanted (w .records) s (g .1) (h .0 _ (g .0) (g .1))) (takeOf byOne everything w s) refl ih
 
+-- ---- a record, and what follows it
+stepped : (n : ℕ) (w : State byOne) (r : SheetRecord) (t : List ℕ) → frame .Ok r → length (r .block) ≤ mostBlock
+    → countedFrom (suc n) w (frame .encode r ++ t) ≡ thenAnswer (stepOf byOne everything w r) (λ v. countedFrom n v t)
+stepped n w r t f few = go (stepOf byOne everything w r) refl
+  where
+    s : List ℕ
+    s = frame .encode r ++ t
+
+    sized : blockLengthOf (w .records) s ≡ good (length (r .block))
+    sized = wanted (w .records) s (head-written r t f) few
+
+    go : (a : Answer (State byOne)) → stepOf byOne everything w r ≡ a → countedFrom (suc n) w s ≡ thenAnswer a (λ v. countedFrom n v t)
+    go (refusal x y z) e = counted-refused w s n (next-take w s sized ∙ take-refused everything w s (frame .forward r f t) e)
+    go (good v) e = counted-on w s n (next-take w s sized ∙ take-good everything w s (frame .forward r f t) e) ∙ rw (drop-append-seam (frame .encode r) t)
+
+-- of a record that is taken, in bytes that may go on, these are the bytes
+pub record NextBytes (w v : State byOne) : Type 0 where
+  pub bytes : List ℕ
+  pub are-bytes : Bytes bytes
+  pub on : (k : ℕ) (t : List ℕ) → countedFrom (suc k) w (bytes ++ t) ≡ countedFrom k v t
+  pub number : v .records ≡ suc (w .records)
+
+pub next-bytes : (w : State byOne) (s : List ℕ) {v : State byOne} {n : ℕ} → Bytes s → nextOf w s ≡ good (v, n) → NextBytes w v
+next-bytes w s {v} {n} b h = go (blockLengthOf (w .records) s) refl
+  where
+    go : (a : Answer ℕ) → blockLengthOf (w .records) s ≡ a → NextBytes w v
+    go (refusal x y z) e = no-good (sym (next-unread w s e) ∙ h)
+    go (good m) e =
+        let t = sym (next-take w s e) ∙ h in
+        let x = took everything w s t in
+        let r = x .taken in
+        let ok = frame .backward s r n b (x .reads) .ok in
+        let most = length-most (w .records) (length (r .block)) s b (e ∙ ap good (sym (stated-length (w .records) s m r n b (x .reads) e))) in
+        record {
+          bytes = frame .encode r;
+          are-bytes = frame .bytes r ok;
+          on = λ k u. stepped k w r u ok most ∙ ap (λ (a : Answer (State byOne)). thenAnswer a (λ y. countedFrom k y u)) (step-good byOne everything w r (x .judged) ∙ ap good (x .state));
+          number = take-number everything w s t;
+        }
+
 -- ---- the whole input
 everything-good : (s : List ℕ) → tallySheetOf byOne s everything mostTally mostTally ≡ blocksTally everything s mostTally
 unfolding tallySheetOf axis between
@@ -161,6 +250,43 @@ within s b h = go (sheetHead .read s) refl ∙ sym (everything-good s)
     go (refused e p) f = rw (sheet-misframed s f)
     go (done n k) f = counted-within n (noRecords byOne) (drop k s) (bytes-drop k s b) tt (h n k f) ∙ sym (from-head everything s [] b f mostTally)
 
+-- a tally is answered where no block is longer
+good-within : (k : ℕ) (w : State byOne) (s t : List ℕ) → Bytes s → countedFrom k w s ≡ good t → AllWithin k s
+good-within zero w s t b h = tt
+good-within (suc k) w s t b h = next (nextOf w s) refl (λ v n. good-within k v (drop n s) t (bytes-drop n s b))
+  where
+    Behind : Type 0
+    Behind = (v : State byOne) (n : ℕ) → countedFrom k v (drop n s) ≡ good t → AllWithin k (drop n s)
+
+    sized : (v : State byOne) (n : ℕ) → nextOf w s ≡ good (v, n) → countedFrom k v (drop n s) ≡ good t → (a : Answer ℕ) → blockLengthOf (w .records) s ≡ a → Behind → AllWithin (suc k) s
+    sized v n e g (refusal x y z) f ih = no-good (sym (next-unread w s f) ∙ e)
+    sized v n e g (good m) f ih = (most, rest)
+      where
+        most : (h : ℤ × ℕ) (o : ℕ) → recordHead .read s ≡ done h o → h .1 ≤ mostBlock
+        most h o r =
+            let x = length-read (w .records) m s b f (recordHead .read s) refl in
+            let z : _≡_ {A = Read Misframed (ℤ × ℕ)} (done h o) (done (x .0) (x .1)) = sym r ∙ x .2 in
+            let same : h ≡ x .0 = cc in
+            omega (arith, ap (λ (a : ℤ × ℕ). a .1) same, x .3, x .4)
+
+        rest : (r : SheetRecord) (o : ℕ) → frame .read s ≡ done r o → AllWithin k (drop o s)
+        rest r o q =
+            let x = took everything w s (sym (next-take w s f) ∙ e) in
+            let z : _≡_ {A = Read Misframed SheetRecord} (done (x .taken) n) (done r o) = sym (x .reads) ∙ q in
+            let same : n ≡ o = cc in
+            subst (λ (i : ℕ). AllWithin k (drop i s)) same (ih v n g)
+
+    next : (a : Answer (State byOne × ℕ)) → nextOf w s ≡ a → Behind → AllWithin (suc k) s
+    next (refusal x y z) e ih = no-good (sym (counted-refused w s k e) ∙ h)
+    next (good (v, n)) e ih = sized v n e (sym (counted-on w s k e) ∙ h) (blockLengthOf (w .records) s) refl ih
+
+tallied-within : (s t : List ℕ) → sheetcountOf s ≡ good t → Bytes s → Within s
+unfolding sheetcountOf
+tallied-within s t h b n k e = good-within n (noRecords byOne) (drop k s) t (bytes-drop k s b) (sym (opened e) ∙ h)
+  where
+    opened : sheetHead .read s ≡ done n k → framed 0 (sheetHead .read s) (λ n k. countedFrom n (noRecords byOne) (drop k s)) ≡ countedFrom n (noRecords byOne) (drop k s)
+    opened e = rw e
+
 -- ---- a longer block
 module _ (k : ℕ) (h : ℤ × ℕ) (rest : List ℕ) (ok : recordHead .Ok h) (l : mostBlock < h .1) where
   abbrev stop : State byOne → Answer (List ℕ)
@@ -168,21 +294,6 @@ module _ (k : ℕ) (h : ℤ × ℕ) (rest : List ℕ) (ok : recordHead .Ok h) (l
 
   long-next : (w : State byOne) → countedFrom (suc k) w (recordHead .encode h ++ rest) ≡ stop w
   long-next w = counted-refused w (recordHead .encode h ++ rest) k (next-unread w (recordHead .encode h ++ rest) (unwanted (w .records) (recordHead .encode h ++ rest) (recordHead .forward h ok rest) l))
-
-  -- a record before it, and what follows
-  stepped : (n : ℕ) (w : State byOne) (r : SheetRecord) (t : List ℕ) → frame .Ok r → length (r .block) ≤ mostBlock
-      → countedFrom (suc n) w (frame .encode r ++ t) ≡ thenAnswer (stepOf byOne everything w r) (λ v. countedFrom n v t)
-  stepped n w r t f few = go (stepOf byOne everything w r) refl
-    where
-      s : List ℕ
-      s = frame .encode r ++ t
-
-      sized : blockLengthOf (w .records) s ≡ good (length (r .block))
-      sized = wanted (w .records) s (head-written r t f) few
-
-      go : (a : Answer (State byOne)) → stepOf byOne everything w r ≡ a → countedFrom (suc n) w s ≡ thenAnswer a (λ v. countedFrom n v t)
-      go (refusal x y z) e = counted-refused w s n (next-take w s sized ∙ take-refused everything w s (frame .forward r f t) e)
-      go (good v) e = counted-on w s n (next-take w s sized ∙ take-good everything w s (frame .forward r f t) e) ∙ rw (drop-append-seam (frame .encode r) t)
 
   long-behind : (seen rs : List SheetRecord) (w : State byOne) → Framed rs → AllShort rs
       → countedFrom (more (suc k) rs) w (frames seen rs (recordHead .encode h ++ rest)) ≡ thenAnswer (stepsOf byOne everything w rs) stop
@@ -194,13 +305,18 @@ module _ (k : ℕ) (h : ℤ × ℕ) (rest : List ℕ) (ok : recordHead .Ok h) (l
       ∙ then-same (stepOf byOne everything w r) (λ v. countedFrom (more (suc k) rs) v (frames (r ∷ seen) rs (recordHead .encode h ++ rest))) (λ v. thenAnswer (stepsOf byOne everything v rs) stop) (λ v _. long-behind (r ∷ seen) rs v (f .1) (few .1))
       ∙ sym (then-then (stepOf byOne everything w r) (λ v. stepsOf byOne everything v rs) stop)
 
-behind-head : (n : ℕ) (t : List ℕ) → n < 256 ^ 4 → sheetcountOf (sheetHead .encode n ++ t) ≡ countedFrom n (noRecords byOne) t
+pub behind-head : (n : ℕ) (t : List ℕ) → n < 256 ^ 4 → sheetcountOf (sheetHead .encode n ++ t) ≡ countedFrom n (noRecords byOne) t
 unfolding sheetcountOf
 behind-head n t h = rw (sheetHead .forward n (ok-head n h) t) (ap (countedFrom n (noRecords byOne)) (drop-append-seam (sheetHead .encode n) t))
+
+pub headless : (s : List ℕ) {e : Misframed} {p : ℕ} → sheetHead .read s ≡ refused e p → sheetcountOf s ≡ refusal sheetMalformed 0 0
+unfolding sheetcountOf
+headless s h = rw h
 
 pub sheetcount : Sheetcount
 sheetcount = record {
   within = within;
+  tallied = λ s t b h. sym (within s b (tallied-within s t h b)) ∙ h;
   longer = λ n rs h rest bound fewer f few ok l.
       let k = n - suc (length rs) in
       let size : more (suc k) rs ≡ n = omega (arith, more-is (suc k) rs) in

@@ -66,7 +66,7 @@ abbrev pub AllWithin : ℕ → List ℕ → Type 0
 AllWithin zero s = Unit {0}
 AllWithin (suc k) s =
     ((h : ℤ × ℕ) (m : ℕ) → recordHead .read s ≡ done h m → h .1 ≤ mostBlock)
-  × ((r : SheetRecord) (n : ℕ) → frame .read s ≡ done r n → AllWithin k (drop n s))
+    × ((r : SheetRecord) (n : ℕ) → frame .read s ≡ done r n → AllWithin k (drop n s))
 
 abbrev pub Within : List ℕ → Type 0
 Within s = (n k : ℕ) → sheetHead .read s ≡ done n k → AllWithin n (drop k s)
@@ -78,6 +78,8 @@ AllShort (r ∷ rs) = (length (r .block) ≤ mostBlock) × AllShort rs
 pub record Sheetcount : Type 0 where
   -- where no block is longer it is the tally of the sheet
   pub within : (s : List ℕ) → Bytes s → Within s → sheetcountOf s ≡ tallySheetOf byOne s everything mostTally mostTally
+  -- a tally that is printed is that of the sheet
+  pub tallied : (s t : List ℕ) → Bytes s → sheetcountOf s ≡ good t → tallySheetOf byOne s everything mostTally mostTally ≡ good t
   -- A longer block is 11 with its record's number, whatever its key is and whatever follows its length, unless a record before it is refused.
   pub longer : (n : ℕ) (rs : List SheetRecord) (h : ℤ × ℕ) (rest : List ℕ) → n < 256 ^ 4 → length rs < n → Framed rs → AllShort rs → recordHead .Ok h → mostBlock < h .1
       → sheetcountOf (sheetBytes n rs (recordHead .encode h ++ rest)) ≡ thenAnswer (stepsOf byOne everything (noRecords byOne) rs) (λ v. refusal noRoom (v .records) 0)

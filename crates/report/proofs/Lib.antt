@@ -6,3 +6,5 @@ pub mod Texts
 pub mod Passing
 -- What putting the text of a tally answers.
 pub mod Telling
+-- Texts that fit.
+pub mod Shorts

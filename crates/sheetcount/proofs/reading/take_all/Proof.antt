@@ -1,0 +1,97 @@
+use borrow.Author.Needs.{needs}
+use mathlib.Core.Path.{_≡_, refl, _∙_}
+use mathlib.Core.List.{List}
+use Prim.Native.Nat.{ℕ}
+use lib.ListN.{length}
+use Rattle.sheetcount.proofs.Going.{Going, going-start, going-stop, going-on, going-end}
+use Rattle.sheetcount.proofs.reading.take_all.Statement.{statement}
+use Rattle.sheetcount.proofs.reading.take_all.Tie as tie
+
+abbrev Inv-loop : tie.InvT-loop
+Inv-loop count bytes₀ spare₀ ids₀ counts₀ places₀ room₀ left₀ now₀ bytes spare ids counts places room left now =
+    Going count spare₀ bytes spare ids counts left now × (length bytes ≡ length bytes₀)
+
+abbrev μ-loop : tie.MeasureT-loop
+μ-loop count bytes₀ spare₀ ids₀ counts₀ places₀ room₀ left₀ now₀ bytes spare ids counts places room left now =
+    left
+
+-- where the loop turned, and what taking the next record left in the buffers
+abbrev turned : tie.After-take-next Inv-loop μ-loop → tie.At-loop Inv-loop μ-loop
+turned x = x .before .before .before .before .before .before .before .before
+
+abbrev bytes : tie.After-take-next Inv-loop μ-loop → List ℕ
+bytes x = x .take-next .last .1 .0
+
+abbrev spare : tie.After-take-next Inv-loop μ-loop → List ℕ
+spare x = x .take-next .last .1 .1 .0
+
+abbrev ids : tie.After-take-next Inv-loop μ-loop → List ℕ
+ids x = x .take-next .last .1 .1 .1 .0
+
+abbrev counts : tie.After-take-next Inv-loop μ-loop → List ℕ
+counts x = x .take-next .last .1 .1 .1 .1 .0
+
+loop-holds : tie.Need-loop-holds Inv-loop μ-loop
+loop-holds c = (going-start _ (c .before .before .pre .0) (c .before .before .pre .1), refl)
+
+take-next-requires : tie.Need-take-next-requires Inv-loop μ-loop
+take-next-requires c κs = c .before .before .before .before .before .before .before .loop .inv .0 .long
+
+enum-known-a : tie.Need-enum-known-a Inv-loop μ-loop
+enum-known-a c = search needs
+
+same-length : tie.Need-same-length Inv-loop μ-loop
+same-length c = search needs
+
+same-length-2 : tie.Need-same-length-2 Inv-loop μ-loop
+same-length-2 c = search needs
+
+returns : tie.Need-returns Inv-loop μ-loop
+returns c =
+    let x = c .before .before .before .before .before .before .before in
+    let l = turned x in
+    (x .take-next .ensures .0 ∙ l .loop .inv .0 .size, going-stop (l .loop .inv .0) (l .before .before .before .fits .count .fits) (x .before .before .before .before .before .before .before .loop-test .taken) (bytes x) (spare x) (ids x) (counts x) (λ j. c .before .before .before .before .before .slice-known3 .given j .fits) (x .take-next .result) (x .take-next .ensures .1 .1) (c .before .a .given .1))
+
+enum-known-next : tie.Need-enum-known-next Inv-loop μ-loop
+enum-known-next c = search needs
+
+sub-left : tie.Need-sub-left Inv-loop μ-loop
+sub-left c = search needs
+
+loop-less : tie.Need-loop-less Inv-loop μ-loop
+loop-less c = search needs
+
+loop-again : tie.Need-loop-again Inv-loop μ-loop
+loop-again c =
+    let x = c .before .before .before .before .before .before .before in
+    let l = turned x in
+    (going-on (l .loop .inv .0) (l .before .before .before .fits .count .fits) (x .before .before .before .before .before .before .before .loop-test .taken) (bytes x) (spare x) (ids x) (counts x) (λ j. c .before .before .before .before .before .slice-known3 .given j .fits) (x .take-next .result) (x .take-next .ensures .1 .1) (x .take-next .ensures .1 .0) (c .before .before .before .before .before .before .bytes .given) (x .take-next .ensures .0) (c .before .next .given .1), c .before .before .before .before .before .before .bytes .given ∙ l .loop .inv .1)
+
+same-length-3 : tie.Need-same-length-3 Inv-loop μ-loop
+same-length-3 c = search needs
+
+same-length-4 : tie.Need-same-length-4 Inv-loop μ-loop
+same-length-4 c = search needs
+
+returns-2 : tie.Need-returns-2 Inv-loop μ-loop
+returns-2 c = (c .before .loop .inv .0 .size, going-end (c .before .loop .inv .0) (c .loop-test .left))
+
+pub take-all-spec : {M : Type 1} → statement M
+take-all-spec =
+    tie.close
+    (tie.spec
+    Inv-loop
+    μ-loop
+    loop-holds
+    take-next-requires
+    enum-known-a
+    same-length
+    same-length-2
+    returns
+    enum-known-next
+    sub-left
+    loop-less
+    loop-again
+    same-length-3
+    same-length-4
+    returns-2)

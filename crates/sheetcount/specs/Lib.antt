@@ -1,0 +1,3 @@
+-- What the functions of the program promise each other.
+pub mod Reading
+pub mod Printing

@@ -1,0 +1,87 @@
+-- What the program's answers say of the bytes that it read. No contract can say that these are the bytes of standard input.
+use Prim.Native.Nat.{ℕ, _+_}
+use mathlib.Core.Path.{_≡_}
+use mathlib.Core.List.{List, _++_}
+use lib.ListN.{length, take}
+use Rattle.wire.specs.Bytes.{Bytes}
+use Rattle.wire.specs.Answer.{Answer, good, refusal}
+use Rattle.tally.specs.Walks.{Answered}
+use Rattle.meter.specs.Counting.{byOne}
+use Rattle.meter.specs.Streaming.{State, noRecords}
+use Rattle.meter.specs.Records.{clearTable}
+use Rattle.meter.specs.Progress.{Carries}
+use Rattle.meter.specs.SheetTold.{toldSheet}
+use Rattle.meter.specs.Program.{mostBlock, mostTally, nextOf, countedFrom, sheetcountOf}
+use Rattle.meter.specs.declared.sheet.SheetAnswer.{SheetAnswer}
+use Rattle.meter.specs.declared.stream.Progress.{Progress}
+use Rattle.sheetcount.specs.declared.reading.Next.{Next}
+use Rattle.sheetcount.specs.declared.reading.Next.the-variants as nexts
+
+-- the longest record: twelve bytes and its block
+abbrev pub longest : ℕ
+longest = 12 + mostBlock
+
+-- the code's answer is the refusal
+pub record Refuses {A : Type 0} (r : SheetAnswer) (a : Answer A) : Type 0 where
+  pub n : ℕ
+  pub i : ℕ
+  pub o : ℕ
+  pub told : toldSheet r ≡ refusal n i o
+  pub same : a ≡ refusal n i o
+
+-- a record in the bytes at the front of the buffer b
+abbrev pub NextTold : State byOne → List ℕ → List ℕ → List ℕ → Next → Type 0
+NextTold w b counts t (nexts.On q) = (m : ℕ) × (n : ℕ) × (v : State byOne) × (nextOf w (take m b) ≡ good (v, n)) × Carries t q v × (counts ≡ clearTable)
+NextTold w b counts t (nexts.Stop r) = (m : ℕ) × Refuses r (nextOf w (take m b))
+
+-- ---- so many records, one behind the other
+-- before the first: the spare carries the state, and the tables are clear
+pub record Begins (t : List ℕ) (q : Progress) (ids counts : List ℕ) : Type 0 where
+  pub carries : Carries t q (noRecords byOne)
+  pub ids-clear : ids ≡ clearTable
+  pub counts-clear : counts ≡ clearTable
+
+-- behind some of them, in the bytes s: the state from which the others are counted, in whatever follows
+pub record Reached (count left : ℕ) (t : List ℕ) (q : Progress) : Type 0 where
+  pub s : List ℕ
+  pub bytes : Bytes s
+  pub v : State byOne
+  pub carries : Carries t q v
+  pub number : v .records + left ≡ count
+  pub same : (rest : List ℕ) → countedFrom count (noRecords byOne) (s ++ rest) ≡ countedFrom left v rest
+
+-- one is refused, in the bytes s
+pub record Stopped (count : ℕ) (r : SheetAnswer) : Type 0 where
+  pub s : List ℕ
+  pub bytes : Bytes s
+  pub refuses : Refuses r (countedFrom count (noRecords byOne) s)
+
+abbrev pub AllTold : ℕ → List ℕ → Next → Type 0
+AllTold count t (nexts.On q) = Reached count 0 t q
+AllTold count t (nexts.Stop r) = Stopped count r
+
+-- behind the last one, in the bytes s
+pub record Ended (w : State byOne) (before after : List ℕ) (r : SheetAnswer) : Type 0 where
+  pub s : List ℕ
+  pub bytes : Bytes s
+  pub answered : Answered (toldSheet r) before after (countedFrom 0 w s)
+
+-- ---- the whole
+-- the buffers that are lent, with clear tables
+pub record Ready (bytes out spare ids counts : List ℕ) : Type 0 where
+  pub bytes-long : length bytes ≡ longest
+  pub out-long : length out ≡ mostTally
+  pub spare-long : length spare ≡ mostTally
+  pub ids-clear : ids ≡ clearTable
+  pub counts-clear : counts ≡ clearTable
+
+-- the answer, and what the output then holds, are those of the bytes s that were read
+pub record CountedInto (before after : List ℕ) (r : SheetAnswer) : Type 0 where
+  pub s : List ℕ
+  pub bytes : Bytes s
+  pub answered : Answered (toldSheet r) before after (sheetcountOf s)
+
+-- the same, whatever the output held before
+pub record CountedAs (out : List ℕ) (r : SheetAnswer) : Type 0 where
+  pub before : List ℕ
+  pub into : CountedInto before out r
