@@ -20,6 +20,12 @@ toldText (texts.Put n) = good n
 toldText texts.Malformed = plain tallyMalformed
 toldText texts.NoRoom = plain noRoom
 
+-- the length of the text that was put; 0 where none was
+abbrev pub lengthPut : TextAnswer → ℕ
+lengthPut (texts.Put n) = n
+lengthPut texts.Malformed = 0
+lengthPut texts.NoRoom = 0
+
 -- ---- the measuring pass, over bytes that are rows
 abbrev pub LinesFit : List ℕ → ℕ → Bool → Type 0
 LinesFit s room r = (l : Rows ones) → Holds one s l → r ≡ leb (length (lines l)) room

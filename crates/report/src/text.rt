@@ -1,7 +1,21 @@
 // What putting text into a buffer answers.
+ghost use mathlib.Core.Path.{_≡_};
+ghost use Rattle.report.specs.Told.{lengthPut};
+
 pub enum TextAnswer {
     // The text's length.
     Put(usize),
     Malformed,
     NoRoom,
+}
+
+// The length of the text that was put; 0 where none was.
+pub fn put_length(answer: TextAnswer) -> usize
+    ensures { λ r. ⌜ r ≡ lengthPut answer ⌝ }
+{
+    match answer {
+        TextAnswer::Put(n) => n,
+        TextAnswer::Malformed => 0,
+        TextAnswer::NoRoom => 0,
+    }
 }

@@ -10,8 +10,9 @@ use lib.Seq.{take-append-seam}
 use Rattle.wire.specs.Bytes.{Bytes}
 use Rattle.wire.specs.Answer.{Answer, good, refusal, mapAnswer, lent, no-good}
 use Rattle.report.specs.Text.{refusalText, tallyTextOf, printed}
-use Rattle.report.specs.Told.{toldText}
+use Rattle.report.specs.Told.{toldText, lengthPut}
 use Rattle.report.specs.declared.text.TextAnswer.{TextAnswer}
+use Rattle.report.specs.declared.text.TextAnswer.the-variants as texts
 use Rattle.report.proofs.Shorts.{tally-text-fits}
 use Rattle.meter.specs.Counting.{byOne}
 use Rattle.meter.specs.SheetTold.{toldSheet}
@@ -24,12 +25,17 @@ use Rattle.meter.proofs.Blocks.{map-good}
 use Rattle.meter.proofs.Exactness.{told-tallied, is-tally}
 use Rattle.meter.proofs.Sheetcount.{sheetcount}
 use Rattle.sheetcount.specs.Reading.{CountedAs}
-use Rattle.sheetcount.specs.Printing.{mostText, Sized, TextIs, Shows}
+use Rattle.sheetcount.specs.Printing.{mostText, TextIs, Shows}
+
+length-told : (a : TextAnswer) (n : ℕ) → toldText a ≡ good n → lengthPut a ≡ n
+length-told (texts.Put m) n h = cc
+length-told texts.Malformed n h = no-good h
+length-told texts.NoRoom n h = no-good h
 
 -- a text that was put stands at the front
-pub shown : (a : TextAnswer) (r : ℕ) (y : Answer (List ℕ)) (x before after : List ℕ) → y ≡ good x → Sized a r → toldText a ≡ mapAnswer length y → after ≡ lent y before → TextIs r after x
+pub shown : (a : TextAnswer) (r : ℕ) (y : Answer (List ℕ)) (x before after : List ℕ) → y ≡ good x → r ≡ lengthPut a → toldText a ≡ mapAnswer length y → after ≡ lent y before → TextIs r after x
 shown a r y x before after e z t l =
-    let size : r ≡ length x = z (length x) (t ∙ ap (mapAnswer length) e) in
+    let size : r ≡ length x = z ∙ length-told a (length x) (t ∙ ap (mapAnswer length) e) in
     let front : after ≡ x ++ drop (length x) before = l ∙ ap (λ (b : Answer (List ℕ)). lent b before) e in
     rw (front, size) (record { inside = rw length-append (omega arith); same = take-append-seam x (drop (length x) before) })
 
@@ -76,7 +82,7 @@ text-fits s t b h =
     let y = told-tallied byOne (whole-sheet s mostTally) everything mostTally t b (sheetcount .tallied s t b h) in
     tally-text-fits mostText t (is-tally byOne b y) (omega (arith, y .can .fits .1, ap length (y .bytes))) ∙ rw h
 
-pub tally-shown : {out : List ℕ} {answer : SheetAnswer} (c : CountedAs out answer) {n : ℕ} (h : toldSheet answer ≡ good n) (a : TextAnswer) (r : ℕ) (old text : List ℕ) → length old ≡ mostText → Sized a r
+pub tally-shown : {out : List ℕ} {answer : SheetAnswer} (c : CountedAs out answer) {n : ℕ} (h : toldSheet answer ≡ good n) (a : TextAnswer) (r : ℕ) (old text : List ℕ) → length old ≡ mostText → r ≡ lengthPut a
     → toldText a ≡ mapAnswer length (tallyTextOf (length old) (take n out)) → text ≡ lent (tallyTextOf (length old) (take n out)) old → Shows r text (c .into .s)
 tally-shown c h a r old text l z t e =
     let x = counted c h in

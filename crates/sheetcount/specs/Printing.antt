@@ -3,19 +3,12 @@ use Prim.Native.Nat.{ℕ, _≤_}
 use mathlib.Core.Path.{_≡_}
 use mathlib.Core.List.{List}
 use lib.ListN.{length, take}
-use Rattle.wire.specs.Answer.{good}
 use Rattle.report.specs.Text.{refusalText, printed}
-use Rattle.report.specs.Told.{toldText}
-use Rattle.report.specs.declared.text.TextAnswer.{TextAnswer}
 use Rattle.meter.specs.Program.{sheetcountOf}
 
 -- room for the text of any tally of 8,192 bytes
 abbrev pub mostText : ℕ
 mostText = 20_480
-
--- the length of a text that was put
-abbrev pub Sized : TextAnswer → ℕ → Type 0
-Sized a r = (n : ℕ) → toldText a ≡ good n → r ≡ n
 
 -- the first r bytes are the text x
 pub record TextIs (r : ℕ) (text x : List ℕ) : Type 0 where

@@ -8,25 +8,14 @@ use meter::sheet::SheetAnswer;
 use reading::count_sheet;
 use report::lines::tally_text;
 use report::refusal::refusal_text;
-use report::text::TextAnswer;
+use report::text::put_length;
 ghost use mathlib.Core.Path.{_≡_};
 ghost use Prim.Native.Nat.{ℕ};
 ghost use lib.ListN.{length};
 ghost use Rattle.wire.specs.Answer.{refusal};
 ghost use Rattle.meter.specs.SheetTold.{toldSheet};
 ghost use Rattle.sheetcount.specs.Reading.{CountedAs};
-ghost use Rattle.sheetcount.specs.Printing.{mostText, Sized, Shows, ShowsRefusal};
-
-// The length of a text that was put.
-fn size_of(answer: TextAnswer) -> usize
-    ensures { λ r. ⌜ Sized answer r ⌝ }
-{
-    match answer {
-        TextAnswer::Put(n) => n,
-        TextAnswer::Malformed => 0,
-        TextAnswer::NoRoom => 0,
-    }
-}
+ghost use Rattle.sheetcount.specs.Printing.{mostText, Shows, ShowsRefusal};
 
 // The number and the record of a refusal.
 fn put_refusal(answer: SheetAnswer, text: &mut [u8]) -> usize
@@ -34,7 +23,7 @@ fn put_refusal(answer: SheetAnswer, text: &mut [u8]) -> usize
     ensures { λ r. ⌜ ((n i o : ℕ) → toldSheet answer ≡ refusal n i o → ShowsRefusal r (now (text .exit)) n i) ⌝ }
 {
     let told = sheet_answer(answer);
-    size_of(refusal_text(told.number, told.index, text))
+    put_length(refusal_text(told.number, told.index, text))
 }
 
 // What is printed, and how long it is.
@@ -45,7 +34,7 @@ fn put_answer(answer: SheetAnswer, out: &[u8], text: &mut [u8]) -> usize
     let SheetAnswer::Tallied(n) = answer else {
         return put_refusal(answer, text);
     };
-    size_of(tally_text(&out[..n], text))
+    put_length(tally_text(&out[..n], text))
 }
 
 fn main() {

@@ -30,8 +30,8 @@ slice-aggregate-tally-text c =
 tally-text-requires : tie.Need-tally-text-requires
 tally-text-requires c κs = search needs
 
-size-of-requires : tie.Need-size-of-requires
-size-of-requires c κs = search needs
+put-length-requires : tie.Need-put-length-requires
+put-length-requires c κs = search needs
 
 same-length-2 : tie.Need-same-length-2
 same-length-2 c = search needs
@@ -40,7 +40,7 @@ returns-2 : tie.Need-returns-2
 returns-2 c k =
     let x = c .before .before .before in
     let s = x .before .before .before .before .before .before .before .before in
-    tally-shown k (ap toldSheet (x .before .before .before .before .answer .given .1)) (x .tally-text .result) (c .size-of .result) (now (s .args .text)) (x .tally-text .last .1 .0) (s .pre .0) (c .size-of .ensures) (x .tally-text .ensures .0) (x .tally-text .ensures .1)
+    tally-shown k (ap toldSheet (x .before .before .before .before .answer .given .1)) (x .tally-text .result) (c .put-length .result) (now (s .args .text)) (x .tally-text .last .1 .0) (s .pre .0) (c .put-length .ensures) (x .tally-text .ensures .0) (x .tally-text .ensures .1)
 
 pub put-answer-spec : {M : Type 1} → statement M
 put-answer-spec =
@@ -52,6 +52,6 @@ put-answer-spec =
     returns
     slice-aggregate-tally-text
     tally-text-requires
-    size-of-requires
+    put-length-requires
     same-length-2
     returns-2)

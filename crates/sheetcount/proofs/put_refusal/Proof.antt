@@ -19,8 +19,8 @@ sheet-answer-requires c κs = search needs
 refusal-text-requires : tie.Need-refusal-text-requires
 refusal-text-requires c κs = search needs
 
-size-of-requires : tie.Need-size-of-requires
-size-of-requires c κs = search needs
+put-length-requires : tie.Need-put-length-requires
+put-length-requires c κs = search needs
 
 same-length : tie.Need-same-length
 same-length c = search needs
@@ -33,9 +33,9 @@ returns c n i o h =
     let k = a .sheet-answer .ensures ∙ ap handed h in
     let fits : refusalTextOf (length (now (s .args .text))) (a .sheet-answer .result .number) (a .sheet-answer .result .index) ≡ good (refusalText n i) =
     refusal-text-fits (length (now (s .args .text))) _ _ (omega (arith, s .pre)) ∙ ap₂ (λ (x y : ℕ). good (refusalText x y)) (ap (λ (x : AnowAnswer). x .number) k) (ap (λ (x : AnowAnswer). x .index) k) in
-    shown (x .refusal-text .result) (c .size-of .result) _ (refusalText n i) (now (s .args .text)) _ fits (c .size-of .ensures) (x .refusal-text .ensures .0) (x .refusal-text .ensures .1)
+    shown (x .refusal-text .result) (c .put-length .result) _ (refusalText n i) (now (s .args .text)) _ fits (c .put-length .ensures) (x .refusal-text .ensures .0) (x .refusal-text .ensures .1)
 
 pub put-refusal-spec : {M : Type 1} → statement M
 put-refusal-spec =
     tie.close
-    (tie.spec sheet-answer-requires refusal-text-requires size-of-requires same-length returns)
+    (tie.spec sheet-answer-requires refusal-text-requires put-length-requires same-length returns)

@@ -1,0 +1,59 @@
+// Sheets of two blocks.
+use crate::blocks::AIR;
+use crate::blocks::ALL_ZERO;
+use crate::blocks::ROOM;
+use crate::blocks::front;
+use crate::blocks::head;
+use crate::blocks::put_block;
+use anowhetele::answer::AnowAnswer;
+use anowhetele::metering::anow_tally_sheet;
+use meter::head::HEAD;
+use meter::head::NUMBER_AT;
+use meter::head::VERSION;
+use meter::head::VERSION_AT;
+use meter::records::BLOCK_AT;
+use position::lot::Lot;
+use position::span::Span;
+use wire::store::put_bytes;
+use wire::store::put_s64;
+use wire::store::put_u16;
+use wire::store::put_u32;
+ghost use Prim.Native.Nat.{_+_, _≤_};
+
+// Where a record's length stands, behind its key.
+const LENGTH_AT: usize = 8;
+
+fn put_head(sheet: &mut [u8], records: u32) {
+    put_bytes(sheet, 0, b"WSH");
+    put_u16(sheet, VERSION_AT, VERSION);
+    put_u32(sheet, NUMBER_AT, records);
+}
+
+// A record at a place, and where it ends, at most BLOCK_AT and ROOM further on. All nodes of its block are of id 0.
+fn put_record(sheet: &mut [u8], at: usize, key: i64, names: &[u8]) -> usize
+    requires { ⌜ at ≤ 65536 ⌝ }
+    ensures { λ r. ⌜ r ≤ at + 16512 ⌝ }
+{
+    let mut block = [0u8; ROOM];
+    let n = put_block(head(29, 0, 0), ALL_ZERO, names, &mut block);
+    put_s64(sheet, at, key);
+    put_u32(sheet, at + LENGTH_AT, n as u32);
+    put_bytes(sheet, at + BLOCK_AT, front(&block, n));
+    at + BLOCK_AT + n
+}
+
+// Tallies a sheet of two records: a block of air, and then one with names of its own.
+pub(crate) fn tally_two(key: i64, next: i64, names: &[u8], out: &mut [u8]) -> AnowAnswer {
+    let mut sheet = [0u8; 2 * ROOM];
+    let mut spare = [0u8; 256];
+    put_head(&mut sheet, 2);
+    let middle = put_record(&mut sheet, HEAD, key, &AIR);
+    let end = put_record(&mut sheet, middle, next, names);
+    anow_tally_sheet(
+        front(&sheet, end),
+        Lot::whole_world(),
+        Span::all_time(),
+        out,
+        &mut spare,
+    )
+}

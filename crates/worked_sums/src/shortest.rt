@@ -1,0 +1,106 @@
+// The shortest all-air blocks, and their full tally.
+use crate::blocks::AIR;
+use crate::blocks::ALL_ZERO;
+use crate::blocks::ROOM;
+use crate::blocks::front;
+use crate::blocks::head;
+use crate::blocks::put_block;
+use crate::printing::are_same;
+use crate::printing::say;
+use crate::printing::say_answer;
+use crate::printing::say_bytes;
+use crate::printing::say_number;
+use crate::printing::say_verdict;
+use anowhetele::answer::AnowAnswer;
+use anowhetele::blocks::anow_read;
+use anowhetele::metering::anow_tally_block;
+use mapblock::nodes::NODES;
+use position::lot::Lot;
+use position::span::Span;
+ghost use Prim.Native.Nat.{_<_};
+
+// What the reader answers.
+fn read(block: &[u8]) -> AnowAnswer {
+    let mut param0 = [0u16; NODES];
+    let mut param1 = [0u8; NODES];
+    let mut param2 = [0u8; NODES];
+    let told = anow_read(block, &mut param0, &mut param1, &mut param2);
+    told.answer
+}
+
+fn is_answer(answer: AnowAnswer, number: u32, place: usize) -> bool {
+    (answer.number == number) & (answer.offset == place as u64)
+}
+
+// The tally of the whole world and all time, which has no room in one byte less.
+fn full_tally(block: &[u8]) {
+    let mut out = [0u8; 64];
+    let mut small = [0u8; 21];
+    let told = anow_tally_block(0, block, Lot::whole_world(), Span::all_time(), &mut out);
+    let refused = anow_tally_block(0, block, Lot::whole_world(), Span::all_time(), &mut small);
+    let tally = front(&out, told.length as usize);
+    let expected =
+        b"\x54\x4C\x59\x00\x01\x00\x00\x00\x01\x00\x03\x61\x69\x72\x00\x00\x00\x00\x00\x00\x10\x00";
+    say(b"  full tally:");
+    say_bytes(tally);
+    say(b"; room of 21: ");
+    say_number(refused.number as u64);
+    say(b"; ");
+    say_verdict(are_same(tally, expected) & is_answer(refused, 11, 0));
+}
+
+// Version 24 alone has a timer byte.
+fn say_version(version: u8, timer: u8) {
+    say(b"version ");
+    say_number(version as u64);
+    if version == 24 {
+        say(b", timer byte ");
+        say_number(timer as u64);
+    }
+    say(b": ");
+}
+
+// The block of a version and a timer byte: its length, and the start of its last field, which one byte less cuts short.
+fn shortest(version: u8, timer: u8, length: usize, last: usize)
+    requires { ⌜ (0 < length) × (length < 65536) ⌝ }
+{
+    let mut block = [0u8; ROOM];
+    let n = put_block(head(version, timer, 0), ALL_ZERO, &AIR, &mut block);
+    let written = front(&block, n);
+    let whole = read(front(&block, length));
+    let less = read(front(&block, length - 1));
+    let more = read(front(&block, length + 1));
+    say_version(version, timer);
+    say_number(n as u64);
+    say_answer(b" bytes; read: ", whole);
+    say_answer(b"; one byte less: ", less);
+    say_answer(b"; one byte more: ", more);
+    say(b"; ");
+    say_verdict(
+        (n == length)
+            & (is_answer(whole, 0, 0) & (is_answer(less, 1, last) & is_answer(more, 7, length))),
+    );
+    full_tally(written);
+}
+
+fn no_bytes() {
+    let answer = read(b"");
+    say_answer(b"no bytes: ", answer);
+    say(b"; ");
+    say_verdict(is_answer(answer, 1, 0));
+}
+
+// Up to version 24 the last field is the name, three bytes; from 25 it is the number of timers, two.
+pub(crate) fn run() {
+    say(b"Shortest all-air blocks\n");
+    shortest(22, 0, 12_313, 12_310);
+    shortest(23, 0, 12_313, 12_310);
+    shortest(24, 0, 16_409, 16_406);
+    shortest(24, 1, 16_411, 16_408);
+    shortest(25, 0, 16_411, 16_409);
+    shortest(26, 0, 16_411, 16_409);
+    shortest(27, 0, 16_413, 16_411);
+    shortest(28, 0, 16_413, 16_411);
+    shortest(29, 0, 16_413, 16_411);
+    no_bytes();
+}
