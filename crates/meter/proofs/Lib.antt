@@ -21,6 +21,7 @@ pub mod NamesAlone
 pub mod ShutOut
 -- The program.
 pub mod Sheetcount
+pub mod Nexts
 -- Cuts, and demand 3.
 pub mod Cuts
 pub mod Partitions

@@ -8,7 +8,7 @@ use lib.Dec.{eqb, leb}
 use lib.IntN.{ℤ}
 use lib.ListN.{length, drop}
 use lib.Seq.{drop-append-seam}
-use borrow.Author.Tests.{le-leb, lt-leb, leb-true, leb-false, eqb-true, eqb-false, ne-eqb}
+use borrow.Author.Tests.{le-leb, lt-leb, leb-true, leb-false, eqb-true, eqb-false, eq-eqb, ne-eqb}
 use Rattle.wire.specs.Choice.{pick}
 use Rattle.wire.specs.Bytes.{Bytes, bytes-drop}
 use Rattle.wire.specs.Read.{Read, done, refused}
@@ -139,6 +139,10 @@ module _ (w : State byOne) (s : List ℕ) where
       go true e = sym (ap (λ a. thenAnswer a (finishing byOne everything mostTally w)) (records-end (w .records) (w .last) s (eqb-true (length s) 0 e)) ∙ finishing-none byOne everything mostTally w)
       go false e = sym (ap (λ a. thenAnswer a (finishing byOne everything mostTally w)) (records-more (w .records) (w .last) s (let n = eqb-false (length s) 0 e in omega arith)))
 
+  pub counted-none : length s ≡ 0 → countedFrom 0 w s ≡ finishOf byOne mostTally w
+  unfolding countedFrom
+  counted-none h = rw (eq-eqb (length s) 0 h)
+
   pub counted-more : 0 < length s → countedFrom 0 w s ≡ refusal sheetMalformed (w .records) 0
   unfolding countedFrom
   counted-more h = rw (ne-eqb (length s) 0 (λ e. omega arith))
@@ -159,10 +163,6 @@ module _ (w : State byOne) (s : List ℕ) where
     counted-on : {v : State byOne} {n : ℕ} → nextOf w s ≡ good (v, n) → countedFrom (suc k) w s ≡ countedFrom k v (drop n s)
     unfolding countedFrom
     counted-on h = rw h
-
-pub counted-none : (w : State byOne) → countedFrom 0 w [] ≡ finishOf byOne mostTally w
-unfolding countedFrom
-counted-none w = refl
 
 next-canonical : (w : State byOne) (s : List ℕ) {v : State byOne} {n : ℕ} → Bytes s → Canonical ones (w .rows) → takeOf byOne everything w s ≡ good (v, n) → Canonical ones (v .rows)
 next-canonical w s {n = n} b c h =

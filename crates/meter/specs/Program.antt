@@ -18,6 +18,12 @@ use Rattle.meter.specs.Tallying.{thenAnswer}
 use Rattle.meter.specs.Sheet.{SheetForm, SheetRecord, frame, sheetHead, framed, tallySheetOf}
 use Rattle.meter.specs.Streaming.{State, noRecords, stepsOf, takeOf, finishOf}
 use Rattle.meter.specs.Theorems.{sheetBytes, Framed}
+use Rattle.meter.specs.Records.{clearTable}
+use Rattle.meter.specs.Progress.{Carries}
+use Rattle.meter.specs.SheetTold.{toldSheet}
+use Rattle.meter.specs.declared.program.Next.{Next}
+use Rattle.meter.specs.declared.program.Next.the-variants as nexts
+use Rattle.meter.specs.declared.sheet.SheetAnswer.{SheetAnswer}
 use Rattle.meter.specs.declared.program.LengthRead.{LengthRead}
 use Rattle.meter.specs.declared.program.LengthRead.the-variants as lengths
 
@@ -59,6 +65,19 @@ abbrev pub toldLength : ℕ → LengthRead → Answer ℕ
 toldLength i (lengths.Block n) = good n
 toldLength i lengths.Misframed = refusal sheetMalformed i 0
 toldLength i lengths.TooLong = refusal noRoom i 0
+
+-- the code's answer is the refusal
+pub record Refuses {A : Type 0} (r : SheetAnswer) (a : Answer A) : Type 0 where
+  pub n : ℕ
+  pub i : ℕ
+  pub o : ℕ
+  pub told : toldSheet r ≡ refusal n i o
+  pub same : a ≡ refusal n i o
+
+-- the record that the bytes s begin with
+abbrev pub NextTold : State byOne → List ℕ → List ℕ → List ℕ → Next → Type 0
+NextTold w s counts t (nexts.On q) = (n : ℕ) × (v : State byOne) × (nextOf w s ≡ good (v, n)) × Carries t q v × (counts ≡ clearTable)
+NextTold w s counts t (nexts.Stop r) = Refuses r (nextOf w s)
 
 -- ---- what holds of it
 -- of so many records in these bytes none states a longer block

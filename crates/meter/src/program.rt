@@ -1,11 +1,25 @@
-// What the program sheetcount holds its input to.
+// What the program sheetcount decides, over the bytes that it reads.
+use crate::sheet::SheetAnswer;
+use crate::sheet::finished;
+use crate::stream::Progress;
+use crate::stream::TakeAnswer;
+use crate::stream::finish;
+use crate::stream::take_record;
+use position::lot::Lot;
+use position::span::Span;
 use wire::fields::S64;
 use wire::fields::U32;
 use wire::fields::s64_at;
 use wire::fields::u32_at;
 ghost use mathlib.Core.Path.{_≡_};
-ghost use Prim.Native.Nat.{ℕ};
-ghost use Rattle.meter.specs.Program.{blockLengthOf, toldLength};
+ghost use Prim.Native.Nat.{ℕ, _≤_};
+ghost use lib.ListN.{length};
+ghost use Rattle.tally.specs.Walks.{Answered};
+ghost use Rattle.meter.specs.Counting.{byOne};
+ghost use Rattle.meter.specs.Streaming.{State};
+ghost use Rattle.meter.specs.Progress.{Carries, Steps};
+ghost use Rattle.meter.specs.SheetTold.{toldSheet};
+ghost use Rattle.meter.specs.Program.{mostTally, blockLengthOf, toldLength, countedFrom, NextTold};
 
 // The longest block of a record, and the longest tally.
 pub const MOST_BLOCK: usize = 49152;
@@ -34,4 +48,57 @@ pub fn block_length(s: &[u8]) -> LengthRead
         return LengthRead::TooLong;
     }
     LengthRead::Block(size)
+}
+
+// What came of a record: how far the sheet was tallied then, or the refusal.
+pub enum Next {
+    On(Progress),
+    Stop(SheetAnswer),
+}
+
+// Takes the record at the front of some bytes, unless its block is too long.
+pub fn take_next(
+    p: Progress,
+    s: &[u8],
+    spare: &mut [u8],
+    ids: &mut [u8; 65536],
+    counts: &mut [u16; 65536],
+    places: &mut [usize; 4096],
+    room: &mut [usize; 4096],
+) -> Next
+    ensures { λ _. ⌜ length (now (spare .exit)) ≡ length (now (spare .entry)) ⌝ }
+    ensures { λ _. ⌜ now (ids .exit) ≡ now (ids .entry) ⌝ }
+    ensures { λ r. ⌜ ((w : State byOne) → Steps (now (ids .entry)) (now (counts .entry)) (now (spare .entry)) p w
+        → NextTold w (now (s .entry)) (now (counts .exit)) (now (spare .exit)) r) ⌝ }
+{
+    match block_length(s) {
+        LengthRead::Misframed => Next::Stop(SheetAnswer::Malformed(p.records)),
+        LengthRead::TooLong => Next::Stop(SheetAnswer::NoRoom(p.records)),
+        LengthRead::Block(_) => match take_record(
+            p,
+            s,
+            Lot::whole_world(),
+            Span::all_time(),
+            spare,
+            ids,
+            counts,
+            places,
+            room,
+        ) {
+            TakeAnswer::Misframed(i) => Next::Stop(SheetAnswer::Malformed(i)),
+            TakeAnswer::Refused(f, i) => Next::Stop(SheetAnswer::Record(f, i)),
+            TakeAnswer::Taken(next, _) => Next::On(next),
+        },
+    }
+}
+
+// Behind the last record: no byte more, and then the tally.
+pub fn end_sheet(p: Progress, rest: &[u8], spare: &[u8], out: &mut [u8]) -> SheetAnswer
+    ensures { λ r. ⌜ ((w : State byOne) → Carries (now (spare .entry)) p w → length (now (out .entry)) ≡ mostTally → mostTally ≤ length (now (spare .entry))
+        → Answered (toldSheet r) (now (out .entry)) (now (out .exit)) (countedFrom 0 w (now (rest .entry)))) ⌝ }
+{
+    if 0 < rest.len() {
+        return SheetAnswer::Malformed(p.records);
+    }
+    finished(finish(p, spare, out))
 }

@@ -24,7 +24,7 @@ use Rattle.meter.specs.declared.stream.Progress.{Progress}
 use Rattle.meter.specs.declared.stream.StartAnswer.the-variants as starts
 use Rattle.meter.proofs.SheetTaken.{ok-head}
 use Rattle.meter.proofs.Sheetcount.{behind-head, headless}
-use Rattle.sheetcount.specs.Reading.{Stopped, Reached, Ended, CountedInto}
+use Rattle.sheetcount.specs.Reading.{Stopped, Reached, CountedInto}
 
 -- ---- the start
 module _ (lot : Lot) (span : Span) (l : lot ≡ world) (s : span ≡ allTime) (room spare : ℕ) (r : room ≡ mostTally) (p : spare ≡ mostTally) where
@@ -61,13 +61,12 @@ module _ (n : ℕ) (h : n < 256 ^ 4) where
       let e : sheetcountOf (whole (x .s)) ≡ refusal (x .refuses .n) (x .refuses .i) (x .refuses .o) = behind-head n (x .s) h ∙ x .refuses .same in
       record { s = whole (x .s); bytes = whole-bytes (x .s) (x .bytes); answered = rw (e, x .refuses .told) (refl, refl) }
 
-  -- all are taken
-  pub counted-ended : {t : List ℕ} {q : Progress} (d e : List ℕ) (r : SheetAnswer) → Reached n 0 t q → ((w : State byOne) → Carries t q w → Ended w d e r) → CountedInto d e r
-  counted-ended d e r x f =
-      let y = f (x .v) (x .carries) in
-      let same : countedFrom 0 (x .v) (y .s) ≡ sheetcountOf (whole (x .s ++ y .s)) = sym (behind-head n (x .s ++ y .s) h ∙ x .same (y .s)) in
+  -- all are taken, and some bytes follow
+  pub counted-ended : {t : List ℕ} {q : Progress} (d e y : List ℕ) (r : SheetAnswer) → Bytes y → Reached n 0 t q → ((w : State byOne) → Carries t q w → Answered (toldSheet r) d e (countedFrom 0 w y)) → CountedInto d e r
+  counted-ended d e y r b x f =
+      let same : countedFrom 0 (x .v) y ≡ sheetcountOf (whole (x .s ++ y)) = sym (behind-head n (x .s ++ y) h ∙ x .same y) in
       record {
-        s = whole (x .s ++ y .s);
-        bytes = whole-bytes (x .s ++ y .s) (bytes-append (x .s) (y .s) (x .bytes) (y .bytes));
-        answered = subst (λ (a : Answer (List ℕ)). Answered (toldSheet r) d e a) same (y .answered);
+        s = whole (x .s ++ y);
+        bytes = whole-bytes (x .s ++ y) (bytes-append (x .s) y (x .bytes) b);
+        answered = subst (λ (a : Answer (List ℕ)). Answered (toldSheet r) d e a) same (f (x .v) (x .carries));
       }

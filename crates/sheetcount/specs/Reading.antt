@@ -2,37 +2,23 @@
 use Prim.Native.Nat.{ℕ, _+_}
 use mathlib.Core.Path.{_≡_}
 use mathlib.Core.List.{List, _++_}
-use lib.ListN.{length, take}
+use lib.ListN.{length}
 use Rattle.wire.specs.Bytes.{Bytes}
-use Rattle.wire.specs.Answer.{Answer, good, refusal}
 use Rattle.tally.specs.Walks.{Answered}
 use Rattle.meter.specs.Counting.{byOne}
 use Rattle.meter.specs.Streaming.{State, noRecords}
 use Rattle.meter.specs.Records.{clearTable}
 use Rattle.meter.specs.Progress.{Carries}
 use Rattle.meter.specs.SheetTold.{toldSheet}
-use Rattle.meter.specs.Program.{mostBlock, mostTally, nextOf, countedFrom, sheetcountOf}
+use Rattle.meter.specs.Program.{mostBlock, mostTally, countedFrom, sheetcountOf, Refuses}
 use Rattle.meter.specs.declared.sheet.SheetAnswer.{SheetAnswer}
 use Rattle.meter.specs.declared.stream.Progress.{Progress}
-use Rattle.sheetcount.specs.declared.reading.Next.{Next}
-use Rattle.sheetcount.specs.declared.reading.Next.the-variants as nexts
+use Rattle.meter.specs.declared.program.Next.{Next}
+use Rattle.meter.specs.declared.program.Next.the-variants as nexts
 
 -- the longest record: twelve bytes and its block
 abbrev pub longest : ℕ
 longest = 12 + mostBlock
-
--- the code's answer is the refusal
-pub record Refuses {A : Type 0} (r : SheetAnswer) (a : Answer A) : Type 0 where
-  pub n : ℕ
-  pub i : ℕ
-  pub o : ℕ
-  pub told : toldSheet r ≡ refusal n i o
-  pub same : a ≡ refusal n i o
-
--- a record in the bytes at the front of the buffer b
-abbrev pub NextTold : State byOne → List ℕ → List ℕ → List ℕ → Next → Type 0
-NextTold w b counts t (nexts.On q) = (m : ℕ) × (n : ℕ) × (v : State byOne) × (nextOf w (take m b) ≡ good (v, n)) × Carries t q v × (counts ≡ clearTable)
-NextTold w b counts t (nexts.Stop r) = (m : ℕ) × Refuses r (nextOf w (take m b))
 
 -- ---- so many records, one behind the other
 -- before the first: the spare carries the state, and the tables are clear
@@ -59,12 +45,6 @@ pub record Stopped (count : ℕ) (r : SheetAnswer) : Type 0 where
 abbrev pub AllTold : ℕ → List ℕ → Next → Type 0
 AllTold count t (nexts.On q) = Reached count 0 t q
 AllTold count t (nexts.Stop r) = Stopped count r
-
--- behind the last one, in the bytes s
-pub record Ended (w : State byOne) (before after : List ℕ) (r : SheetAnswer) : Type 0 where
-  pub s : List ℕ
-  pub bytes : Bytes s
-  pub answered : Answered (toldSheet r) before after (countedFrom 0 w s)
 
 -- ---- the whole
 -- the buffers that are lent, with clear tables

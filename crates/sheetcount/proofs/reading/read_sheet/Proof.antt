@@ -1,5 +1,5 @@
 use borrow.Author.Needs.{needs}
-use Prim.Native.Nat.{ℕ, _<_, _^_}
+use Prim.Native.Nat.{ℕ, _≤_, _<_, _^_}
 use mathlib.Core.Path.{_≡_, sym, subst, _∙_}
 use mathlib.Core.List.{List, _++_}
 use native.Mathlib.Omega.{arith}
@@ -35,6 +35,15 @@ fits y = omega (arith, y .before .before .before .before .before .before .before
 
 long : (y : tie.After-take-all) → length (filled (headed y)) ≡ longest
 long y = headed y .before .before .before .bytes .given .1 ∙ begun (headed y) .pre .0 .bytes-long
+
+-- what the buffer holds behind the last record, where one byte more is asked for
+abbrev left : tie.After-known-told3 → List ℕ
+left c = c .before .before .before .before .before .before .before .take-all .last .1 .1 .0
+
+after-all : (c : tie.After-known-told3) → 1 ≤ length (left c)
+after-all c =
+    let y = c .before .before .before .before .before .before .before in
+    omega (arith, c .before .before .before .before .before .before .bytes2 .given ∙ long y)
 
 slice-relend-prefix-read-full : tie.Need-slice-relend-prefix-read-full
 slice-relend-prefix-read-full c = search needs
@@ -81,11 +90,23 @@ enum-known-a c = search needs
 enum-known-q : tie.Need-enum-known-q
 enum-known-q c = search needs
 
+slice-relend-prefix-read-full-2 : tie.Need-slice-relend-prefix-read-full-2
+slice-relend-prefix-read-full-2 c = after-all c
+
+slice-aggregate-read-full-2 : tie.Need-slice-aggregate-read-full-2
+slice-aggregate-read-full-2 c = sym (length-take-le 1 (left (c .before)) (after-all (c .before)))
+
+read-full-requires-2 : tie.Need-read-full-requires-2
+read-full-requires-2 c κs = search needs
+
+slice-reshare-prefix-end-sheet : tie.Need-slice-reshare-prefix-end-sheet
+slice-reshare-prefix-end-sheet c = rw length-append (omega (arith, c .before .before .read-full2 .ensures .0))
+
+slice-aggregate-end-sheet : tie.Need-slice-aggregate-end-sheet
+slice-aggregate-end-sheet c = sym (length-take-le _ _ (slice-reshare-prefix-end-sheet (c .before)))
+
 end-sheet-requires : tie.Need-end-sheet-requires
-end-sheet-requires c κs =
-    let y = c .before .before .before .before .before .before .before .before .before .before in
-    let s = begun (headed y) in
-    (c .before .before .before .before .before .before .before .before .before .bytes2 .given ∙ long y, s .pre .0 .out-long, y .take-all .ensures .0 ∙ s .pre .0 .spare-long)
+end-sheet-requires c κs = search needs
 
 same-length-2 : tie.Need-same-length-2
 same-length-2 c = search needs
@@ -100,9 +121,9 @@ returns-2 c =
 
 same-length-4 : tie.Need-same-length-4
 same-length-4 c =
-    let e = c .before .before .before in
-    let b = e .before .before .before .before .before .before .before .before .before .before .before in
-    e .bytes3 .given ∙ b .bytes2 .given ∙ b .before .before .before .before .before .before .before .before .before .before .before .before .before .before .bytes .given .1
+    let e = c .before .before .before .before .before .before .before in
+    let b = e .before .before .before .before .before .before .before .before .before in
+    e .bytes3 .given .1 ∙ b .bytes2 .given ∙ b .before .before .before .before .before .before .before .before .before .before .before .before .before .before .bytes .given .1
 
 same-length-5 : tie.Need-same-length-5
 same-length-5 c = search needs
@@ -112,9 +133,13 @@ same-length-6 c = search needs
 
 returns-3 : tie.Need-returns-3
 returns-3 c =
-    let e = c .before .before .before .before in
-    let y = e .before .before .before .before .before .before .before .before .before .before .before in
-    counted-ended (count y) (fits y) (now (begun (headed y) .args .out)) (e .end-sheet .last .1 .1 .1 .0) (e .end-sheet .result) (subst (AllTold (count y) (y .take-all .last .1 .1 .1 .0)) (e .before .before .before .before .before .q .given .1) (y .take-all .ensures .1)) (e .end-sheet .ensures)
+    let e = c .before .before in
+    let k = e .before .before .before .before in
+    let r = k .before .before in
+    let y = r .before .before .before .before .before .before .before .before .before in
+    let s = begun (headed y) in
+    let b = r .read-full2 .last .1 .0 ++ drop 1 (y .take-all .last .1 .1 .0) in
+    counted-ended (count y) (fits y) (now (s .args .out)) (e .end-sheet .last .1 .1 .1 .0) (take (r .read-full2 .result) b) (e .end-sheet .result) (bytes-take (r .read-full2 .result) b (λ j. k .slice-known7 .given j .fits)) (subst (AllTold (count y) (y .take-all .last .1 .1 .1 .0)) (r .before .before .before .q .given .1) (y .take-all .ensures .1)) (λ w h. e .end-sheet .ensures w h (s .pre .0 .out-long) (omega (arith, y .take-all .ensures .0 ∙ s .pre .0 .spare-long)))
 
 pub read-sheet-spec : {M : Type 1} → statement M
 read-sheet-spec =
@@ -133,6 +158,11 @@ read-sheet-spec =
     take-all-requires
     enum-known-a
     enum-known-q
+    slice-relend-prefix-read-full-2
+    slice-aggregate-read-full-2
+    read-full-requires-2
+    slice-reshare-prefix-end-sheet
+    slice-aggregate-end-sheet
     end-sheet-requires
     same-length-2
     same-length-3

@@ -1,8 +1,11 @@
 use borrow.Author.Needs.{needs}
-use mathlib.Core.Path.{_≡_, refl, _∙_}
-use mathlib.Core.List.{List}
 use Prim.Native.Nat.{ℕ}
-use lib.ListN.{length}
+use mathlib.Core.Path.{_≡_, refl, sym, _∙_}
+use mathlib.Core.List.{List}
+use native.Mathlib.Omega.{arith}
+use lib.ListN.{length, take}
+use lib.Seq.{length-take-le}
+use Rattle.wire.specs.Bytes.{bytes-take}
 use Rattle.sheetcount.proofs.Going.{Going, going-start, going-stop, going-on, going-end}
 use Rattle.sheetcount.proofs.reading.take_all.Statement.{statement}
 use Rattle.sheetcount.proofs.reading.take_all.Tie as tie
@@ -15,12 +18,18 @@ abbrev μ-loop : tie.MeasureT-loop
 μ-loop count bytes₀ spare₀ ids₀ counts₀ places₀ room₀ left₀ now₀ bytes spare ids counts places room left now =
     left
 
--- where the loop turned, and what taking the next record left in the buffers
+-- where the loop turned, what was read of a record, and what taking it left in the buffers
 abbrev turned : tie.After-take-next Inv-loop μ-loop → tie.At-loop Inv-loop μ-loop
-turned x = x .before .before .before .before .before .before .before .before
+turned x = x .before .before .before .before .before .before .before .before .before .before .before .before
+
+abbrev filled : tie.After-take-next Inv-loop μ-loop → tie.After-slice-known3 Inv-loop μ-loop
+filled x = x .before .before .before .before .before .before .before
 
 abbrev bytes : tie.After-take-next Inv-loop μ-loop → List ℕ
-bytes x = x .take-next .last .1 .0
+bytes x = filled x .before .before .read-record .last .0
+
+abbrev size : tie.After-take-next Inv-loop μ-loop → ℕ
+size x = filled x .before .before .read-record .result
 
 abbrev spare : tie.After-take-next Inv-loop μ-loop → List ℕ
 spare x = x .take-next .last .1 .1 .0
@@ -34,8 +43,17 @@ counts x = x .take-next .last .1 .1 .1 .1 .0
 loop-holds : tie.Need-loop-holds Inv-loop μ-loop
 loop-holds c = (going-start _ (c .before .before .pre .0) (c .before .before .pre .1), refl)
 
+read-record-requires : tie.Need-read-record-requires Inv-loop μ-loop
+read-record-requires c κs = c .before .before .loop .inv .0 .long
+
+slice-reshare-prefix-take-next : tie.Need-slice-reshare-prefix-take-next Inv-loop μ-loop
+slice-reshare-prefix-take-next c = omega (arith, c .before .before .read-record .ensures, c .before .bytes .given)
+
+slice-aggregate-take-next : tie.Need-slice-aggregate-take-next Inv-loop μ-loop
+slice-aggregate-take-next c = sym (length-take-le _ _ (slice-reshare-prefix-take-next (c .before)))
+
 take-next-requires : tie.Need-take-next-requires Inv-loop μ-loop
-take-next-requires c κs = c .before .before .before .before .before .before .before .loop .inv .0 .long
+take-next-requires c κs = search needs
 
 enum-known-a : tie.Need-enum-known-a Inv-loop μ-loop
 enum-known-a c = search needs
@@ -48,9 +66,9 @@ same-length-2 c = search needs
 
 returns : tie.Need-returns Inv-loop μ-loop
 returns c =
-    let x = c .before .before .before .before .before .before .before in
+    let x = c .before .before .before .before .before in
     let l = turned x in
-    (x .take-next .ensures .0 ∙ l .loop .inv .0 .size, going-stop (l .loop .inv .0) (l .before .before .before .fits .count .fits) (x .before .before .before .before .before .before .before .loop-test .taken) (bytes x) (spare x) (ids x) (counts x) (λ j. c .before .before .before .before .before .slice-known3 .given j .fits) (x .take-next .result) (x .take-next .ensures .1 .1) (c .before .a .given .1))
+    (x .take-next .ensures .0 ∙ l .loop .inv .0 .size, going-stop (l .loop .inv .0) (l .before .before .before .fits .count .fits) (filled x .before .before .before .before .loop-test .taken) (take (size x) (bytes x)) (spare x) (ids x) (counts x) (bytes-take (size x) (bytes x) (λ j. filled x .slice-known3 .given j .fits)) (x .take-next .result) (x .take-next .ensures .1 .1) (c .before .a .given .1))
 
 enum-known-next : tie.Need-enum-known-next Inv-loop μ-loop
 enum-known-next c = search needs
@@ -63,9 +81,10 @@ loop-less c = search needs
 
 loop-again : tie.Need-loop-again Inv-loop μ-loop
 loop-again c =
-    let x = c .before .before .before .before .before .before .before in
+    let x = c .before .before .before .before .before in
     let l = turned x in
-    (going-on (l .loop .inv .0) (l .before .before .before .fits .count .fits) (x .before .before .before .before .before .before .before .loop-test .taken) (bytes x) (spare x) (ids x) (counts x) (λ j. c .before .before .before .before .before .slice-known3 .given j .fits) (x .take-next .result) (x .take-next .ensures .1 .1) (x .take-next .ensures .1 .0) (c .before .before .before .before .before .before .bytes .given) (x .take-next .ensures .0) (c .before .next .given .1), c .before .before .before .before .before .before .bytes .given ∙ l .loop .inv .1)
+    let same = filled x .before .bytes .given in
+    (going-on (l .loop .inv .0) (l .before .before .before .fits .count .fits) (filled x .before .before .before .before .loop-test .taken) (take (size x) (bytes x)) (spare x) (ids x) (counts x) (bytes-take (size x) (bytes x) (λ j. filled x .slice-known3 .given j .fits)) (x .take-next .result) (x .take-next .ensures .1 .1) (x .take-next .ensures .1 .0) same (x .take-next .ensures .0) (c .before .next .given .1), same ∙ l .loop .inv .1)
 
 same-length-3 : tie.Need-same-length-3 Inv-loop μ-loop
 same-length-3 c = search needs
@@ -83,6 +102,9 @@ take-all-spec =
     Inv-loop
     μ-loop
     loop-holds
+    read-record-requires
+    slice-reshare-prefix-take-next
+    slice-aggregate-take-next
     take-next-requires
     enum-known-a
     same-length
