@@ -42,7 +42,7 @@ mostTally = 8_192
 unfoldable pub recordHead : SheetForm (ℤ × ℕ)
 recordHead = s64 ▹ u32
 
--- The length of the i-th record's block: 15 where the twelve bytes are not there, 11 where it is longer.
+-- The length of the i-th record's block: 15 where the twelve bytes are not there, 11 for more than 49,152.
 unfoldable pub blockLengthOf : ℕ → List ℕ → Answer ℕ
 blockLengthOf i s = framed i (recordHead .read s) λ h n. pick (leb (h .1) mostBlock) (good (h .1)) (refusal noRoom i 0)
 

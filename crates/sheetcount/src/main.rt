@@ -17,6 +17,9 @@ ghost use Rattle.meter.specs.SheetTold.{toldSheet};
 ghost use Rattle.sheetcount.specs.Reading.{CountedAs};
 ghost use Rattle.sheetcount.specs.Printing.{mostText, Shows, ShowsRefusal};
 
+// Room for the text of any tally.
+const MOST_TEXT: usize = 20480;
+
 // The number and the record of a refusal.
 fn put_refusal(answer: SheetAnswer, text: &mut [u8]) -> usize
     requires { ⌜ length (now text) ≡ mostText ⌝ }
@@ -38,7 +41,7 @@ fn put_answer(answer: SheetAnswer, out: &[u8], text: &mut [u8]) -> usize
 }
 
 fn main() {
-    let mut text = [0u8; 20480];
+    let mut text = [0u8; MOST_TEXT];
     let counted = count_sheet();
     let answer = counted.answer;
     let out = counted.out;

@@ -4,6 +4,8 @@ use meter::head::HEAD;
 use meter::head::HeadRead;
 use meter::head::sheet_head;
 use meter::program::LengthRead;
+use meter::program::MOST_BLOCK;
+use meter::program::MOST_TALLY;
 use meter::program::Next;
 use meter::program::block_length;
 use meter::program::end_sheet;
@@ -122,7 +124,7 @@ fn count_into(
 // What a sheet came to: the answer and, where it is a tally, its bytes at the front of the output.
 pub struct Counted {
     pub answer: SheetAnswer,
-    pub out: [u8; 8192],
+    pub out: [u8; MOST_TALLY],
 }
 
 // Reads a sheet and tallies it.
@@ -135,9 +137,9 @@ pub(crate) fn count_sheet() -> Counted
     let mut places = [0usize; 4096];
     let mut room = [0usize; 4096];
     // A record, the running tally and the tally.
-    let mut bytes = [0u8; 49164];
-    let mut spare = [0u8; 8192];
-    let mut out = [0u8; 8192];
+    let mut bytes = [0u8; BLOCK_AT + MOST_BLOCK];
+    let mut spare = [0u8; MOST_TALLY];
+    let mut out = [0u8; MOST_TALLY];
     let answer = count_into(
         &mut bytes,
         &mut out,
