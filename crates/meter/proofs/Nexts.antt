@@ -31,7 +31,7 @@ use Rattle.meter.proofs.Sheetcount.{next-unread, next-take, counted-mor
 pub next-stops : (w : State byOne) (s : List ℕ) (x : ℕ) (r : SheetAnswer) {ids counts t : List ℕ} {q : Progress} → Steps ids counts t q w → toldSheet r ≡ refusal x (q .records) 0
     → refusal x (w .records) 0 ≡ blockLengthOf (w .records) s → NextTold w s counts t (nexts.Stop r)
 next-stops w s x r {q = q} k e h =
-    record { n = x; i = q .records; o = 0; told = e; same = next-unread w s (sym h) ∙ ap (λ (j : ℕ). refusal x j 0) (sym (k .carries .records)) }
+    (record { n = x; i = q .records; o = 0; told = e; same = next-unread w s (sym h) ∙ ap (λ (j : ℕ). refusal x j 0) (sym (k .carries .records)) }, k .counts-clear)
 
 -- ---- the record was taken or refused
 module _ (w : State byOne) (s : List ℕ) (n : ℕ) (h : good n ≡ blockLengthOf (w .records) s) (lot : Lot) (span : Span) (l : lot ≡ world) (m : span ≡ allTime) (counts t : List ℕ) (a : TakeAnswer)
@@ -42,10 +42,10 @@ module _ (w : State byOne) (s : List ℕ) (n : ℕ) (h : good n ≡ blockLengthO
       (subst (λ (c : TakeAnswer). TakeTold counts t c (takeOf byOne (part lot span) w s)) e y)
 
   pub next-misframed : {i : ℕ} → a ≡ takes.Misframed i → NextTold w s counts t (nexts.Stop (sheets.Malformed i))
-  next-misframed e = record { n = _; i = _; o = _; told = refl; same = next-take w s (sym h) ∙ told e .0 }
+  next-misframed e = (record { n = _; i = _; o = _; told = refl; same = next-take w s (sym h) ∙ told e .0 }, told e .1)
 
   pub next-refused : {f : RecordFault} {i : ℕ} → a ≡ takes.Refused f i → NextTold w s counts t (nexts.Stop (sheets.Record f i))
-  next-refused e = record { n = _; i = _; o = _; told = refl; same = next-take w s (sym h) ∙ told e .0 }
+  next-refused e = (record { n = _; i = _; o = _; told = refl; same = next-take w s (sym h) ∙ told e .0 }, told e .1)
 
   pub next-taken : {q : Progress} {o : ℕ} → a ≡ takes.Taken q o → NextTold w s counts t (nexts.On q)
   next-taken {o = o} e = let x = told e in (o, x .0, next-take w s (sym h) ∙ x .1, x .2, x .3)

@@ -1,5 +1,5 @@
--- The program: the length of a block as its first fields are told, and what the whole input comes to.
-use Prim.Native.Nat.{ℕ, zero, suc, _-_, _^_, _≤_, _<_}
+-- The program: the length of a block, and what the whole input comes to.
+use Prim.Native.Nat.{ℕ, zero, suc, _+_, _-_, _^_, _≤_, _<_}
 use mathlib.Core.Path.{_≡_, refl, ap, sym, subst, _∙_}
 use mathlib.Core.Bool.{Bool, true, false}
 use mathlib.Core.List.{List, [], _∷_, _++_, append-assoc}
@@ -35,38 +35,33 @@ use Rattle.meter.proofs.Streaming.{then-same, then-then, more, more-is,
 use Rattle.meter.proofs.Taking.{take-misframed, take-refused, take-good, took, take-number, from-refused, from-good}
 use Rattle.meter.proofs.SheetPuts.{blocksTally, from-head}
 
--- ---- the length of a block, by the fields as the leaves tell them
-module _ (i : ℕ) (s : List ℕ) where
-  pub length-short-key : {e : Short} {p : ℕ} → refused e p ≡ s64 {ends = short} .read s → blockLengthOf i s ≡ refusal sheetMalformed i 0
-  unfolding blockLengthOf recordHead _⨾_
-  length-short-key h = rw (signed-told misframed 8 half64 refl s h)
+-- ---- a record's first twelve bytes, by the fields as the leaves tell them
+module _ (s : List ℕ) where
+  pub twelve-no-key : {e : Short} {p : ℕ} → refused e p ≡ s64 {ends = short} .read s → recordHead .read s ≡ refused misframed p
+  unfolding recordHead _⨾_
+  twelve-no-key h = rw (signed-told misframed 8 half64 refl s h)
 
   module _ {key : ℤ} (h : done key 8 ≡ s64 {ends = short} .read s) where
-    pub length-short : {e : Short} {p : ℕ} → refused e p ≡ u32 {ends = short} .read (drop 8 s) → blockLengthOf i s ≡ refusal sheetMalformed i 0
-    unfolding blockLengthOf recordHead _⨾_
-    length-short g = rw (signed-told misframed 8 half64 refl s h, number-told misframed 4 (drop 8 s) g)
+    pub twelve-no-length : {e : Short} {p : ℕ} → refused e p ≡ u32 {ends = short} .read (drop 8 s) → recordHead .read s ≡ refused misframed (8 + p)
+    unfolding recordHead _⨾_
+    twelve-no-length g = rw (signed-told misframed 8 half64 refl s h, number-told misframed 4 (drop 8 s) g)
 
-    module _ (n : ℕ) (g : done n 4 ≡ u32 {ends = short} .read (drop 8 s)) where
-      pub length-long : mostBlock < n → blockLengthOf i s ≡ refusal noRoom i 0
-      unfolding blockLengthOf recordHead _⨾_
-      length-long l = rw (signed-told misframed 8 half64 refl s h, number-told misframed 4 (drop 8 s) g, lt-leb n mostBlock l)
+    pub twelve-done : (n : ℕ) → done n 4 ≡ u32 {ends = short} .read (drop 8 s) → recordHead .read s ≡ done (pair key n) 12
+    unfolding recordHead _⨾_
+    twelve-done n g = rw (signed-told misframed 8 half64 refl s h, number-told misframed 4 (drop 8 s) g)
 
-      pub length-good : n ≤ mostBlock → blockLengthOf i s ≡ good n
-      unfolding blockLengthOf recordHead _⨾_
-      length-good l = rw (signed-told misframed 8 half64 refl s h, number-told misframed 4 (drop 8 s) g, le-leb n mostBlock l)
-
--- the same of its first fields read as one
+-- ---- the length of a block
 module _ (i : ℕ) (s : List ℕ) where
-  unread : {e : Misframed} {p : ℕ} → recordHead .read s ≡ refused e p → blockLengthOf i s ≡ refusal sheetMalformed i 0
+  pub unread : {e : Misframed} {p : ℕ} → recordHead .read s ≡ refused e p → blockLengthOf i s ≡ refusal sheetMalformed i 0
   unfolding blockLengthOf
   unread h = rw h
 
   module _ {h : ℤ × ℕ} {m : ℕ} (e : recordHead .read s ≡ done h m) where
-    wanted : h .1 ≤ mostBlock → blockLengthOf i s ≡ good (h .1)
+    pub wanted : h .1 ≤ mostBlock → blockLengthOf i s ≡ good (h .1)
     unfolding blockLengthOf
     wanted l = rw (e, le-leb (h .1) mostBlock l)
 
-    unwanted : mostBlock < h .1 → blockLengthOf i s ≡ refusal noRoom i 0
+    pub unwanted : mostBlock < h .1 → blockLengthOf i s ≡ refusal noRoom i 0
     unfolding blockLengthOf
     unwanted l = rw (e, lt-leb (h .1) mostBlock l)
 

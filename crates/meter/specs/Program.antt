@@ -74,10 +74,10 @@ pub record Refuses {A : Type 0} (r : SheetAnswer) (a : Answer A) : Type 0 where
   pub told : toldSheet r ≡ refusal n i o
   pub same : a ≡ refusal n i o
 
--- the record that the bytes s begin with
+-- the record that the bytes s begin with; the counters are clear in either case
 abbrev pub NextTold : State byOne → List ℕ → List ℕ → List ℕ → Next → Type 0
 NextTold w s counts t (nexts.On q) = (n : ℕ) × (v : State byOne) × (nextOf w s ≡ good (v, n)) × Carries t q v × (counts ≡ clearTable)
-NextTold w s counts t (nexts.Stop r) = Refuses r (nextOf w s)
+NextTold w s counts t (nexts.Stop r) = Refuses r (nextOf w s) × (counts ≡ clearTable)
 
 -- ---- what holds of it
 -- of so many records in these bytes none states a longer block

@@ -1,4 +1,5 @@
 // What the program sheetcount decides, over the bytes that it reads.
+use crate::records::LENGTH_AT;
 use crate::sheet::SheetAnswer;
 use crate::sheet::finished;
 use crate::stream::Progress;
@@ -40,7 +41,7 @@ pub fn block_length(s: &[u8]) -> LengthRead
     let S64::Value(_) = s64_at(s, 0) else {
         return LengthRead::Misframed;
     };
-    let U32::Value(n) = u32_at(s, 8) else {
+    let U32::Value(n) = u32_at(s, LENGTH_AT) else {
         return LengthRead::Misframed;
     };
     let size = n as usize;
@@ -56,7 +57,8 @@ pub enum Next {
     Stop(SheetAnswer),
 }
 
-// Takes the record at the front of some bytes, unless its block is too long.
+// Takes the record at the front of some bytes, unless its block is too long. What the spare, `places` and `room` hold afterwards is open, as
+// of a step.
 pub fn take_next(
     p: Progress,
     s: &[u8],

@@ -14,7 +14,9 @@ ghost use mathlib.Core.Path.{_≡_};
 ghost use Rattle.meter.specs.Sheet.{rises, judgeRecord};
 ghost use Rattle.meter.specs.Records.{clearTable, lastOf, FrameTold, recordOf, RecordTold};
 
-// Where a record's block begins, behind its key and its length.
+// Where the length of a record's block stands, behind its key, and where the block begins.
+pub const LENGTH_AT: usize = 8;
+
 pub const BLOCK_AT: usize = 12;
 
 // A record's key and the length of its block, or that it is not whole.
@@ -30,7 +32,7 @@ pub fn frame(s: &[u8]) -> FrameRead
     let S64::Value(key) = s64_at(s, 0) else {
         return FrameRead::Misframed;
     };
-    match counted32_at(s, 8) {
+    match counted32_at(s, LENGTH_AT) {
         Counted::Ends(_) => FrameRead::Misframed,
         Counted::Bytes(n) => FrameRead::Record(key, n),
     }

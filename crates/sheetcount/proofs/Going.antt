@@ -49,7 +49,7 @@ module _ {count : ℕ} {t₀ bytes t ids counts : List ℕ} {left : ℕ} {q : Pr
 
   pub going-stop : {r : SheetAnswer} → a ≡ nexts.Stop r → Stopped count r
   going-stop {r} e =
-      let x = told e in
+      let x = told e .0 in
       record {
         s = g .reached .s ++ s;
         bytes = bytes-append (g .reached .s) s (g .reached .bytes) b;

@@ -1,4 +1,4 @@
--- What is printed of the bytes that were read.
+-- What is printed.
 use Prim.Native.Nat.{ℕ, _≤_}
 use mathlib.Core.Path.{_≡_}
 use mathlib.Core.List.{List}

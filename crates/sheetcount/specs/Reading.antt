@@ -1,4 +1,4 @@
--- What the program's answers say of the bytes that it read. No contract can say that these are the bytes of standard input.
+-- What the program's answers say. No contract can say which bytes a read gives, so they say that there are bytes s of which they are true.
 use Prim.Native.Nat.{ℕ, _+_}
 use mathlib.Core.Path.{_≡_}
 use mathlib.Core.List.{List, _++_}
@@ -55,7 +55,7 @@ pub record Ready (bytes out spare ids counts : List ℕ) : Type 0 where
   pub ids-clear : ids ≡ clearTable
   pub counts-clear : counts ≡ clearTable
 
--- the answer, and what the output then holds, are those of the bytes s that were read
+-- there are bytes s of which the answer, and what the output then holds, are the program's
 pub record CountedInto (before after : List ℕ) (r : SheetAnswer) : Type 0 where
   pub s : List ℕ
   pub bytes : Bytes s

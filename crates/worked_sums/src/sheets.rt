@@ -12,6 +12,7 @@ use meter::head::NUMBER_AT;
 use meter::head::VERSION;
 use meter::head::VERSION_AT;
 use meter::records::BLOCK_AT;
+use meter::records::LENGTH_AT;
 use position::lot::Lot;
 use position::span::Span;
 use wire::store::put_bytes;
@@ -19,9 +20,6 @@ use wire::store::put_s64;
 use wire::store::put_u16;
 use wire::store::put_u32;
 ghost use Prim.Native.Nat.{_+_, _≤_};
-
-// Where a record's length stands, behind its key.
-const LENGTH_AT: usize = 8;
 
 fn put_head(sheet: &mut [u8], records: u32) {
     put_bytes(sheet, 0, b"WSH");

@@ -161,6 +161,13 @@ answer-good : {A B : Type 0} (f : A → B) (x : Answer A) {b : B} → mapAnswer 
 answer-good f (good a) h = (a, refl, (cc))
 answer-good f (refusal n r o) h = no-good h
 
+-- what is written lies in the room
+pub written-fits : (p : Parts) (room n : ℕ) → mapAnswer length (writeOf p room) ≡ good n → n ≤ room
+written-fits p room n h =
+    let x = answer-good length (writeOf p room) h in
+    let y = written-as p room (x .1) in
+    omega (arith, y .2 .fits, ap length (y .1), x .2)
+
 module _ (p : Parts) (room : ℕ) (b : Block) (held : Held p) (x : WrittenAs p room b) where
   abbrev s : List ℕ
   s = block all .encode b
