@@ -1,5 +1,8 @@
 /* Anowhetele: the nodes standing on a lot of a Luanti world, counted name by name.
- * Made from anowhetele.h.in and numbers.txt by include/make; edit those. */
+ *
+ * A buffer is two arguments, its pointer and its length in elements. No function keeps a pointer, has state or takes memory; each may be called from
+ * any thread. What is left to the caller is C's own: a pointer is not NULL and good for its length, an output overlaps no other buffer, and
+ * there is 1 MB of stack. */
 #ifndef ANOWHETELE_H
 #define ANOWHETELE_H
 
@@ -11,25 +14,69 @@ extern "C" {
 #endif
 
 /* The numbers that a call comes back with. Every function refuses bad input with one of them; on a refusal all other values are 0. */
+/* numbers: made by bindings/make from bindings/numbers.txt */
 enum {
-    ANOW_DONE = 0 /* done */,
-    ANOW_ENDS_INSIDE = 1 /* bytes end inside a field, or an inventory has no end line */,
-    ANOW_VERSION_OUTSIDE = 2 /* version outside 22..29 */,
-    ANOW_FIXED_DIFFERS = 3 /* a byte, width or list version that is fixed has another value */,
-    ANOW_POSITION_ABOVE = 4 /* position above 4095 */,
-    ANOW_POSITION_TWICE = 5 /* position already in its list */,
-    ANOW_ID_TWICE = 6 /* id already mapped */,
-    ANOW_BYTES_AFTER = 7 /* bytes after the end */,
-    ANOW_ID_UNMAPPED = 8 /* used id unmapped */,
-    ANOW_OUT_OF_RANGE = 9 /* key or coordinate out of range */,
-    ANOW_BAD_PART = 10 /* lot out of the world or turned round; span turned round */,
-    ANOW_NO_ROOM = 11 /* result longer than the output lent */,
-    ANOW_PARTS_MISFIT = 12 /* parts do not fit */,
-    ANOW_TALLY_MALFORMED = 13 /* tally malformed */,
-    ANOW_TOO_MANY = 14 /* a count above 2^64-1, or more than 2^32-1 rows */,
-    ANOW_SHEET_MALFORMED = 15 /* sheet mark, version, framing, or keys not rising */,
+    ANOW_DONE = 0, /* done */
+    ANOW_ENDS_INSIDE = 1, /* bytes end inside a field, or an inventory has no end line */
+    ANOW_VERSION_OUTSIDE = 2, /* version outside 22..29 */
+    ANOW_FIXED_DIFFERS = 3, /* a byte, width or list version that is fixed has another value */
+    ANOW_POSITION_ABOVE = 4, /* position above 4095 */
+    ANOW_POSITION_TWICE = 5, /* position already in its list */
+    ANOW_ID_TWICE = 6, /* id already mapped */
+    ANOW_BYTES_AFTER = 7, /* bytes after the end */
+    ANOW_ID_UNMAPPED = 8, /* used id unmapped */
+    ANOW_OUT_OF_RANGE = 9, /* key or coordinate out of range */
+    ANOW_BAD_PART = 10, /* lot out of the world or turned round; span turned round */
+    ANOW_NO_ROOM = 11, /* result longer than the output lent */
+    ANOW_PARTS_MISFIT = 12, /* parts do not fit */
+    ANOW_TALLY_MALFORMED = 13, /* tally malformed */
+    ANOW_TOO_MANY = 14, /* a count above 2^64-1, or more than 2^32-1 rows */
+    ANOW_SHEET_MALFORMED = 15, /* sheet mark, version, framing, or keys not rising */
     ANOW_NO_SUCH = 16 /* no such row or node */
 };
+
+/* Whether a refusal has an offset: the place of the field that was refused, from the first byte of its block or part. */
+static inline int anow_has_offset(uint32_t number)
+{
+    switch (number) {
+    case ANOW_ENDS_INSIDE:
+    case ANOW_VERSION_OUTSIDE:
+    case ANOW_FIXED_DIFFERS:
+    case ANOW_POSITION_ABOVE:
+    case ANOW_POSITION_TWICE:
+    case ANOW_ID_TWICE:
+    case ANOW_BYTES_AFTER:
+    case ANOW_ID_UNMAPPED:
+        return 1;
+    }
+    return 0;
+}
+
+/* A number in words. */
+static inline const char *anow_words(uint32_t number)
+{
+    switch (number) {
+    case ANOW_DONE: return "done";
+    case ANOW_ENDS_INSIDE: return "bytes end inside a field, or an inventory has no end line";
+    case ANOW_VERSION_OUTSIDE: return "version outside 22..29";
+    case ANOW_FIXED_DIFFERS: return "a byte, width or list version that is fixed has another value";
+    case ANOW_POSITION_ABOVE: return "position above 4095";
+    case ANOW_POSITION_TWICE: return "position already in its list";
+    case ANOW_ID_TWICE: return "id already mapped";
+    case ANOW_BYTES_AFTER: return "bytes after the end";
+    case ANOW_ID_UNMAPPED: return "used id unmapped";
+    case ANOW_OUT_OF_RANGE: return "key or coordinate out of range";
+    case ANOW_BAD_PART: return "lot out of the world or turned round; span turned round";
+    case ANOW_NO_ROOM: return "result longer than the output lent";
+    case ANOW_PARTS_MISFIT: return "parts do not fit";
+    case ANOW_TALLY_MALFORMED: return "tally malformed";
+    case ANOW_TOO_MANY: return "a count above 2^64-1, or more than 2^32-1 rows";
+    case ANOW_SHEET_MALFORMED: return "sheet mark, version, framing, or keys not rising";
+    case ANOW_NO_SUCH: return "no such row or node";
+    }
+    return "unknown";
+}
+/* end of numbers */
 
 /* What a call comes back with. For 1 to 8 the offset is where the field starts; record: the record of a sheet; length: the result's, on 0. */
 typedef struct { uint32_t number; uint32_t record; uint64_t offset; uint64_t length; } anow_answer;

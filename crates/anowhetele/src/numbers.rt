@@ -1,4 +1,4 @@
-// Document 01's numbers, as the functions answer them; include/numbers.txt has all with their words.
+// Document 01's numbers, as the functions answer them; bindings/numbers.txt has all with their words.
 pub const DONE: u32 = 0;
 
 pub const VERSION_OUTSIDE: u32 = 2;

@@ -7,14 +7,28 @@ use Rattle.mapblock.proofs.nodes.first_stray.Tie as tie
 holds-lists-requires : tie.Need-holds-lists-requires
 holds-lists-requires c κs = search needs
 
-stray-in-requires : tie.Need-stray-in-requires
-stray-in-requires c κs = leb-true _ _ (sym (c .before .holds-lists .ensures) ∙ c .if1 .taken)
+all-mapped-requires : tie.Need-all-mapped-requires
+all-mapped-requires c κs = leb-true _ _ (sym (c .before .holds-lists .ensures) ∙ c .if1 .taken)
 
 returns : tie.Need-returns
-returns c = rw (sym (c .before .before .holds-lists .ensures) ∙ c .before .if1 .taken) (c .stray-in .ensures)
+returns c = sym (rw (sym (c .before .before .before .holds-lists .ensures) ∙ c .before .before .if1 .taken) (c .before .all-mapped .ensures (c .if2 .taken)))
+
+stray-in-requires : tie.Need-stray-in-requires
+stray-in-requires c κs = leb-true _ _ (sym (c .before .before .before .holds-lists .ensures) ∙ c .before .before .if1 .taken)
 
 returns-2 : tie.Need-returns-2
-returns-2 c = rw (sym (c .before .holds-lists .ensures) ∙ c .if1 .left)
+returns-2 c = rw (sym (c .before .before .before .before .holds-lists .ensures) ∙ c .before .before .before .if1 .taken) (c .stray-in .ensures)
+
+returns-3 : tie.Need-returns-3
+returns-3 c = rw (sym (c .before .holds-lists .ensures) ∙ c .if1 .left)
 
 pub first-stray-spec : {M : Type 1} → statement M
-first-stray-spec = tie.close (tie.spec holds-lists-requires stray-in-requires returns returns-2)
+first-stray-spec =
+    tie.close
+    (tie.spec
+    holds-lists-requires
+    all-mapped-requires
+    returns
+    stray-in-requires
+    returns-2
+    returns-3)

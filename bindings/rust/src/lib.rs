@@ -1,0 +1,31 @@
+//! Anowhetele: the nodes standing on a lot of a Luanti world, counted name by name. Safe functions over slices, on a library that is proved.
+//!
+//! ```
+//! use anowhetele::{tally_sheet, Lot, Span};
+//!
+//! let sheet = b"WSH\x00\x01\x00\x00\x00\x00";
+//! let (mut out, mut spare) = ([0; 8192], [0; 8192]);
+//! let tally = tally_sheet(sheet, Lot::WORLD, Span::ALL_TIME, &mut out, &mut spare)?;
+//! for row in tally {
+//!     println!("{} {}", row.count, String::from_utf8_lossy(row.name));
+//! }
+//!
+//! let refused = tally_sheet(&sheet[..8], Lot::WORLD, Span::ALL_TIME, &mut out, &mut spare).unwrap_err();
+//! assert_eq!(refused.to_string(), "refused 15 at record 0: sheet mark, version, framing, or keys not rising");
+//! # Ok::<(), anowhetele::Refused>(())
+//! ```
+mod block;
+mod position;
+pub mod raw;
+mod refusal;
+mod rows;
+mod tally;
+
+pub use block::{light_count, node_name, read, sections, write, Block, Head, NODES};
+pub use position::{key_join, key_split, Lot, Span};
+pub use refusal::{Refusal, Refused};
+pub use rows::{
+    metadata_row, metadata_rows, name_row, name_rows, object_row, object_rows, timer_row, timer_rows, Front,
+    MetadataContent, MetadataRow, NameRow, ObjectRow, TimerRow,
+};
+pub use tally::{tally_add, tally_block, tally_sheet, Row, Rows, Tally};

@@ -1,0 +1,139 @@
+//! Reading, rows, the name of a node, writing.
+mod common;
+
+use anowhetele::*;
+use common::{air, PARAM0};
+
+fn lists() -> ([u16; NODES], [u8; NODES], [u8; NODES]) {
+    ([7; NODES], [7; NODES], [7; NODES])
+}
+
+/// Version 29, with a row in each list.
+fn furnished() -> Vec<u8> {
+    let mut block = air(5);
+    let nodes_end = PARAM0 + 4 * NODES;
+    block.truncate(nodes_end);
+    block.extend(
+        b"\x02\x00\x01\x0f\xff\x00\x00\x00\x01\x00\x04text\x00\x00\x00\x02hi\x01EndInventoryList\nEndInventory\n",
+    );
+    block.extend(b"\x00\x00\x01\x07\xff\xff\xff\xff\x00\x00\x00\x02\x00\x00\x00\x03\x00\x02ox");
+    block.extend(b"\x0a\x00\x01\x00\x09\x00\x00\x03\xe8\xff\xff\xff\xfe");
+    block
+}
+
+#[test]
+fn what_was_read_writes_back() {
+    let bytes = furnished();
+    let (mut param0, mut param1, mut param2) = lists();
+    let block = read(&bytes, &mut param0, &mut param1, &mut param2).unwrap();
+    assert_eq!(
+        block.head,
+        Head {
+            version: 29,
+            flags: 0,
+            lighting: 65_535,
+            timestamp: 5,
+            timer_byte: 0
+        }
+    );
+    assert_eq!(block, sections(&bytes).unwrap());
+    let mut out = vec![9; bytes.len() + 1];
+    assert_eq!(write(block, &param0, &param1, &param2, &mut out), Ok(bytes.len()));
+    assert_eq!(out[..bytes.len()], bytes);
+    assert_eq!(out[bytes.len()], 9);
+    let short = write(block, &param0, &param1, &param2, &mut out[1..bytes.len()]).unwrap_err();
+    assert_eq!(short.refusal, Refusal::NoRoom);
+}
+
+#[test]
+fn rows_come_from_the_front() {
+    let bytes = furnished();
+    let block = sections(&bytes).unwrap();
+    let (name, rest) = name_row(block.names).unwrap();
+    assert_eq!((name, rest.len()), (NameRow { id: 0, name: b"air" }, 0));
+    assert_eq!(name_rows(block.names).collect::<Vec<_>>(), [Ok(name)]);
+    let inventory = &b"EndInventoryList\nEndInventory\n"[..];
+    let content = MetadataContent::Variables {
+        count: 1,
+        rows: b"\x00\x04text\x00\x00\x00\x02hi\x01",
+        inventory,
+    };
+    assert_eq!(
+        metadata_rows(29, block.metadata).collect::<Vec<_>>(),
+        [Ok(MetadataRow {
+            position: 4095,
+            content
+        })]
+    );
+    let object = ObjectRow {
+        kind: 7,
+        x: -1,
+        y: 2,
+        z: 3,
+        data: b"ox",
+    };
+    assert_eq!(object_rows(block.objects).collect::<Vec<_>>(), [Ok(object)]);
+    let timer = TimerRow {
+        position: 9,
+        timeout: 1000,
+        elapsed: -2,
+    };
+    assert_eq!(timer_rows(block.timers).collect::<Vec<_>>(), [Ok(timer)]);
+}
+
+#[test]
+fn a_refused_row_is_the_last() {
+    let rows: Vec<_> = timer_rows(&[0, 1, 0, 0, 0, 0, 0, 0, 0, 0, 0x10, 0]).collect();
+    assert_eq!(rows.len(), 2);
+    assert_eq!(
+        rows[1].unwrap_err().to_string(),
+        "refused 4 at offset 0: position above 4095"
+    );
+    assert_eq!(name_row(b"").unwrap_err().refusal, Refusal::NoSuch);
+    assert_eq!(metadata_row(21, b"").unwrap_err().refusal, Refusal::VersionOutside);
+}
+
+#[test]
+fn old_metadata_has_a_type() {
+    let (row, rest) = metadata_row(22, b"\x00\x05\x00\x0e\x00\x03abcd").unwrap();
+    assert_eq!(
+        row.content,
+        MetadataContent::Typed {
+            kind: 14,
+            bytes: b"abc"
+        }
+    );
+    assert_eq!((row.position, rest), (5, &b"d"[..]));
+}
+
+#[test]
+fn a_node_bears_the_very_bytes() {
+    let bytes = air(5);
+    let name = node_name(&bytes, 4095).unwrap();
+    assert_eq!(name, b"air");
+    assert!(bytes.as_ptr_range().contains(&name.as_ptr()));
+    assert_eq!(node_name(&bytes, 4096).unwrap_err().refusal, Refusal::NoSuch);
+}
+
+#[test]
+fn a_refusal_leaves_the_lists() {
+    let (mut param0, mut param1, mut param2) = lists();
+    let refused = read(&[], &mut param0, &mut param1, &mut param2).unwrap_err();
+    let words = "refused 1 at offset 0: bytes end inside a field, or an inventory has no end line";
+    assert_eq!(refused.to_string(), words);
+    assert_eq!((param0, param1, param2), lists());
+    assert_eq!(
+        read(&air(5), &mut param0[1..], &mut param1, &mut param2)
+            .unwrap_err()
+            .refusal,
+        Refusal::PartsMisfit
+    );
+    let mut bytes = air(5);
+    bytes[PARAM0 + 6] = 1;
+    assert_eq!(sections(&bytes).unwrap_err().offset, Some(PARAM0 as u64 + 6));
+}
+
+#[test]
+fn dark_bits_are_counted() {
+    assert_eq!((light_count(0xfffe), light_count(0xf000)), (1, 12));
+}
