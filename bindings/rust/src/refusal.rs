@@ -46,38 +46,23 @@ pub enum Refusal {
 use Refusal::*;
 
 /// Each refusal, whether it has an offset, and its words.
+#[rustfmt::skip]
 const TABLE: [(Refusal, bool, &str); 16] = [
-    (
-        EndsInside,
-        true,
-        "bytes end inside a field, or an inventory has no end line",
-    ),
+    (EndsInside, true, "bytes end inside a field, or an inventory has no end line"),
     (VersionOutside, true, "version outside 22..29"),
-    (
-        FixedDiffers,
-        true,
-        "a byte, width or list version that is fixed has another value",
-    ),
+    (FixedDiffers, true, "a byte, width or list version that is fixed has another value"),
     (PositionAbove, true, "position above 4095"),
     (PositionTwice, true, "position already in its list"),
     (IdTwice, true, "id already mapped"),
     (BytesAfter, true, "bytes after the end"),
     (IdUnmapped, true, "used id unmapped"),
     (OutOfRange, false, "key or coordinate out of range"),
-    (
-        BadPart,
-        false,
-        "lot out of the world or turned round; span turned round",
-    ),
+    (BadPart, false, "lot out of the world or turned round; span turned round"),
     (NoRoom, false, "result longer than the output lent"),
     (PartsMisfit, false, "parts do not fit"),
     (TallyMalformed, false, "tally malformed"),
     (TooMany, false, "a count above 2^64-1, or more than 2^32-1 rows"),
-    (
-        SheetMalformed,
-        false,
-        "sheet mark, version, framing, or keys not rising",
-    ),
+    (SheetMalformed, false, "sheet mark, version, framing, or keys not rising"),
     (NoSuch, false, "no such row or node"),
 ];
 // end of numbers

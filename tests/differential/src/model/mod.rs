@@ -1,0 +1,37 @@
+//! Every operation once more, in the plainest way: nothing here is made to be fast, and no code is taken over from the
+//! library. It is written from the scope document ("01"), whose sections the comments name; where 01 leaves a choice it
+//! takes the reading of docs/DECISIONS.md, so a wrong reading would be shared and not show as a difference.
+
+pub mod blocks;
+pub mod counting;
+pub mod fields;
+pub mod keys;
+pub mod lots;
+pub mod rows;
+pub mod sheets;
+pub mod tallies;
+pub mod writing;
+
+/// 01, "The numbers a call comes back with": which fault it was, and where.
+#[derive(Clone, Copy, Debug, PartialEq, Eq)]
+pub struct Refusal {
+    pub number: u32,
+    /// Of a sheet, from 0.
+    pub record: u32,
+    /// For 1 to 8, where the field starts.
+    pub offset: usize,
+}
+
+impl Refusal {
+    pub fn plain(number: u32) -> Refusal {
+        Refusal { number, record: 0, offset: 0 }
+    }
+
+    pub fn at(number: u32, offset: usize) -> Refusal {
+        Refusal { number, record: 0, offset }
+    }
+
+    pub fn of_record(number: u32, record: u32) -> Refusal {
+        Refusal { number, record, offset: 0 }
+    }
+}

@@ -1,0 +1,102 @@
+//! The operations, the numbers that the orders of 01 allow each of them, and how often each number was seen.
+
+#[derive(Clone, Copy, Debug, PartialEq, Eq)]
+pub enum Operation {
+    KeyJoin,
+    KeySplit,
+    LotHas,
+    SpanHas,
+    LightCount,
+    Read,
+    Sections,
+    NodeName,
+    RowName,
+    RowMetadata,
+    RowObject,
+    RowTimer,
+    Write,
+    TallyCheck,
+    TallyAdd,
+    TallyMerge,
+    TallyBlock,
+    TallySheet,
+}
+
+use Operation::*;
+
+impl Operation {
+    pub fn name(self) -> &'static str {
+        OPERATIONS[self as usize].1
+    }
+}
+
+/// Each operation with its C name and its numbers. More than 2^32-1 rows cannot be reached, so a sheet has no 14 here.
+const OPERATIONS: [(Operation, &str, &[usize]); 18] = [
+    (KeyJoin, "anow_key_join", &[0, 9]),
+    (KeySplit, "anow_key_split", &[0, 9]),
+    (LotHas, "anow_lot_has", &[0, 10]),
+    (SpanHas, "anow_span_has", &[0, 10]),
+    (LightCount, "anow_light_count", &[0]),
+    (Read, "anow_read", &[0, 1, 2, 3, 4, 5, 6, 7, 8, 12]),
+    (Sections, "anow_sections", &[0, 1, 2, 3, 4, 5, 6, 7, 8]),
+    (NodeName, "anow_node_name", &[0, 1, 2, 3, 4, 5, 6, 7, 8, 16]),
+    (RowName, "anow_row_name", &[0, 1, 16]),
+    (RowMetadata, "anow_row_metadata", &[0, 1, 2, 3, 4, 16]),
+    (RowObject, "anow_row_object", &[0, 1, 16]),
+    (RowTimer, "anow_row_timer", &[0, 1, 4, 16]),
+    (Write, "anow_write", &[0, 2, 3, 4, 5, 6, 8, 11, 12]),
+    (TallyCheck, "anow_tally_check", &[0, 13]),
+    (TallyAdd, "anow_tally_add", &[0, 11, 12, 13, 14]),
+    (TallyMerge, "anow_tally_merge", &[0, 11, 13, 14]),
+    (TallyBlock, "anow_tally_block", &[0, 1, 2, 3, 4, 5, 6, 7, 8, 9, 10, 11]),
+    (TallySheet, "anow_tally_sheet", &[0, 1, 2, 3, 4, 5, 6, 7, 8, 9, 10, 11, 12, 15]),
+];
+
+/// How often each operation came back with each of 0..16.
+#[derive(Clone, Default)]
+pub struct Table {
+    seen: [[u64; 17]; 18],
+}
+
+impl Table {
+    pub fn count(&mut self, operation: Operation, number: u32) {
+        self.seen[operation as usize][number as usize] += 1;
+    }
+
+    pub fn add(&mut self, other: &Table) {
+        for (row, other_row) in self.seen.iter_mut().zip(&other.seen) {
+            for (count, other_count) in row.iter_mut().zip(other_row) {
+                *count += other_count;
+            }
+        }
+    }
+
+    pub fn calls(&self) -> u64 {
+        self.seen.iter().flatten().sum()
+    }
+
+    /// What the orders of 01 allow and no call came back with.
+    pub fn never_seen(&self) -> Vec<String> {
+        let mut missing = Vec::new();
+        for (operation, name, numbers) in OPERATIONS {
+            let row = &self.seen[operation as usize];
+            let unseen = numbers.iter().filter(|&&number| row[number] == 0);
+            missing.extend(unseen.map(|number| format!("{name} never came back with {number}")));
+        }
+        missing
+    }
+
+    pub fn print(&self) {
+        print!("{:18}", "");
+        (0..17).for_each(|number| print!("{number:>8}"));
+        println!();
+        for (operation, name, _) in OPERATIONS {
+            print!("{name:18}");
+            for &count in &self.seen[operation as usize] {
+                let text = if count == 0 { ".".to_string() } else { count.to_string() };
+                print!("{text:>8}");
+            }
+            println!();
+        }
+    }
+}
