@@ -4,6 +4,7 @@ pub mod Readings
 -- Rows, lists and node data.
 pub mod Lines
 pub mod Entries
+pub mod Bounds
 pub mod Strays
 pub mod Zeros
 pub mod Positioned

@@ -18,4 +18,5 @@ pub mod Table
 pub mod Told
 pub mod Kinds
 pub mod Params
+pub mod Bounds
 pub mod Scan

@@ -1,5 +1,5 @@
 -- The param lists as bytes: what code that tests the bounds of a run once reads in them.
-use Prim.Native.Nat.{ℕ, zero, suc, _+_, _*_, _%_, _<_, _≤_}
+use Prim.Native.Nat.{ℕ, zero, suc, _+_, _*_, _≤_}
 use mathlib.Core.Path.{_≡_}
 use mathlib.Core.Option.{Option, some, none}
 use mathlib.Core.List.{List, [], _∷_}
@@ -29,21 +29,6 @@ idIn v s i = contentId v (spelt 0 (take (width v) (drop (width v * i) s))) (getD
 unfoldable pub strayIn : ℕ → List ℕ → List ℕ → ℕ → ℕ → Option ℕ
 strayIn v s t zero i = none
 strayIn v s t (suc n) i = pick (eqb (getD t (idIn v s i) 0) 0) (some i) (strayIn v s t n (suc i))
-
--- of so many pairs of bytes, none has a byte above a number at a place, 0 or 1
-abbrev pub NoneAbove : ℕ → List ℕ → ℕ → ℕ → Type 0
-NoneAbove n s first most = (i : ℕ) → i < n → getD s (2 * i + first) 0 ≤ most
-
--- columns raised to the row of bytes at a place, as far as column n
-pub record Raised (s : List ℕ) (at n : ℕ) (old new : List ℕ) : Type 0 where
-  pub long : length new ≡ 128
-  pub above : (j : ℕ) → getD old j 0 ≤ getD new j 0
-  pub reaches : (j : ℕ) → j < n → getD s (at + j) 0 ≤ getD new j 0
-
--- columns that no byte before a place is above, each in its column
-pub record Reached (s : List ℕ) (at : ℕ) (columns : List ℕ) : Type 0 where
-  pub long : length columns ≡ 128
-  pub reaches : (i : ℕ) → i < at → getD s i 0 ≤ getD columns (i % 128) 0
 
 -- every id up to a bound has a mark in the table
 abbrev pub MarkedUpto : List ℕ → ℕ → Type 0

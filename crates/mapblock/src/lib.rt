@@ -1,4 +1,5 @@
 // MapBlocks of versions 22 to 29, unpacked: judged, read, looked into.
+pub mod bound;
 pub mod fault;
 pub mod head;
 pub mod inventory;

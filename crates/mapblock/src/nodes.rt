@@ -1,4 +1,5 @@
 // Node data: the widths, the three param lists, and content ids.
+use crate::bound::id_bound;
 use crate::fault::Fault;
 use crate::fault::Reach;
 use wire::fields::U8;
@@ -10,7 +11,7 @@ ghost use Prim.Native.Nat.{_+_, _*_, _<_, _≤_};
 ghost use lib.ListN.{length};
 ghost use Rattle.mapblock.specs.Layout.{nodes, params, width};
 ghost use Rattle.mapblock.specs.Block.{contentId};
-ghost use Rattle.mapblock.specs.Params.{idIn, strayIn, holdsLists, strayOf, idOf, NoneAbove, Raised, Reached, MarkedUpto};
+ghost use Rattle.mapblock.specs.Params.{idIn, strayIn, holdsLists, strayOf, idOf, MarkedUpto};
 ghost use Rattle.mapblock.specs.Told.{toldReach, ended, toldStray};
 
 // How many nodes a block has.
@@ -104,53 +105,6 @@ fn stray_in(version: u8, s: &[u8], ids: &[u8; 65536]) -> Stray
     Stray::None
 }
 
-fn greater(a: u8, b: u8) -> u8
-    ensures { λ r. ⌜ (a ≤ r) × (b ≤ r) ⌝ }
-{
-    if a < b { b } else { a }
-}
-
-// So many bytes are looked at side by side: a compiler turns a row of them into a few wide instructions.
-const COLUMNS: usize = 128;
-
-// Raises each column to the byte that stands in it, in the row of bytes at a place.
-fn raise(columns: &mut [u8; 128], s: &[u8], at: usize)
-    requires { ⌜ (length (now columns) ≡ 128) × (at + 128 ≤ length (now s)) ⌝ }
-    ensures { λ _. ⌜ Raised (now (s .entry)) at 128 (now (columns .entry)) (now (columns .exit)) ⌝ }
-{
-    let mut j: usize = 0;
-    while j < COLUMNS {
-        columns[j] = greater(columns[j], s[at + j]);
-        j += 1;
-    }
-}
-
-// Raises each column to the greatest byte that stands in it, over 4,096 pairs of bytes.
-fn raise_all(columns: &mut [u8; 128], s: &[u8])
-    requires { ⌜ (length (now columns) ≡ 128) × (8192 ≤ length (now s)) ⌝ }
-    ensures { λ _. ⌜ Reached (now (s .entry)) 8192 (now (columns .exit)) ⌝ }
-{
-    let mut at: usize = 0;
-    while at < 2 * NODES {
-        raise(columns, s, at);
-        at += COLUMNS;
-    }
-}
-
-// The greatest of every second column, the first one or the second on.
-fn greatest_of(columns: &[u8; 128], first: usize) -> u8
-    requires { ⌜ first < 2 ⌝ }
-    ensures { λ r. ⌜ NoneAbove 64 (now (columns .entry)) first r ⌝ }
-{
-    let mut most: u8 = 0;
-    let mut i: usize = 0;
-    while i < COLUMNS / 2 {
-        most = greater(most, columns[2 * i + first]);
-        i += 1;
-    }
-    most
-}
-
 // Whether every id up to a bound is marked as mapped.
 fn marked_upto(ids: &[u8; 65536], bound: usize) -> bool
     requires { ⌜ bound < 65536 ⌝ }
@@ -166,7 +120,7 @@ fn marked_upto(ids: &[u8; 65536], bound: usize) -> bool
     true
 }
 
-// Servers number a block's ids from 0 on, with no gap: where every id up to the greatest is mapped there is no stray, and no node is looked up.
+// Servers number a block's ids from 0 on, with no gap: where every id up to a bound is mapped there is no stray, and no node is looked up.
 // False says nothing.
 fn all_mapped(version: u8, s: &[u8], ids: &[u8; 65536]) -> bool
     requires { ⌜ 4096 * width version + 8192 ≤ length (now s) ⌝ }
@@ -175,9 +129,7 @@ fn all_mapped(version: u8, s: &[u8], ids: &[u8; 65536]) -> bool
     if version < 24 {
         return false;
     }
-    let mut columns = [0u8; 128];
-    raise_all(&mut columns, s);
-    marked_upto(ids, greatest_of(&columns, 0) as usize * 256 + greatest_of(&columns, 1) as usize)
+    marked_upto(ids, id_bound(s))
 }
 
 // Whether bytes hold the three lists.

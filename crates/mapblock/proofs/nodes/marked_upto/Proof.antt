@@ -2,10 +2,9 @@
 use Prim.Native.Nat.{ℕ, _+_, _-_, _<_, _≤_}
 use mathlib.Core.Path.{_≡_}
 use native.Mathlib.Omega.{arith}
-use borrow.Author.Needs.{needs}
 use denote.Ref.{now}
 use lib.ListN.{getD}
-use Rattle.mapblock.proofs.Strays.{one-more}
+use Rattle.mapblock.proofs.Bounds.{one-more}
 use Rattle.mapblock.proofs.nodes.marked_upto.Statement.{statement}
 use Rattle.mapblock.proofs.nodes.marked_upto.Tie as tie
 

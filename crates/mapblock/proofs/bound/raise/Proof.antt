@@ -1,13 +1,12 @@
 -- The invariant: the columns before j are raised.
-use Prim.Native.Nat.{_+_, _-_, _≤_}
+use Prim.Native.Nat.{_-_, _≤_}
 use mathlib.Core.Path.{_≡_}
 use native.Mathlib.Omega.{arith}
 use borrow.Author.Needs.{needs}
-use denote.Ref.{now}
-use Rattle.mapblock.specs.Params.{Raised}
-use Rattle.mapblock.proofs.Strays.{raised-none, raised-one}
-use Rattle.mapblock.proofs.nodes.raise.Statement.{statement}
-use Rattle.mapblock.proofs.nodes.raise.Tie as tie
+use Rattle.mapblock.specs.Bounds.{Raised}
+use Rattle.mapblock.proofs.Bounds.{raised-none, raised-one}
+use Rattle.mapblock.proofs.bound.raise.Statement.{statement}
+use Rattle.mapblock.proofs.bound.raise.Tie as tie
 
 abbrev Inv-loop : tie.InvT-loop
 Inv-loop columns₀ s at j₀ columns j = (j ≤ 128) × Raised s at j columns₀ columns

@@ -1,13 +1,11 @@
 -- The invariant: no byte before `at` is above its column.
-use Prim.Native.Nat.{_+_, _-_, _%_, _≤_}
+use Prim.Native.Nat.{_-_, _%_, _≤_}
 use mathlib.Core.Path.{_≡_}
 use native.Mathlib.Omega.{arith}
-use borrow.Author.Needs.{needs}
-use denote.Ref.{now}
-use Rattle.mapblock.specs.Params.{Reached}
-use Rattle.mapblock.proofs.Strays.{reached-none, reached-row}
-use Rattle.mapblock.proofs.nodes.raise_all.Statement.{statement}
-use Rattle.mapblock.proofs.nodes.raise_all.Tie as tie
+use Rattle.mapblock.specs.Bounds.{Reached}
+use Rattle.mapblock.proofs.Bounds.{reached-none, reached-row}
+use Rattle.mapblock.proofs.bound.raise_all.Statement.{statement}
+use Rattle.mapblock.proofs.bound.raise_all.Tie as tie
 
 abbrev Inv-loop : tie.InvT-loop
 Inv-loop columns₀ s at₀ columns at = (at ≤ 8192) × (at % 128 ≡ 0) × Reached s at columns

@@ -1,13 +1,13 @@
 -- The invariant: no column of the pairs before i is above what was found.
-use Prim.Native.Nat.{ℕ, _+_, _-_, _*_, _<_, _≤_}
+use Prim.Native.Nat.{_+_, _-_, _*_, _≤_}
 use native.Mathlib.Omega.{arith}
 use borrow.Author.Needs.{needs}
 use denote.Ref.{now}
 use lib.ListN.{getD}
-use Rattle.mapblock.specs.Params.{NoneAbove}
-use Rattle.mapblock.proofs.Strays.{one-more}
-use Rattle.mapblock.proofs.nodes.greatest_of.Statement.{statement}
-use Rattle.mapblock.proofs.nodes.greatest_of.Tie as tie
+use Rattle.mapblock.specs.Bounds.{NoneAbove}
+use Rattle.mapblock.proofs.Bounds.{one-more}
+use Rattle.mapblock.proofs.bound.greatest_of.Statement.{statement}
+use Rattle.mapblock.proofs.bound.greatest_of.Tie as tie
 
 abbrev Inv-loop : tie.InvT-loop
 Inv-loop columns first most₀ i₀ most i = (i ≤ 64) × NoneAbove i columns first most
