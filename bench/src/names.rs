@@ -3,7 +3,7 @@
 use crate::random::Random;
 
 /// Names of a world without mods; the first four make the layers of the ground.
-pub const POOL: [&str; 60] = [
+const POOL: [&str; 60] = [
     "default:stone",
     "default:dirt",
     "default:dirt_with_grass",

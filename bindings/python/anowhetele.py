@@ -315,6 +315,7 @@ def write(block: Block, nodes: Nodes, room: Optional[int] = None) -> bytes:
     Refused: 2; 12 where the parts do not fit; what the reader would say of the bytes (3 to 6 and 8); 11."""
     parts = [_bytes(part) for part in block[1:]]
     if room is None:
+        # four bytes for each node, and beside the rows some forty more
         room = 5 * NODES + sum(map(len, parts))
     out = ctypes.create_string_buffer(room)
     param0 = array('H', nodes.param0)

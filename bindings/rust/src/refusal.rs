@@ -3,7 +3,7 @@ use crate::raw;
 use std::error::Error;
 use std::fmt;
 
-/// Why a call was refused: the numbers of document 01. Later versions of the format bring more.
+/// Why a call was refused: the numbers of document 01, to which others may be added.
 // numbers: made by bindings/make from bindings/numbers.txt
 #[derive(Clone, Copy, Debug, PartialEq, Eq, Hash)]
 #[non_exhaustive]
@@ -143,26 +143,24 @@ impl fmt::Display for Refused {
 
 impl Error for Refused {}
 
-/// For answers that tell a number alone.
-pub(crate) fn judge(number: u32) -> Result<(), Refused> {
+fn judged(number: u32, offset: u64, record: Option<u32>) -> Result<(), Refused> {
     match number {
         0 => Ok(()),
-        _ => Err(Refused::new(number, 0, None)),
+        _ => Err(Refused::new(number, offset, record)),
     }
+}
+
+/// For answers that tell a number alone.
+pub(crate) fn judge(number: u32) -> Result<(), Refused> {
+    judged(number, 0, None)
 }
 
 /// The length told, for answers about one block, part or tally.
 pub(crate) fn told(answer: raw::Answer) -> Result<usize, Refused> {
-    match answer.number {
-        0 => Ok(answer.length as usize),
-        number => Err(Refused::new(number, answer.offset, None)),
-    }
+    judged(answer.number, answer.offset, None).map(|()| answer.length as usize)
 }
 
 /// The same for a sheet, whose refusals have a record.
 pub(crate) fn told_of_sheet(answer: raw::Answer) -> Result<usize, Refused> {
-    match answer.number {
-        0 => Ok(answer.length as usize),
-        number => Err(Refused::new(number, answer.offset, Some(answer.record))),
-    }
+    judged(answer.number, answer.offset, Some(answer.record)).map(|()| answer.length as usize)
 }

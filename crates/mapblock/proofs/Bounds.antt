@@ -22,7 +22,7 @@ one-more P n below here k h =
     (below k)
 
 -- a column that is set to no less is above what it was, and the others stay
-pub set-above : (l : List ℕ) (j : ℕ) (x : ℕ) → j < length l → getD l j 0 ≤ x → (k : ℕ) → getD l k 0 ≤ getD (set l j x) k 0
+set-above : (l : List ℕ) (j : ℕ) (x : ℕ) → j < length l → getD l j 0 ≤ x → (k : ℕ) → getD l k 0 ≤ getD (set l j x) k 0
 set-above l j x h g k = go (eqb j k) refl
   where
     go : (b : Bool) → eqb j k ≡ b → getD l k 0 ≤ getD (set l j x) k 0
@@ -58,7 +58,7 @@ pub reached-none : (s : List ℕ) {columns : List ℕ} → length columns ≡ 12
 reached-none s h = record { long = h; reaches = λ i k. absurd (omega arith) }
 
 -- what no column is above, no pair of bytes is above
-pub pairs-within : (s columns : List ℕ) (first most : ℕ) → first < 2 → Reached s 8192 columns → NoneAbove 64 columns first most → NoneAbove 4096 s first most
+pairs-within : (s columns : List ℕ) (first most : ℕ) → first < 2 → Reached s 8192 columns → NoneAbove 64 columns first most → NoneAbove 4096 s first most
 pairs-within s columns first most f r n i h =
     let j : (2 * i + first) % 128 ≡ 2 * (i % 64) + first = omega arith in
     omega (arith, rw j at (r .reaches (2 * i + first) (omega arith)), n (i % 64) (omega arith))

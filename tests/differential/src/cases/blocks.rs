@@ -3,6 +3,7 @@
 use crate::compare::Compare;
 use crate::make::blocks::{self, MadeBlock};
 use crate::make::{damage, lots};
+use anowhetele::raw::{Lot, Span};
 
 /// A good block, asked everything; rooms for its tally are aimed at its length.
 pub fn good(compare: &mut Compare) {
@@ -16,7 +17,7 @@ pub fn good(compare: &mut Compare) {
         tally(compare, &made, &made.bytes);
     }
     let key = lots::key_of(lots::block_coordinates(&mut compare.random));
-    let whole = (lots::WORLD, lots::ALL_TIME);
+    let whole = (Lot::WORLD, Span::ALL_TIME);
     let (_, result) = compare.tally_block(key, &made.bytes, whole, 200_000);
     let room = around(compare, result.len());
     compare.tally_block(key, &made.bytes, whole, room);

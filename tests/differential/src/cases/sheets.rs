@@ -4,6 +4,7 @@ use super::blocks::around;
 use crate::compare::Compare;
 use crate::make::lots;
 use crate::make::sheets::{self, MadeSheet};
+use anowhetele::raw::{Lot, Span};
 
 pub fn sheets(compare: &mut Compare) {
     if compare.random.one_in(2) {
@@ -22,7 +23,7 @@ pub fn sheets(compare: &mut Compare) {
 
 /// Rooms at the length of the whole tally and beside it, spares as long or a byte shorter.
 fn rooms(compare: &mut Compare, sheet: &MadeSheet) {
-    let whole = (lots::WORLD, lots::ALL_TIME);
+    let whole = (Lot::WORLD, Span::ALL_TIME);
     let (_, result) = compare.tally_sheet(&sheet.bytes, whole, 50_000, 50_000);
     let room = around(compare, result.len());
     let spare = match compare.random.below(4) {

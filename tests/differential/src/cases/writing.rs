@@ -176,7 +176,7 @@ fn double_section(random: &mut Random, parts: &mut OwnParts) {
     section.extend(again);
 }
 
-/// The first row's position, or id, at or above the greatest.
+/// The first row's position, at or above the greatest.
 fn spoil_position(random: &mut Random, parts: &mut OwnParts) {
     let which = random.pick(&[1, 3]);
     let section = &mut parts.sections()[which];

@@ -108,11 +108,20 @@ fn few_names(random: &mut Random, version: u8) -> Vec<(u16, Vec<u8>)> {
         90..=98 => 20 + random.below(60),
         _ => 200 + random.below(800),
     };
+    let ids = few_ids(random, version, count as u16);
+    ids.into_iter().map(|id| (id, names::name(random))).collect()
+}
+
+/// From 0 on with no gap, as servers number them, or up to so many of any.
+fn few_ids(random: &mut Random, version: u8, count: u16) -> Vec<u16> {
+    if random.one_in(2) && (version >= 24 || count <= 128) {
+        return (0..count).collect();
+    }
     let ids: HashSet<u16> = (0..count).map(|_| node_id(random, version)).collect();
     let mut ids: Vec<u16> = ids.into_iter().collect();
     // A set has an order of its own in each run; the case's must be the same in all.
     ids.sort_unstable();
-    ids.into_iter().map(|id| (id, names::name(random))).collect()
+    ids
 }
 
 /// More names than a block has nodes, all different, or up to version 23 as many as there are ids.

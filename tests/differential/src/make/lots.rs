@@ -39,13 +39,10 @@ pub fn any_coordinate(random: &mut Random) -> i32 {
     }
 }
 
-pub const WORLD: Lot = Lot { x0: -32_768, y0: -32_768, z0: -32_768, x1: 32_767, y1: 32_767, z1: 32_767 };
-pub const ALL_TIME: Span = Span { from: 0, until: 0xffff_ffff };
-
 /// A good lot, near the block at some coordinates.
 pub fn good_lot(random: &mut Random, coordinates: [i32; 3]) -> Lot {
     match random.below(8) {
-        0 | 1 => WORLD,
+        0 | 1 => Lot::WORLD,
         2 => {
             let [x, y, z] = coordinates.map(|block| 16 * block + random.below(16) as i32);
             Lot { x0: x, y0: y, z0: z, x1: x, y1: y, z1: z }
