@@ -17,6 +17,7 @@ pub mod Walking
 pub mod SheetPuts
 -- When a part is tallied, and what its tally counts.
 pub mod Exactness
+pub mod Positions
 pub mod NamesAlone
 pub mod ShutOut
 -- The program.

@@ -121,7 +121,7 @@ pub sheet-behind : (n : ℕ) (t : List ℕ) → n < 256 ^ 4 → sheetOf (sheetHe
 sheet-behind n t h = sheet-on (sheetHead .encode n ++ t) (sheetHead .forward n (ok-head n h) t) ∙ ap (recordsFrom n 0 none) (drop-append-seam (sheetHead .encode n) t)
 
 -- a sheet that is taken has a head, and records that are taken
-sheet-opened : (s : List ℕ) (l : List Placed) → sheetOf s ≡ good l → (n : ℕ) × (k : ℕ) × (sheetHead .read s ≡ done n k) × (recordsFrom n 0 none (drop k s) ≡ good l)
+pub sheet-opened : (s : List ℕ) (l : List Placed) → sheetOf s ≡ good l → (n : ℕ) × (k : ℕ) × (sheetHead .read s ≡ done n k) × (recordsFrom n 0 none (drop k s) ≡ good l)
 sheet-opened s l h = go (sheetHead .read s) refl
   where
     go : (x : Read Misframed ℕ) → sheetHead .read s ≡ x → (n : ℕ) × (k : ℕ) × (sheetHead .read s ≡ done n k) × (recordsFrom n 0 none (drop k s) ≡ good l)

@@ -1,4 +1,5 @@
--- Tallying that is exact is neither always empty nor always refused, and invents nothing: shown by the shortest block of air at key 0.
+-- Tallying that is exact is neither always empty nor always refused, and invents nothing; and where the cut law holds over it, merging neither
+-- does nothing nor refuses all. Shown by the shortest block of air at key 0.
 use Prim.Native.Nat.{ℕ, _<_, _≤_}
 use mathlib.Core.Path.{_≡_, refl, ap}
 use mathlib.Core.Bool.{true, false}
@@ -7,10 +8,10 @@ use mathlib.Core.Option.{Option, Option·getD}
 use native.Mathlib.Omega.{arith}
 use lib.Dec.{lit<, lit≤}
 use lib.IntN.{pos}
-use lib.ListN.{length}
+use lib.ListN.{length, take, length-replicate}
 use Rattle.wire.specs.Bytes.{Bytes}
 use Rattle.wire.specs.Choice.{yes-and}
-use Rattle.wire.specs.Answer.{good, mapAnswer}
+use Rattle.wire.specs.Answer.{Answer, good, refusal, mapAnswer}
 use Rattle.position.specs.Keys.{between, moved, isKey, splitOf}
 use Rattle.position.specs.Nodes.{isBlock}
 use Rattle.position.specs.Lots.{axis, world}
@@ -26,12 +27,15 @@ use Rattle.mapblock.proofs.Taken.{airAt, air-valid}
 use Rattle.wire.specs.Order.{order, order-refl}
 use Rattle.tally.specs.Rows.{choose, countIn}
 use Rattle.tally.specs.Tally.{tally}
-use Rattle.tally.specs.Theorems.{rowsIn}
+use Rattle.tally.specs.Theorems.{Merger, here as front, stop, done, refused, rowsIn}
+use Rattle.tally.specs.Theorems as merging
 use Rattle.tally.proofs.Held.{rows-of-tally}
+use Rattle.tally.proofs.MergeLaw.{zeros, zeros-none}
 use Rattle.meter.specs.Standing.{Part, Placed, Node, inPart, nodeOf, nodesFrom, those, nodesIn}
 use Rattle.meter.specs.Counting.{amountOf, byOne}
 use Rattle.meter.specs.Tallying.{placed, placedAt}
-use Rattle.meter.specs.Theorems.{Source, one-block, blocksOf, Talliable, ShutOut}
+use Rattle.meter.specs.Cuts.{at-second, lower, upper, Cuts, uncut, cut}
+use Rattle.meter.specs.Theorems.{Source, one-block, blocksOf, Tallier, Gives, Talliable, Exact, AllGive, EveryCut, ShutOut, MergeShutOut}
 use Rattle.meter.proofs.Blocks.{valid-block, held}
 use Rattle.meter.proofs.Exactness.{fits-in-own}
 use Rattle.meter.proofs.NamesAlone.{standing-one}
@@ -127,3 +131,49 @@ shut-out f e =
           let same : c .0 ≡ h .l = cc (c .1, h .taken) in
           h .differs (rw (← same) (c .2 (h .name))),
     )
+
+-- ---- what the cut law shuts out: all time cut at second 0 leaves two parts, and their merge must be the whole's tally
+abbrev early : Part
+early = lower (at-second 0) everywhere
+
+abbrev late : Part
+late = upper (at-second 0) everywhere
+
+in-two : Cuts everywhere (early ∷ late ∷ [])
+in-two = cut [] everywhere [] (at-second 0) uncut refl
+
+-- a merge of the two parts' tallies, into zeros
+module _ (f : Tallier) (g : Merger) (t a b : List ℕ) (e : Exact byOne f) (law : EveryCut byOne f g)
+    (whole : Gives f room source everywhere t) (parts : AllGive byOne f room source (early ∷ late ∷ []) (a ∷ b ∷ [])) where
+  out-long : length (zeros room) ≡ room
+  out-long = length-replicate room 0
+
+  not-refused : {n r o : ℕ} → g a b (zeros room) .0 ≡ refusal n r o → ⊥
+  not-refused {n} h =
+      let x = law room source everywhere (early ∷ late ∷ []) are-bytes in-two .merges t a b [] 0 (n ∷ []) _ whole parts (refused front front out-long h stop) .0 in
+      let z : _≡_ {A = ℕ} 0 1 = cc in omega arith
+
+  not-idle : (r : Answer ℕ) → g a b (zeros room) .0 ≡ r → g a b (zeros room) .1 ≡ zeros room → ⊥
+  not-idle (refusal n r o) h k = not-refused h
+  not-idle (good n) h k =
+      let x = law room source everywhere (early ∷ late ∷ []) are-bytes in-two .merges t a b [] 1 [] _ whole parts (done front front out-long h stop) .1 refl in
+      let same : t ≡ take n (zeros room) = cc in
+      let c = e .counts room source everywhere t are-bytes whole in
+      let l : c .0 ≡ here ∷ [] = cc (c .1, taken) in
+      let none : countIn (byOne .kind .counts) (rowsIn (byOne .kind) t) first-name ≡ 0 = rw (same, zeros-none (byOne .kind) room n) in
+      let some : 1 ≤ countIn (byOne .kind .counts) (rowsIn (byOne .kind) t) first-name = rw (c .2 first-name, l) counted in
+      omega arith
+
+pub merge-shut-out : MergeShutOut byOne
+merge-shut-out f g e law =
+    let w = e .tallied-where room source everywhere are-bytes .1 can in
+    let p = law room source everywhere (early ∷ late ∷ []) are-bytes in-two .exactly .0 w in
+    go (w .0) (w .1) (p .0) (p .1)
+  where
+    go : (t : List ℕ) → Gives f room source everywhere t → (ts : List (List ℕ)) → AllGive byOne f room source (early ∷ late ∷ []) ts
+        → (merging.DoesNothing (byOne .kind) g → ⊥) × (merging.RefusesAll (byOne .kind) g → ⊥)
+    go t w [] p = absurd p
+    go t w (a ∷ []) p = absurd (p .1)
+    go t w (a ∷ b ∷ []) p =
+        (λ idle. not-idle f g t a b e law w p _ refl (idle _ _ _), λ refuses. not-refused f g t a b e law w p (refuses _ _ _ .3))
+    go t w (a ∷ b ∷ c ∷ ts) p = absurd (p .1 .1)

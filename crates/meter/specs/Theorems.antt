@@ -20,7 +20,8 @@ use Rattle.mapblock.specs.Valid.{Valid}
 use Rattle.tally.specs.Rows.{countIn}
 use Rattle.tally.specs.Tally.{tally}
 use Rattle.tally.specs.Theorems.{Merger, merged, Merges, MergeLaw, EmptyChangesNothing, rowsIn, sumOf, Fits}
-use Rattle.meter.specs.Standing.{Part, goodPart, Placed, nodesIn}
+use Rattle.tally.specs.Theorems as merging
+use Rattle.meter.specs.Standing.{Part, goodPart, Placed, Node, nodesIn}
 use Rattle.meter.specs.Counting.{Measure, tallyOf, amountOf, byOne}
 use Rattle.meter.specs.Tallying.{thenAnswer, placedAt, tallyBlockOf}
 use Rattle.meter.specs.Sheet.{Misframed, SheetRecord, frame, sheetHead, sheet, sheetOf, tallySheetOf}
@@ -91,6 +92,19 @@ abbrev pub IsBytes : Source → Type 0
 IsBytes (one-block key s) = Bytes s
 IsBytes (whole-sheet s spare) = Bytes s
 
+-- ---- a node position is counted once: no two nodes of what stands in a part have one place
+abbrev pub Elsewhere : Node → List Node → Type 0
+Elsewhere n [] = Unit {0}
+Elsewhere n (x ∷ l) = (n .place ≡ x .place → ⊥) × Elsewhere n l
+
+abbrev pub Apart : List Node → Type 0
+Apart [] = Unit {0}
+Apart (n ∷ l) = Elsewhere n l × Apart l
+
+abbrev pub PositionsApart : Type 0
+PositionsApart = (x : Source) (p : Part) (l : List Placed) → blocksOf x ≡ good l → Apart (nodesIn p l)
+
+-- ---- tallying
 -- what tallying a part answers, and what the output lent holds then
 abbrev pub Tallier : Type 0
 Tallier = Source → Part → List ℕ → Answer ℕ × List ℕ
@@ -151,15 +165,19 @@ module _ (m : Measure) where
         → Gives f room x whole t → AllGive f room x parts (a ∷ b ∷ more) → Merges g room (a ∷ b ∷ more) made log left
         → (log ≡ []) × (suc made ≡ length (a ∷ b ∷ more) → left ≡ t ∷ [])
 
+  -- for every block or sheet and every list of cuts
+  abbrev pub EveryCut : Tallier → Merger → Type 0
+  EveryCut f g = (room : ℕ) (x : Source) (whole : Part) (parts : List Part) → IsBytes x → Cuts whole parts → CutLaw f g room x whole parts
+
   -- of any list of parts in which each node of the whole lies in exactly one
   abbrev pub PartitionLaw : Tallier → Merger → Type 0
   PartitionLaw f g = (room : ℕ) (x : Source) (whole p : Part) (ps : List Part) → IsBytes x → Partition whole (p ∷ ps) → CutLaw f g room x whole (p ∷ ps)
 
-  -- Demand 3: the merge law, that the empty tally changes nothing, and the cut law for every block or sheet and every list of cuts.
+  -- Demand 3: the merge law, that the empty tally changes nothing, and the cut law.
   pub record Demand3 : Type 0 where
     pub merges : MergeLaw (m .kind)
     pub empty : EmptyChangesNothing (m .kind)
-    pub cuts : (room : ℕ) (x : Source) (whole : Part) (parts : List Part) → IsBytes x → Cuts whole parts → CutLaw tallied (merged (m .kind)) room x whole parts
+    pub cuts : EveryCut tallied (merged (m .kind))
 
   -- ---- what may not slip through: document 01, the section of that name
   abbrev pub AlwaysEmpty : Tallier → Type 0
@@ -184,6 +202,10 @@ module _ (m : Measure) where
   -- tallying that is exact does none of this
   abbrev pub ShutOut : Type 0
   ShutOut = (f : Tallier) → Exact f → (AlwaysEmpty f → ⊥) × (RefusesAll f → ⊥) × (Invents f → ⊥)
+
+  -- and with the cut law over it, the merge neither does nothing nor refuses all
+  abbrev pub MergeShutOut : Type 0
+  MergeShutOut = (f : Tallier) (g : Merger) → Exact f → EveryCut f g → (merging.DoesNothing (m .kind) g → ⊥) × (merging.RefusesAll (m .kind) g → ⊥)
 
 -- ---- names and nothing else
 -- Blocks that bear the same name at every node get the same answer, at one key and for every part that both or neither is saved within.

@@ -3,10 +3,12 @@ use Prim.Native.Nat.{ℕ, zero, suc, _+_, _≤_}
 use mathlib.Core.Path.{_≡_, refl, sym, ap, subst, _∙_}
 use mathlib.Core.List.{List, [], _∷_}
 use mathlib.Core.Logic.{_⊎_}
-use mathlib.Core.Option.{some}
+use mathlib.Core.Option.{Option, some, none, Option·none-ne-some}
 use native.Mathlib.Omega.{arith}
-use lib.ListN.{length, take}
+use lib.Dec.{lit<}
+use lib.ListN.{length, take, replicate}
 use lib.Seq.{take-append-seam}
+use Rattle.wire.specs.Bytes.{Bytes, bytes-nil, bytes-cons, bytes-take}
 use Rattle.wire.specs.Answer.{Answer, good, refusal, mapAnswer, lent, no-good, noRoom, tooMany}
 use Rattle.tally.specs.Rows.{plus, countIn, Canonical}
 use Rattle.tally.specs.Tally.{Kind, KindRows, tally, rowsOf}
@@ -207,17 +209,26 @@ empty-changes-nothing k t room h f =
     let g : tallied k room l ≡ good t = tallied-good k room l (o .counts, subst (λ (x : List ℕ). length x ≤ room) (o .bytes) f) ∙ ap good (sym (o .bytes)) in
     (merge-both k room t (empty k) e (no-rows k) ∙ rw (plus-unit (k .counts) l (o .canonical)) g, merge-both k room (empty k) t (no-rows k) e ∙ g)
 
--- ---- what the law shuts out, by two empty tallies and an output of as many zeros
-abbrev zeros : List ℕ
-zeros = 0 ∷ 0 ∷ 0 ∷ 0 ∷ 0 ∷ 0 ∷ 0 ∷ 0 ∷ 0 ∷ []
+-- ---- what the law shuts out, by two empty tallies and an output of zeros
+abbrev pub zeros : ℕ → List ℕ
+zeros n = replicate n 0
 
--- a tally starts with its mark
-not-zeros : (k : Kind) (n : ℕ) → take n zeros ≡ empty k → ⊥
-not-zeros k n e = go n (e ∙ tally-bytes k [])
+zeros-bytes : (n : ℕ) → Bytes (zeros n)
+zeros-bytes zero = bytes-nil
+zeros-bytes (suc n) = bytes-cons 0 (zeros n) (lit< tt) (zeros-bytes n)
+
+-- zeros are no tally, which starts with its mark
+pub zeros-none : (k : Kind) (room n : ℕ) → rowsOf k (take n (zeros room)) ≡ none
+zeros-none k room n = go (rowsOf k (take n (zeros room))) refl
   where
-    go : (n : ℕ) {t : List ℕ} → take n zeros ≡ 84 ∷ t → ⊥
-    go zero e = let z : _≡_ {A = ℕ} 0 1 = cc in omega arith
-    go (suc n) e = let z : _≡_ {A = ℕ} 0 84 = cc in omega arith
+    marked : (room n : ℕ) {t : List ℕ} → take n (zeros room) ≡ 84 ∷ t → ⊥
+    marked room zero e = let z : _≡_ {A = ℕ} 0 1 = cc in omega arith
+    marked zero (suc n) e = let z : _≡_ {A = ℕ} 0 1 = cc in omega arith
+    marked (suc room) (suc n) e = let z : _≡_ {A = ℕ} 0 84 = cc in omega arith
+
+    go : (o : Option (KindRows k)) → rowsOf k (take n (zeros room)) ≡ o → rowsOf k (take n (zeros room)) ≡ none
+    go none e = e
+    go (some l) e = absurd (marked room n (opened k (take n (zeros room)) l (bytes-take n (zeros room) (zeros-bytes room)) e .bytes ∙ tally-bytes k l))
 
 module _ (k : Kind) (m : Merger) (law : MergeLawOf k m) where
   two-empty : AllTallies k (empty k ∷ empty k ∷ [])
@@ -226,17 +237,18 @@ module _ (k : Kind) (m : Merger) (law : MergeLawOf k m) where
   no-sum : sumOf k (empty k ∷ empty k ∷ []) ≡ []
   no-sum = rw (no-rows k)
 
-  not-refused : {n r o : ℕ} → m (empty k) (empty k) zeros .0 ≡ refusal n r o → ⊥
+  not-refused : {n r o : ℕ} → m (empty k) (empty k) (zeros 9) .0 ≡ refusal n r o → ⊥
   not-refused {n} e =
       let fits : Fits k 9 (sumOf k (empty k ∷ empty k ∷ [])) = rw no-sum (refl, omega (arith, tally-size k [])) in
-      let none = law 9 (empty k) (empty k) [] 0 (n ∷ []) _ two-empty (refused here here refl e stop) .none-refused fits in
+      let nothing = law 9 (empty k) (empty k) [] 0 (n ∷ []) _ two-empty (refused here here refl e stop) .none-refused fits in
       let z : _≡_ {A = ℕ} 0 1 = cc in omega arith
 
-  not-idle : (r : Answer ℕ) → m (empty k) (empty k) zeros .0 ≡ r → m (empty k) (empty k) zeros .1 ≡ zeros → ⊥
+  not-idle : (r : Answer ℕ) → m (empty k) (empty k) (zeros 9) .0 ≡ r → m (empty k) (empty k) (zeros 9) .1 ≡ zeros 9 → ⊥
   not-idle (refusal n r o) e f = not-refused e
   not-idle (good n) e f =
       let one = law 9 (empty k) (empty k) [] 1 [] _ two-empty (done here here refl e stop) .one-left _ refl in
-      not-zeros k n (ap (take n) (sym f) ∙ one .1 ∙ ap (tally k .encode) no-sum)
+      let same : take n (zeros 9) ≡ empty k = ap (take n) (sym f) ∙ one .1 ∙ ap (tally k .encode) no-sum in
+      Option·none-ne-some [] (sym (zeros-none k 9 n) ∙ ap (rowsOf k) same ∙ no-rows k)
 
 pub shut-out : (k : Kind) → ShutOut k
 shut-out k m law = (λ idle. not-idle k m law _ refl (idle _ _ _), λ refuses. not-refused k m law (refuses _ _ _ .3))
