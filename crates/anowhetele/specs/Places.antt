@@ -1,8 +1,7 @@
 -- Keys, lots and spans as a host is handed them: the number, and the values, which are 0 on a refusal.
 use Prim.Native.Nat.{ℕ}
-use mathlib.Core.Bool.{Bool}
+use mathlib.Core.Bool.{Bool, cond}
 use lib.IntN.{ℤ, pos}
-use Rattle.wire.specs.Choice.{pick}
 use Rattle.wire.specs.Answer.{Answer, good, refusal, plain, badPart}
 use Rattle.position.specs.declared.key.Coordinates.{Coordinates}
 use Rattle.position.specs.declared.lot.Lot.{Lot}
@@ -15,7 +14,7 @@ use Rattle.anowhetele.specs.declared.places.AnowInside.{AnowInside}
 
 -- membership, asked of a good lot or span alone
 abbrev pub asked : Bool → Bool → Answer Bool
-asked fit has = pick fit (good has) (plain badPart)
+asked fit has = cond fit (good has) (plain badPart)
 
 abbrev pub lotHas : Lot → ℤ → ℤ → ℤ → Answer Bool
 lotHas l x y z = asked (goodLot l) (inLot l x y z)
@@ -32,5 +31,5 @@ handedCoordinates (good c) = record { number = 0; x = c .x; y = c .y; z = c .z }
 handedCoordinates (refusal n r o) = record { number = n; x = pos 0; y = pos 0; z = pos 0 }
 
 abbrev pub handedInside : Answer Bool → AnowInside
-handedInside (good b) = record { number = 0; inside = pick b 1 0 }
+handedInside (good b) = record { number = 0; inside = cond b 1 0 }
 handedInside (refusal n r o) = record { number = n; inside = 0 }

@@ -1,6 +1,6 @@
 -- A table that is cleared by the rows of names that it was counted for.
-use Prim.Native.Nat.{ℕ, zero, suc, _+_, _-_, _≤_, _<_}
-use mathlib.Core.Path.{_≡_, refl, ap, sym, subst, _∙_}
+use Prim.Native.Nat.{ℕ, zero, suc, _-_, _≤_, _<_}
+use mathlib.Core.Path.{_≡_, refl, ap, sym, _∙_}
 use mathlib.Core.Bool.{Bool, true, false}
 use mathlib.Core.List.{List, [], _∷_}
 use mathlib.Core.Logic.{_⊎_, inl, inr}
@@ -12,19 +12,17 @@ use borrow.Author.Tests.{eqb-true, eqb-false, ne-eqb, ltb-true, ltb-false}
 use Rattle.wire.specs.Choice.{and-no}
 use Rattle.wire.specs.Lists.{rest-is}
 use Rattle.wire.specs.Bytes.{Bytes, bytes-drop}
-use Rattle.wire.specs.Read.{done, refused, mapRead, never}
+use Rattle.wire.specs.Read.{done, mapRead}
 use Rattle.position.specs.declared.key.Coordinates.{Coordinates}
 use Rattle.position.specs.declared.lot.Lot.{Lot}
 use Rattle.mapblock.specs.Data.{NameRow}
 use Rattle.mapblock.specs.Layout.{all, nameRow}
 use Rattle.mapblock.specs.Params.{idIn}
 use Rattle.mapblock.specs.Rows.{nameFields}
-use Rattle.mapblock.specs.Table.{unmarked}
-use Rattle.mapblock.specs.Questions.{NameRun}
+use Rattle.mapblock.specs.Table.{unmarked, allRows}
 use Rattle.mapblock.specs.Valid.{Has}
-use Rattle.mapblock.specs.declared.fault.Fault.{Fault}
 use Rattle.mapblock.specs.declared.names.NameFields.{NameFields}
-use Rattle.mapblock.proofs.NodeNames.{run-reads, run-rest, run-none, finding-start, row-size, row-inside}
+use Rattle.mapblock.proofs.NameWalks.{first-row}
 use Rattle.counters.specs.Counting.{inLotAt, inLotWith, Counted, byId, rowId}
 use Rattle.counters.proofs.Counts.{cnt-none}
 use Rattle.counters.proofs.Names.{by-id-bound}
@@ -32,48 +30,23 @@ use Rattle.counters.proofs.Names.{by-id-bound}
 -- ---- the walk over the rows
 -- Clearing the ids of the rows that are left gives what clearing all of them gives.
 pub record Clearing (names rest old t : List ℕ) : Type 0 where
-  pub left : (l : List NameRow) → NameRun names l → (m : List NameRow) × NameRun rest m × (unmarked t m ≡ unmarked old l)
+  pub left : unmarked t (allRows rest) ≡ unmarked old (allRows names)
   pub bytes : Bytes rest
 
-abbrev pub ClearedTo : List ℕ → List ℕ → List ℕ → Type 0
-ClearedTo names old t = (l : List NameRow) → NameRun names l → t ≡ unmarked old l
-
 pub clearing-start : (names old : List ℕ) → Bytes names → Clearing names names old old
-clearing-start names old w = record { left = λ l h. (l, h, refl); bytes = w }
+clearing-start names old w = record { left = refl; bytes = w }
 
 module _ {names rest old t : List ℕ} (f : Clearing names rest old t) where
-  pub clearing-end : length rest ≡ 0 → ClearedTo names old t
-  clearing-end z l h =
-      let x = f .left l h in
-      ap (unmarked t) (sym (run-none (x .0) (x .1) z)) ∙ x .2
+  pub clearing-none : allRows rest ≡ [] → t ≡ unmarked old (allRows names)
+  clearing-none e = ap (unmarked t) (sym e) ∙ f .left
 
-  pub clearing-refused : {e : Fault} {p : ℕ} → 0 < length rest → refused e p ≡ mapRead nameFields (nameRow all [] .read rest) → ClearedTo names old t
-  clearing-refused g k l h = let x = f .left l h in go (x .0) (x .1)
-    where
-      go : (m : List NameRow) → NameRun rest m → t ≡ unmarked old l
-      go [] y = absurd (omega (arith, ap (length {A = ℕ}) (y .bytes)))
-      go (r ∷ m) y = never (k ∙ ap (mapRead nameFields) (run-reads y))
-
-  module _ {row : NameFields} {n : ℕ} (k : done row n ≡ mapRead nameFields (nameRow all [] .read rest)) where
-    pub clearing-size : (4 ≤ n) × (n ≤ length rest)
-    clearing-size =
-        let g = finding-start rest 0 0 (f .bytes) in
-        (omega (arith, row-size g k), row-inside g k)
-
-    pub clearing-on : Clearing names (take (length rest - n) (drop n rest)) old (set t (row .id) 0)
-    clearing-on = rw (rest-is n rest) record {
-      left = λ l h. let x = f .left l h in go l (x .0) (x .1) (x .2);
-      bytes = bytes-drop n rest (f .bytes);
-    }
-      where
-        go : (l m : List NameRow) → NameRun rest m → unmarked t m ≡ unmarked old l
-            → (m : List NameRow) × NameRun (drop n rest) m × (unmarked (set t (row .id) 0) m ≡ unmarked old l)
-        go l [] y e = absurd (omega (arith, clearing-size, ap (length {A = ℕ}) (y .bytes)))
-        go l (r ∷ m) y e =
-            let same : done row n ≡ done (nameFields r) (4 + length (r .name)) = k ∙ ap (mapRead nameFields) (run-reads y) in
-            let size : 4 + length (r .name) ≡ n = cc in
-            let fields : row ≡ nameFields r = cc in
-            (m, subst (λ (i : ℕ). NameRun (drop i rest) m) size (run-rest y), ap (λ (w : NameFields). unmarked (set t (w .id) 0) m) fields ∙ e)
+  pub clearing-on : {row : NameFields} {n : ℕ} → done row n ≡ mapRead nameFields (nameRow all [] .read rest) → Clearing names (take (length rest - n) (drop n rest)) old (set t (row .id) 0)
+  clearing-on {row} {n} k =
+      let y = first-row rest (f .bytes) k in
+      rw (rest-is n rest) record {
+        left = ap (λ (w : NameFields). unmarked (set t (w .id) 0) (allRows (drop n rest))) (sym (y .fields)) ∙ ap (unmarked t) (sym (y .rows)) ∙ f .left;
+        bytes = bytes-drop n rest (f .bytes);
+      }
 
 -- ---- a table whose counters are 0 but for the mapped ids is cleared whole
 set-zero : (t : List ℕ) (i : ℕ) → getD (set t i 0) i 0 ≡ 0

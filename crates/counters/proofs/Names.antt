@@ -1,14 +1,13 @@
 -- From counters by content id to counts by name: two ids may share a name.
 use Prim.Native.Nat.{ℕ, zero, suc, _+_, _≤_, _<_}
 use mathlib.Core.Path.{_≡_, refl, sym, ap, _∙_}
-use mathlib.Core.Bool.{Bool, true, false, _&&_}
+use mathlib.Core.Bool.{Bool, true, false, cond, _&&_}
 use mathlib.Core.List.{List, [], _∷_}
 use mathlib.Core.Logic.{_⊎_, inl, inr}
 use native.Mathlib.Nat.{zero-add}
 use native.Mathlib.Omega.{arith}
 use lib.Dec.{eqb}
 use borrow.Author.Tests.{eqb-true, eqb-false, ne-eqb}
-use Rattle.wire.specs.Choice.{pick}
 use Rattle.wire.specs.Order.{order}
 use Rattle.wire.specs.declared.order.Order.{Order}
 use Rattle.wire.specs.declared.order.Order.the-variants.{Before, Same, After}
@@ -24,7 +23,7 @@ use Rattle.counters.proofs.Counts.{bit-le, cnt-le}
 -- the sum of f over the ids of those rows that pass the test
 unfoldable over : (NameRow → Bool) → (ℕ → ℕ) → List NameRow → ℕ
 over t f [] = 0
-over t f (r ∷ l) = pick (t r) (f (r .id)) 0 + over t f l
+over t f (r ∷ l) = cond (t r) (f (r .id)) 0 + over t f l
 
 -- the rows that bear a name
 abbrev naming : List ℕ → NameRow → Bool
@@ -36,7 +35,7 @@ count-over f [] n = refl
 count-over f (r ∷ l) n = go (order (r .name) n) (count-over f l n)
   where
     go : (o : Order) → countIn ones (told f l) n ≡ over (naming n) f l
-        → choose o 0 (f (r .id)) 0 + countIn ones (told f l) n ≡ pick (choose o false true false) (f (r .id)) 0 + over (naming n) f l
+        → choose o 0 (f (r .id)) 0 + countIn ones (told f l) n ≡ cond (choose o false true false) (f (r .id)) 0 + over (naming n) f l
     go Before e = omega arith
     go Same e = omega arith
     go After e = omega arith
@@ -52,7 +51,7 @@ module _ (t : NameRow → Bool) where
   over-zero [] = refl
   over-zero (r ∷ l) = go (t r) (over-zero l)
     where
-      go : (b : Bool) → over t (λ k. 0) l ≡ 0 → pick b 0 0 + over t (λ k. 0) l ≡ 0
+      go : (b : Bool) → over t (λ k. 0) l ≡ 0 → cond b 0 0 + over t (λ k. 0) l ≡ 0
       go true h = omega arith
       go false h = omega arith
 
@@ -62,7 +61,7 @@ module _ (t : NameRow → Bool) where
   over-add f g (r ∷ l) = go (t r) (over-add f g l)
     where
       go : (b : Bool) → over t (λ k. f k + g k) l ≡ over t f l + over t g l
-          → pick b (f (r .id) + g (r .id)) 0 + over t (λ k. f k + g k) l ≡ pick b (f (r .id)) 0 + over t f l + (pick b (g (r .id)) 0 + over t g l)
+          → cond b (f (r .id) + g (r .id)) 0 + over t (λ k. f k + g k) l ≡ cond b (f (r .id)) 0 + over t f l + (cond b (g (r .id)) 0 + over t g l)
       go true h = omega arith
       go false h = omega arith
 
@@ -71,11 +70,11 @@ module _ (t : NameRow → Bool) where
     abbrev spike : ℕ → ℕ
     spike i = bit (eqb k i)
 
-    away : (b : Bool) (i : ℕ) → eqb k i ≡ false → pick b (spike i) 0 ≡ 0
+    away : (b : Bool) (i : ℕ) → eqb k i ≡ false → cond b (spike i) 0 ≡ 0
     away true i e = ap bit e
     away false i e = refl
 
-    here : (b : Bool) (i : ℕ) → eqb k i ≡ true → pick b (spike i) 0 ≡ bit b
+    here : (b : Bool) (i : ℕ) → eqb k i ≡ true → cond b (spike i) 0 ≡ bit b
     here true i e = ap bit e
     here false i e = refl
 
@@ -107,7 +106,7 @@ over-own : (n : List ℕ) (k : ℕ) (l : List NameRow) → Distinct rowId l → 
 over-own n k (r ∷ l) d h = go (eqb k (r .id)) refl h (over-own n k l (d .1))
   where
     go : (b : Bool) → eqb k (r .id) ≡ b → (r .id ≡ k) ⊎ Has rowId k l → (Has rowId k l → over (naming n) (λ i. bit (eqb k i)) l ≡ bit (isNamed n (nameOf l k)))
-        → over (naming n) (λ i. bit (eqb k i)) (r ∷ l) ≡ bit (isNamed n (pick b (r .name) (nameOf l k)))
+        → over (naming n) (λ i. bit (eqb k i)) (r ∷ l) ≡ bit (isNamed n (cond b (r .name) (nameOf l k)))
     go true e x ih = over-here (naming n) k r l (d .0) e
     go false e (inl x) ih = absurd (eqb-false k (r .id) e (sym x))
     go false e (inr x) ih = over-there (naming n) k r l e ∙ ih x

@@ -2,14 +2,11 @@
 use mapblock::names::NameRead;
 use mapblock::names::name_row;
 ghost use mathlib.Core.Path.{_≡_};
-ghost use mathlib.Core.List.{List};
-ghost use Rattle.mapblock.specs.Data.{NameRow};
-ghost use Rattle.mapblock.specs.Questions.{NameRun};
-ghost use Rattle.mapblock.specs.Table.{unmarked};
+ghost use Rattle.mapblock.specs.Table.{unmarked, allRows};
 
-// Sets the counter of each mapped id to 0; `names` are whole rows.
+// Sets the counter of each mapped id to 0, by the rows at the front of `names`.
 pub fn clear(names: &[u8], counts: &mut [u16; 65536])
-    ensures { λ _. ⌜ ((l : List NameRow) → NameRun (now (names .entry)) l → now (counts .exit) ≡ unmarked (now (counts .entry)) l) ⌝ }
+    ensures { λ _. ⌜ now (counts .exit) ≡ unmarked (now (counts .entry)) (allRows (now (names .entry))) ⌝ }
 {
     let mut rest = names;
     while 0 < rest.len() {

@@ -3,14 +3,13 @@ use Prim.Native.Nat.{ℕ, _-_, _≤_}
 use mathlib.Core.Path.{_≡_, ap, sym, _∙_}
 use mathlib.Core.Logic.{⊎-elim}
 use mathlib.Core.List.{List, [], _∷_}
-use mathlib.Core.Bool.{Bool, true, false}
+use mathlib.Core.Bool.{Bool, true, false, cond}
 use native.Mathlib.Omega.{arith}
 use lib.Dec.{eqb}
 use lib.ListN.{length, take, drop}
 use borrow.Author.Tests.{eq-eqb, ne-eqb}
 use denote.Enum.Declared.{tagOf}
 use types.Run.{OneOf}
-use Rattle.wire.specs.Choice.{pick}
 use Rattle.wire.specs.Lists.{rest-is}
 use Rattle.wire.specs.Read.{Read, done, refused, mapRead}
 use Rattle.wire.specs.Format.{run}
@@ -53,7 +52,7 @@ module _ {A : Type 0} (s : List ℕ) where
   pub asked-done : (r : Read Fault A) {a : A} {n : ℕ} → good (a, n) ≡ frontRow s r → done a n ≡ r
   asked-done r {a} {n} h = go (eqb (length s) 0) h
     where
-      go : (b : Bool) → good (a, n) ≡ pick b (plain noSuch) (answerOf r) → done a n ≡ r
+      go : (b : Bool) → good (a, n) ≡ cond b (plain noSuch) (answerOf r) → done a n ≡ r
       go true e = no-good (sym e)
       go false e = answer-done r e
 
@@ -68,7 +67,7 @@ module _ (v : ℕ) (s : List ℕ) where
   pub version-was : {f : MetadataFields} {n : ℕ} → good (f, n) ≡ metadataRowOf v s → good (f, n) ≡ frontRow s (mapRead (metadataFields v) (metadataRow v [] .read s))
   version-was {f} {n} h = go (isVersion v) h
     where
-      go : (b : Bool) → good (f, n) ≡ pick b (frontRow s (mapRead (metadataFields v) (metadataRow v [] .read s))) (plain versionOutside)
+      go : (b : Bool) → good (f, n) ≡ cond b (frontRow s (mapRead (metadataFields v) (metadataRow v [] .read s))) (plain versionOutside)
           → good (f, n) ≡ frontRow s (mapRead (metadataFields v) (metadataRow v [] .read s))
       go true e = e
       go false e = no-good (sym e)

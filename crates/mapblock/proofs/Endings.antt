@@ -3,13 +3,12 @@ use Prim.Native.Nat.{ℕ, zero, suc, _+_, _*_, _<_, _≤_}
 use mathlib.Core.Path.{_≡_, ap, sym, _∙_}
 use mathlib.Core.Option.{some}
 use mathlib.Core.List.{List}
-use mathlib.Core.Bool.{Bool, true, false}
+use mathlib.Core.Bool.{Bool, true, false, cond}
 use native.Mathlib.Omega.{arith}
 use lib.Dec.{leb, eqb}
 use borrow.Author.Tests.{le-leb}
 use lib.ListN.{length, getD, drop, length-drop}
 use lib.Seq.{drop-drop}
-use Rattle.wire.specs.Choice.{pick}
 use Rattle.wire.specs.Bytes.{Bytes, bytes-drop}
 use Rattle.wire.specs.Read.{done, refused, mapRead, map-done, map-refused}
 use Rattle.wire.specs.Formats.{_▹_}
@@ -67,14 +66,14 @@ unfolding strayIn
 stray-below v s t zero j h = let z : _≡_ {A = ℕ} 0 1 = cc in absurd (omega arith)
 stray-below v s t (suc n) j {i} h = go (eqb (getD t (idIn v s j) 0) 0) h (λ k. stray-below v s t n (suc j) k)
   where
-    go : (b : Bool) → some i ≡ pick b (some j) (strayIn v s t n (suc j)) → (some i ≡ strayIn v s t n (suc j) → i < suc j + n) → i < j + suc n
+    go : (b : Bool) → some i ≡ cond b (some j) (strayIn v s t n (suc j)) → (some i ≡ strayIn v s t n (suc j) → i < suc j + n) → i < j + suc n
     go true e ih = let z : i ≡ j = cc in omega arith
     go false e ih = omega (arith, ih e)
 
 pub width-place : (v i : ℕ) → i < 4096 → (width v * i < 8192) × (width v * i ≤ 4096 * width v)
 width-place v i h = go (leb 24 v)
   where
-    go : (b : Bool) → (pick b 2 1 * i < 8192) × (pick b 2 1 * i ≤ 4096 * pick b 2 1)
+    go : (b : Bool) → (cond b 2 1 * i < 8192) × (cond b 2 1 * i ≤ 4096 * cond b 2 1)
     go true = (omega arith, omega arith)
     go false = (omega arith, omega arith)
 

@@ -3,7 +3,7 @@ use Prim.Native.Nat.{ℕ, zero, suc, _+_, _-_, _*_, _/_, _<_, _≤_}
 use mathlib.Core.Path.{_≡_, refl, ap, ap₂, sym, _∙_}
 use mathlib.Core.List.{List, [], _∷_, append-nil}
 use mathlib.Core.Option.{some, none}
-use mathlib.Core.Bool.{Bool, true, false}
+use mathlib.Core.Bool.{Bool, true, false, cond}
 use native.Mathlib.Nat.{zero-add, zero-mul, mul-zero, mul-one, one-mul, suc-mul, mul-suc, add-comm, mod-lt, div-mul-le-self, div-lt-iff-lt-mul, div-add-mod'}
 use native.Mathlib.Numerals.{add-one}
 use native.Mathlib.Omega.{arith}
@@ -11,7 +11,6 @@ use lib.Dec.{leb}
 use lib.ListN.{length, getD, take, drop, set, length-drop, length-set, drop-of-length-le}
 use lib.Seq.{drop-cons, drop-drop, getD-drop, take-suc, take-suc-set, take-all, length-take-le}
 use borrow.Author.Tests.{le-leb, lt-leb, leb-true, leb-false, lt-ltb, le-ltb, eq-eqb, ne-eqb}
-use Rattle.wire.specs.Choice.{pick}
 use Rattle.wire.specs.Bytes.{Bytes, spelt, bytes-drop}
 use Rattle.wire.specs.Read.{Read, done, refused, onward, never}
 use Rattle.wire.specs.Format.{_⨾_, along, items, readItems, ends-in}
@@ -113,7 +112,7 @@ width-new {v} h = rw (le-leb 24 v h)
 pub width-range : (v : ℕ) → (0 < width v) × (width v ≤ 2)
 width-range v = go (leb 24 v)
   where
-    go : (b : Bool) → (0 < pick b 2 1) × (pick b 2 1 ≤ 2)
+    go : (b : Bool) → (0 < cond b 2 1) × (cond b 2 1 ≤ 2)
     go true = (omega arith, omega arith)
     go false = (omega arith, omega arith)
 

@@ -3,11 +3,11 @@ use Prim.Native.Nat.{ℕ, zero, suc, _^_, _<_}
 use mathlib.Core.Path.{_≡_, refl, sym, _∙_}
 use mathlib.Core.Logic.{_↔_, inl, inr}
 use mathlib.Core.List.{List, [], _∷_}
-use mathlib.Core.Bool.{Bool, true, false}
+use mathlib.Core.Bool.{Bool, true, false, cond}
 use lib.Dec.{eqb}
 use lib.ListN.{length}
 use borrow.Author.Tests.{eq-eqb, eqb-true}
-use Rattle.wire.specs.Choice.{pick, no-true, no-false}
+use Rattle.wire.specs.Choice.{no-true, no-false}
 use Rattle.wire.specs.Format.{along, items, OkItems}
 use Rattle.wire.specs.Formats.{listed}
 use Rattle.mapblock.specs.Inventory.{Form}
@@ -22,7 +22,7 @@ module _ {A : Type 0} (key : A → ℕ) where
   has-used (a ∷ l) n (inl e) = rw (eq-eqb n (key a) (sym e))
   has-used (a ∷ l) n (inr h) = go (eqb n (key a)) (has-used l n h)
     where
-      go : (c : Bool) → unused key all l n ≡ false → pick c false (unused key all l n) ≡ false
+      go : (c : Bool) → unused key all l n ≡ false → cond c false (unused key all l n) ≡ false
       go true e = refl
       go false e = e
 
@@ -31,7 +31,7 @@ module _ {A : Type 0} (key : A → ℕ) where
   used-has [] n e = no-false e
   used-has (a ∷ l) n e = go (eqb n (key a)) refl e (used-has l n)
     where
-      go : (c : Bool) → eqb n (key a) ≡ c → pick c false (unused key all l n) ≡ false → (unused key all l n ≡ false → Has key n l) → Has key n (a ∷ l)
+      go : (c : Bool) → eqb n (key a) ≡ c → cond c false (unused key all l n) ≡ false → (unused key all l n ≡ false → Has key n l) → Has key n (a ∷ l)
       go true f e ih = inl (sym (eqb-true n (key a) f))
       go false f e ih = inr (ih e)
 

@@ -28,6 +28,7 @@ pub mod GoodRows
 pub mod ValidOk
 pub mod Taken
 -- Sections, rows and names.
+pub mod NameWalks
 pub mod SectionsThere
 pub mod BlockAnswers
 pub mod NodeNames

@@ -2,13 +2,12 @@
 use Prim.Native.Nat.{ℕ, zero, suc, _+_, _-_, _<_, _≤_}
 use mathlib.Core.Path.{_≡_, refl, ap, sym, subst, subst⁻¹, _∙_}
 use mathlib.Core.List.{List, [], _∷_, _++_}
-use mathlib.Core.Bool.{Bool, true, false}
+use mathlib.Core.Bool.{Bool, true, false, cond}
 use native.Mathlib.Omega.{arith}
 use lib.Dec.{leb, eqb}
 use lib.ListN.{length, take, drop, length-append}
 use lib.Seq.{drop-drop}
 use borrow.Author.Tests.{le-leb, lt-leb}
-use Rattle.wire.specs.Choice.{pick}
 use Rattle.wire.specs.Bytes.{Bytes, spelt, spell-length}
 use Rattle.wire.specs.Read.{Read, done, refused, mapRead, onward, never, map-done, bind-done, onward-done}
 use Rattle.wire.specs.Format.{run, nothing, such, _⨾_, along, items, encodeItems, readItems, pair, next}
@@ -35,7 +34,7 @@ pub num-takes : (k : ℕ) (s : List ℕ) {v n : ℕ} → num k .read s ≡ done 
 unfolding number along run
 num-takes k s {v} {n} h = go (leb k (length s)) h
   where
-    go : (b : Bool) → mapRead (spelt 0) (pick b (done (take k s) k) (refused fault.Ends 0)) ≡ done v n → n ≡ k
+    go : (b : Bool) → mapRead (spelt 0) (cond b (done (take k s) k) (refused fault.Ends 0)) ≡ done v n → n ≡ k
     go true e = cc
     go false e = never e
 
@@ -108,10 +107,10 @@ saved-rows-length sv = rw (length-append, num-length 4 (sv .timestamp), fixed-le
 pub metadata-rows-length : (v : ℕ) (l : List MetadataRow) → length (metadata v .encode l) ≡ metadataHead v + length (encodeItems (metadataRow v) [] l)
 unfolding metadata
 metadata-rows-length v l =
-    fixed-length 2 (metadataRow v) (pick (since 23 v) 1 2) (pick (since 28 v) 2 1) fault.MetadataVersion l
+    fixed-length 2 (metadataRow v) (cond (since 23 v) 1 2) (cond (since 28 v) 2 1) fault.MetadataVersion l
     ∙ go (since 23 v) (length (encodeItems (metadataRow v) [] l))
   where
-    go : (b : Bool) (n : ℕ) → pick b 1 2 + (2 + n) ≡ pick b 3 4 + n
+    go : (b : Bool) (n : ℕ) → cond b 1 2 + (2 + n) ≡ cond b 3 4 + n
     go true n = omega arith
     go false n = omega arith
 
@@ -122,13 +121,13 @@ objects-rows-length l = fixed-length 2 (λ _. objectRow) 1 0 fault.ObjectVersion
 -- ---- early timers
 -- the rows stand at the end of n bytes, behind the byte and the count
 abbrev pub AtEnd : Timers → ℕ → Type 0
-AtEnd k n = (length (encodeItems timerRow [] (k .rows)) ≡ n - pick (eqb (k .byte) 1) 3 n) × (pick (eqb (k .byte) 1) 3 n ≤ n)
+AtEnd k n = (length (encodeItems timerRow [] (k .rows)) ≡ n - cond (eqb (k .byte) 1) 3 n) × (cond (eqb (k .byte) 1) 3 n ≤ n)
 
 abbrev pub timersOf24 : Form Timers
 timersOf24 = into timersParts (such (λ t. leb t 1) fault.TimerByte (number 1) ⨾ λ t. only (eqb t 1) [] (listed 2 timerRow))
 
 abbrev pub earlyBy : Bool → Bool → Bool → Form Timers
-earlyBy a b c = only a untimed (pick b timersOf24 (pick c (fixed 1 0 fault.ByteOf23 (nothing untimed)) (nothing untimed)))
+earlyBy a b c = only a untimed (cond b timersOf24 (cond c (fixed 1 0 fault.ByteOf23 (nothing untimed)) (nothing untimed)))
 
 rows-none : (k : Timers) (n : ℕ) → k ≡ untimed → AtEnd k n
 rows-none k n h = subst⁻¹ (λ (x : Timers). AtEnd x n) h (omega arith, omega arith)
@@ -138,7 +137,7 @@ unfolding along _⨾_ such nothing
 rows-of-24 k h = rw (length-append, num-length 1 (k .byte)) (go (eqb (k .byte) 1) (h .1))
   where
     go : (b : Bool) → only b [] (listed 2 timerRow) .Ok (k .rows) → let n = 1 + length (only b [] (listed 2 timerRow) .encode (k .rows)) in
-        (length (encodeItems timerRow [] (k .rows)) ≡ n - pick b 3 n) × (pick b 3 n ≤ n)
+        (length (encodeItems timerRow [] (k .rows)) ≡ n - cond b 3 n) × (cond b 3 n ≤ n)
     go true o = rw (listed-length 2 timerRow (k .rows)) (omega arith, omega arith)
     go false o = rw o (omega arith, omega arith)
 

@@ -11,7 +11,7 @@ use lib.ListN.{length, take, drop, length-drop}
 use lib.Seq.{drop-drop, length-take-le}
 use borrow.Author.Tests.{le-leb, lt-leb}
 use Rattle.wire.specs.Bytes.{Bytes, bytes-drop, spelt}
-use Rattle.wire.specs.Read.{Read, done, refused, bind, mapRead, onward, bind-done, map-done, onward-done, pick-done}
+use Rattle.wire.specs.Read.{Read, done, refused, bind, mapRead, onward, bind-done, map-done, onward-done, cond-done}
 use Rattle.wire.specs.Format.{run, nothing, such, _⨾_, next, pair, along, items, encodeItems, items-length}
 use Rattle.wire.specs.Formats.{_▹_, number, u8, u16, s32, counted, listed, times, only, into, Shape}
 use Rattle.mapblock.specs.Inventory.{Form, inventory}
@@ -101,7 +101,7 @@ pub position-two : (s : List ℕ) {p n : ℕ} → position .read s ≡ done p n 
 unfolding number along run
 position-two s {p} {n} h =
     let x = map-done (spelt 0) (run {ends = fault.Ends} 2 .read s) p n (such-done (λ p. leb p 4095) fault.PositionAbove u16 s h) in
-    let y = pick-done (leb 2 (length s)) (done (take 2 s) 2) fault.Ends 0 (x .0) n (x .1) in
+    let y = cond-done (leb 2 (length s)) (done (take 2 s) 2) fault.Ends 0 (x .0) n (x .1) in
     cc (y .1)
 
 -- a position that was read in a row

@@ -2,14 +2,13 @@
 use Prim.Native.Nat.{ℕ, zero, suc, _+_, _-_, _<_, _≤_}
 use mathlib.Core.Path.{_≡_, refl, ap, sym, _∙_}
 use mathlib.Core.List.{List, [], _∷_, _++_, append-assoc, append-nil}
-use mathlib.Core.Bool.{Bool, true, false}
+use mathlib.Core.Bool.{Bool, true, false, cond}
 use native.Mathlib.Nat.{zero-add}
 use native.Mathlib.Omega.{arith}
 use lib.Dec.{eqb}
 use lib.ListN.{length, getD, take, drop, set, length-drop}
 use lib.Seq.{set-set, set-comm, set-getD}
 use borrow.Author.Tests.{eqb-true, eqb-false}
-use Rattle.wire.specs.Choice.{pick}
 use Rattle.wire.specs.Lists.{rest-is}
 use Rattle.wire.specs.Read.{Read, done, refused, mapRead, reach, map-done, map-refused}
 use Rattle.wire.specs.Format.{items, readItems}
@@ -31,7 +30,7 @@ unfolding unused
 unused-last key free [] a n = refl
 unused-last key free (b ∷ l) a n = rw (unused-last key free l a n) (swap (eqb n (key b)) (eqb n (key a)) (unused key free l n))
   where
-    swap : (x y z : Bool) → pick x false (pick y false z) ≡ pick y false (pick x false z)
+    swap : (x y z : Bool) → cond x false (cond y false z) ≡ cond y false (cond x false z)
     swap true true z = refl
     swap true false z = refl
     swap false true z = refl
@@ -151,7 +150,7 @@ module _ {t₀ s : List ℕ} {count : ℕ} {t rest : List ℕ} {at left : ℕ} (
           tabled = marked-one 65536 (unmapped (freeIn t₀) (w .seen)) t (a .id) m (w .tabled);
           is = ap (λ (l : List ℕ). set l (a .id) 1) (w .is) ∙ sym (marked-last t₀ (w .pre) a);
           undone = undo-one t t₀ (w .pre) a z (w .undone);
-          same = λ id. unused-last (λ (r : NameRow). r .id) (freeIn t₀) (w .pre) a id ∙ ap (λ (b : Bool). pick (eqb id (a .id)) false b) (w .same id);
+          same = λ id. unused-last (λ (r : NameRow). r .id) (freeIn t₀) (w .pre) a id ∙ ap (λ (b : Bool). cond (eqb id (a .id)) false b) (w .same id);
           fronts = λ m.
               let c : count - (left - 1) + m ≡ count - left + suc m = omega (arith, w .few) in
               let e : frontRows (suc m) rest ≡ a ∷ frontRows m (drop n rest) = rw (alone .0) in

@@ -2,13 +2,12 @@
 use Prim.Native.Nat.{ℕ, _+_, _-_, _<_, _≤_}
 use mathlib.Core.Path.{_≡_, refl, ap, sym, subst, _∙_}
 use mathlib.Core.List.{List, [], _∷_, _++_, append-assoc}
-use mathlib.Core.Bool.{Bool, true, false}
+use mathlib.Core.Bool.{Bool, true, false, cond}
 use native.Mathlib.Omega.{arith}
 use lib.Dec.{eqb}
 use lib.ListN.{length, take, drop, length-append, length-drop, take-append-drop}
 use lib.Seq.{drop-append-seam, length-take-le}
 use borrow.Author.Tests.{eq-eqb, ne-eqb, le-leb, lt-leb}
-use Rattle.wire.specs.Choice.{pick}
 use Rattle.wire.specs.Lists.{rest-is}
 use Rattle.wire.specs.Bytes.{Bytes, bytes-drop}
 use Rattle.wire.specs.Read.{done, refused, mapRead, never, map-done}
@@ -19,6 +18,7 @@ use Rattle.mapblock.specs.Data.{NameRow}
 use Rattle.mapblock.specs.Layout.{all, unused, nameRow}
 use Rattle.mapblock.specs.Block.{idAt}
 use Rattle.mapblock.specs.Params.{idIn}
+use Rattle.mapblock.specs.Table.{allRows}
 use Rattle.mapblock.specs.Rows.{part, nameFields}
 use Rattle.mapblock.specs.Sections.{sections, within}
 use Rattle.mapblock.specs.Questions.{nameOf, spotOf, nameSpot, nodeOf, NameRun}
@@ -31,29 +31,10 @@ use Rattle.mapblock.proofs.Readings.{num}
 use Rattle.mapblock.proofs.Entries.{id-same}
 use Rattle.mapblock.proofs.ListLengths.{num-length}
 use Rattle.mapblock.proofs.GoodRows.{name-ok}
+use Rattle.mapblock.proofs.NameWalks.{seen-same, row-bytes, row-length, head-length, rowHead, row-inside, first-row, all-run}
 use Rattle.mapblock.proofs.Taken.{taken}
 use Rattle.mapblock.proofs.SectionsThere.{part-holds, sections-are-rows}
 use Rattle.mapblock.proofs.BlockAnswers.{TakenAs}
-
--- ---- rows
--- a row's id and length
-abbrev pub rowHead : NameRow → List ℕ
-rowHead r = num 2 .encode (r .id) ++ num 2 .encode (length (r .name))
-
-pub head-length : (r : NameRow) → length (rowHead r) ≡ 4
-head-length r = rw (length-append, num-length 2 (r .id), num-length 2 (length (r .name)))
-
-pub row-bytes : (seen : List NameRow) (r : NameRow) → nameRow all seen .encode r ≡ rowHead r ++ r .name
-unfolding nameRow along _⨾_ such counted run
-row-bytes seen r = sym (append-assoc (num 2 .encode (r .id)) (num 2 .encode (length (r .name))) (r .name))
-
-pub row-length : (seen : List NameRow) (r : NameRow) → length (nameRow all seen .encode r) ≡ 4 + length (r .name)
-row-length seen r = ap (length {A = ℕ}) (row-bytes seen r) ∙ length-append (rowHead r) (r .name) ∙ ap (λ (n : ℕ). n + length (r .name)) (head-length r)
-
--- the bytes do not say which rows were seen
-pub seen-same : (seen also l : List NameRow) → encodeItems (nameRow all) seen l ≡ encodeItems (nameRow all) also l
-seen-same seen also [] = refl
-seen-same seen also (r ∷ l) = rw (row-bytes seen r, row-bytes also r, seen-same (r ∷ seen) (r ∷ also) l)
 
 -- ---- the very bytes
 module _ (s : List ℕ) (id : ℕ) where
@@ -74,7 +55,7 @@ module _ (s : List ℕ) (id : ℕ) where
       start = rw (length-append, head-length r) (omega arith)
 
       go : (b : Bool) → Holds s (spotOf l (at + 4 + length (r .name)) id) (nameOf l id)
-          → Holds s (pick b (part (at + 4) (length (r .name))) (spotOf l (at + 4 + length (r .name)) id)) (pick b (r .name) (nameOf l id))
+          → Holds s (cond b (part (at + 4) (length (r .name))) (spotOf l (at + 4 + length (r .name)) id)) (cond b (r .name) (nameOf l id))
       go true h = part-holds s (p ++ rowHead r) (r .name) (encodeItems (nameRow all) (r ∷ seen) l ++ q) (at + 4) here start
       go false h = h
 
@@ -93,92 +74,38 @@ very-bytes s b n w h i k =
     spot-holds s (idAt b i) (take (p .start) s) (drop (p .length) (drop (p .start) s)) [] (b .names) (p .start) (split-at s p x) (sym (length-take-le (p .start) s start))
 
 -- ---- the walk over the rows of names
--- rows that are read one by one
-module _ {s : List ℕ} {r : NameRow} {l : List NameRow} (h : NameRun s (r ∷ l)) where
-  pub run-reads : nameRow all [] .read s ≡ done r (4 + length (r .name))
-  unfolding unused
-  run-reads =
-      rw (h .bytes, nameRow all [] .forward r (name-ok [] r .1 (h .good .0, refl)) (encodeItems (nameRow all) (r ∷ []) l), row-length [] r)
-
-  pub run-rest : NameRun (drop (4 + length (r .name)) s) l
-  run-rest = record {
-    bytes = rw (h .bytes, ← row-length [] r, drop-append-seam) (seen-same (r ∷ []) [] l);
-    good = h .good .1;
-  }
-
-pub run-none : {s : List ℕ} (l : List NameRow) → NameRun s l → length s ≡ 0 → l ≡ []
-run-none [] h z = refl
-run-none (r ∷ l) h z = absurd (omega (arith, ap (length {A = ℕ}) (h .bytes), length-append (nameRow all [] .encode r) (encodeItems (nameRow all) (r ∷ []) l), row-length [] r))
-
 -- What is left of the rows has the name at the same place as all of them.
 pub record Finding (names rest : List ℕ) (start at id : ℕ) : Type 0 where
-  pub left : (l : List NameRow) → NameRun names l → (m : List NameRow) × NameRun rest m × (spotOf m at id ≡ spotOf l start id)
+  pub left : spotOf (allRows rest) at id ≡ spotOf (allRows names) start id
   pub size : at + length rest ≡ start + length names
   pub bytes : Bytes rest
 
-abbrev pub FoundAt : List ℕ → ℕ → ℕ → Part → Type 0
-FoundAt names start id p = (l : List NameRow) → NameRun names l → p ≡ spotOf l start id
-
 pub finding-start : (names : List ℕ) (start id : ℕ) → Bytes names → Finding names names start start id
-finding-start names start id w = record { left = λ l h. (l, h, refl); size = refl; bytes = w }
+finding-start names start id w = record { left = refl; size = refl; bytes = w }
 
 module _ {names rest : List ℕ} {start at id : ℕ} (f : Finding names rest start at id) where
-  pub finding-end : length rest ≡ 0 → FoundAt names start id (part at 0)
-  finding-end z l h =
-      let x = f .left l h in
-      let e : x .0 ≡ [] = run-none (x .0) (x .1) z in
-      ap (λ (m : List NameRow). spotOf m at id) (sym e) ∙ x .2
-
-  pub finding-refused : {e : Fault} {p : ℕ} → 0 < length rest → refused e p ≡ mapRead nameFields (nameRow all [] .read rest) → FoundAt names start id (part at 0)
-  finding-refused g k l h = let x = f .left l h in go (x .0) (x .1)
-    where
-      go : (m : List NameRow) → NameRun rest m → part at 0 ≡ spotOf l start id
-      go [] y = absurd (omega (arith, ap (length {A = ℕ}) (y .bytes)))
-      go (r ∷ m) y = never (k ∙ ap (mapRead nameFields) (run-reads y))
+  pub finding-none : allRows rest ≡ [] → part at 0 ≡ spotOf (allRows names) start id
+  finding-none e = ap (λ (m : List NameRow). spotOf m at id) (sym e) ∙ f .left
 
   module _ {row : NameFields} {n : ℕ} (k : done row n ≡ mapRead nameFields (nameRow all [] .read rest)) where
-    row-read : (r : NameRow) × (nameRow all [] .read rest ≡ done r n) × (nameFields r ≡ row)
-    row-read = map-done nameFields (nameRow all [] .read rest) row n (sym k)
-
-    pub row-start : row .name .start ≡ 4
-    row-start = sym (ap (λ (x : NameFields). x .name .start) (row-read .2))
-
-    pub row-size : n ≡ 4 + row .name .length
-    row-size =
-        let x = row-read in
-        nameRow all [] .backward rest (x .0) n (f .bytes) (x .1) .ends ∙ row-length [] (x .0) ∙ ap (λ (y : NameFields). 4 + y .name .length) (x .2)
-
-    pub row-inside : n ≤ length rest
-    row-inside = ends-in (nameRow all []) (row-read .1)
-
-    -- of the rows that are left, the first is the row that was read
-    first-is : (m : List NameRow) → NameRun rest m → (r : NameRow) × (l : List NameRow) × (m ≡ r ∷ l) × (nameFields r ≡ row) × (4 + length (r .name) ≡ n) × NameRun (drop n rest) l
-    first-is [] h = absurd (omega (arith, row-size, row-inside, ap (length {A = ℕ}) (h .bytes)))
-    first-is (r ∷ l) h =
-        let e : done row n ≡ done (nameFields r) (4 + length (r .name)) = k ∙ ap (mapRead nameFields) (run-reads h) in
-        let size : 4 + length (r .name) ≡ n = cc in
-        (r, l, refl, (cc), size, subst (λ (i : ℕ). NameRun (drop i rest) l) size (run-rest h))
-
-    pub finding-here : row .id ≡ id → FoundAt names start id (part (at + row .name .start) (row .name .length))
-    finding-here e l h =
-        let x = f .left l h in
-        let y = first-is (x .0) (x .1) in
-        let same : id ≡ y .0 .id = sym e ∙ sym (ap (λ (z : NameFields). z .id) (y .3)) in
-        let here : part (at + 4) (length (y .0 .name)) ≡ spotOf (y .0 ∷ y .1) at id = rw (eq-eqb id (y .0 .id) same) in
-        ap (λ (z : NameFields). part (at + z .name .start) (z .name .length)) (sym (y .3)) ∙ here ∙ ap (λ (m : List NameRow). spotOf m at id) (sym (y .2)) ∙ x .2
+    pub finding-here : row .id ≡ id → part (at + row .name .start) (row .name .length) ≡ spotOf (allRows names) start id
+    finding-here e =
+        let y = first-row rest (f .bytes) k in
+        let same : id ≡ y .row .id = sym e ∙ sym (ap (λ (z : NameFields). z .id) (y .fields)) in
+        let here : part (at + 4) (length (y .row .name)) ≡ spotOf (y .row ∷ allRows (drop n rest)) at id = rw (eq-eqb id (y .row .id) same) in
+        ap (λ (z : NameFields). part (at + z .name .start) (z .name .length)) (sym (y .fields)) ∙ here ∙ ap (λ (m : List NameRow). spotOf m at id) (sym (y .rows)) ∙ f .left
 
     pub finding-on : (row .id ≡ id → ⊥) → Finding names (take (length rest - n) (drop n rest)) start (at + n) id
-    finding-on e = rw (rest-is n rest) record {
-      left = λ l h.
-          let x = f .left l h in
-          let y = first-is (x .0) (x .1) in
-          let other : id ≡ y .0 .id → ⊥ = λ z. e (sym (ap (λ (z : NameFields). z .id) (y .3)) ∙ sym z) in
-          let place : at + n ≡ at + 4 + length (y .0 .name) = omega (arith, y .4) in
-          let on : spotOf (y .1) (at + n) id ≡ spotOf (y .0 ∷ y .1) at id = rw (ne-eqb id (y .0 .id) other, place) in
-          (y .1, y .5, on ∙ ap (λ (m : List NameRow). spotOf m at id) (sym (y .2)) ∙ x .2);
-      size = rw length-drop (omega (arith, f .size, row-inside));
-      bytes = bytes-drop n rest (f .bytes);
-    }
+    finding-on e =
+        let y = first-row rest (f .bytes) k in
+        let other : id ≡ y .row .id → ⊥ = λ z. e (sym (ap (λ (z : NameFields). z .id) (y .fields)) ∙ sym z) in
+        let place : at + n ≡ at + 4 + length (y .row .name) = omega (arith, y .size) in
+        let on : spotOf (allRows (drop n rest)) (at + n) id ≡ spotOf (y .row ∷ allRows (drop n rest)) at id = rw (ne-eqb id (y .row .id) other, place) in
+        rw (rest-is n rest) record {
+          left = on ∙ ap (λ (m : List NameRow). spotOf m at id) (sym (y .rows)) ∙ f .left;
+          size = rw length-drop (omega (arith, f .size, row-inside rest k));
+          bytes = bytes-drop n rest (f .bytes);
+        }
 
 -- ---- the answers
 pub within-length : (s : List ℕ) (p : Part) → p .start + p .length ≤ length s → length (within s p) ≡ p .length
@@ -191,6 +118,11 @@ module _ {s : List ℕ} {w : Found} (k : TakenAs s w) (y : Bytes s) where
     bytes = sections-are-rows s (k .b) (k .n) y (k .reads) .names .bytes;
     good = taken s (k .b) (k .n) y .0 (k .reads) .0 .names .each;
   }
+
+  -- an id's name among the rows that stand there
+  pub spot-in : (names : List ℕ) (id : ℕ) {p : Part} → names ≡ within s (w .sections .names) → p ≡ spotOf (allRows names) (w .sections .names .start) id
+      → p ≡ spotOf (k .b .names) (w .sections .names .start) id
+  spot-in names id e h = h ∙ ap (λ (l : List NameRow). spotOf l (w .sections .names .start) id) (ap allRows e ∙ all-run names-run)
 
   module _ (i : ℕ) where
     pub node-none : 4096 ≤ i → plain noSuch ≡ nodeOf s i

@@ -2,14 +2,13 @@
 use Prim.Native.Nat.{ℕ, _<_, _≤_}
 use mathlib.Core.Path.{_≡_, refl, _∙_}
 use mathlib.Core.List.{List}
-use mathlib.Core.Bool.{Bool, true, false}
+use mathlib.Core.Bool.{Bool, true, false, cond}
 use native.Mathlib.Omega.{arith}
 use lib.Dec.{leb, eqb}
 use lib.ListN.{getD, set, length-set}
 use lib.Seq.{getD-set-same, getD-set-other}
 use borrow.Author.Tests.{le-leb, lt-leb, leb-true, eq-eqb, ne-eqb, eqb-true, eqb-false}
-use Rattle.wire.specs.Choice.{pick}
-use Rattle.wire.specs.Read.{done, refused, never, bind-done, pick-done}
+use Rattle.wire.specs.Read.{done, refused, never, bind-done, cond-done}
 use Rattle.wire.specs.Format.{such, tested}
 use Rattle.wire.specs.Formats.{u16}
 use Rattle.mapblock.specs.Layout.{position, without}
@@ -37,7 +36,7 @@ module _ (s : List ℕ) where
   unfolding such
   position-below {p} {n} h =
       let x = bind-done (u16 {ends = fault.Ends} .read s) (tested (λ p. leb p 4095) fault.PositionAbove) p n h in
-      let y = pick-done (leb (x .0) 4095) (done (x .0) (x .1)) fault.PositionAbove 0 p n (x .3) in
+      let y = cond-done (leb (x .0) 4095) (done (x .0) (x .1)) fault.PositionAbove 0 p n (x .3) in
       let same : x .0 ≡ p = cc (y .1) in
       omega (arith, leb-true (x .0) 4095 (y .0))
 
@@ -45,7 +44,7 @@ module _ (s : List ℕ) where
 pub marked-one : (n : ℕ) (free : ℕ → Bool) (t : List ℕ) (m : ℕ) → m < n → Tabled n free t → Tabled n (without m free) (set t m 1)
 marked-one n free t m h k = record { size = length-set t m 1 ∙ k .size; tells = λ i l. go i l (eqb i m) refl }
   where
-    go : (i : ℕ) → i < n → (b : Bool) → eqb i m ≡ b → pick b false (free i) ≡ freeIn (set t m 1) i
+    go : (i : ℕ) → i < n → (b : Bool) → eqb i m ≡ b → cond b false (free i) ≡ freeIn (set t m 1) i
     go i l true e =
         let z : i ≡ m = eqb-true i m e in
         let v : getD (set t m 1) m 0 ≡ 1 = getD-set-same t m 1 0 (omega (arith, k .size)) in

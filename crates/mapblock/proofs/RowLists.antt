@@ -2,13 +2,12 @@
 use Prim.Native.Nat.{ℕ, _+_, _-_, _<_, _≤_}
 use mathlib.Core.Path.{_≡_, refl, ap, sym, subst⁻¹, _∙_}
 use mathlib.Core.List.{List, []}
-use mathlib.Core.Bool.{Bool, true, false}
+use mathlib.Core.Bool.{Bool, true, false, cond}
 use native.Mathlib.Nat.{zero-add}
 use native.Mathlib.Omega.{arith}
 use lib.Dec.{leb}
 use lib.ListN.{length, take, drop, replicate, length-replicate, getD-replicate}
 use borrow.Author.Tests.{le-leb, lt-leb, leb-true, leb-false, eq-eqb}
-use Rattle.wire.specs.Choice.{pick}
 use Rattle.wire.specs.Read.{Read, done, refused, mapRead, onward, never}
 use Rattle.wire.specs.Format.{nothing, such, _⨾_, along, pair, items}
 use Rattle.wire.specs.Formats.{_▹_, u8, listed, fixed, into, Shape}
@@ -143,7 +142,7 @@ module _ (v : ℕ) (s : List ℕ) where
   unfolding metadata
   metadata-old h = let k : v < 28 = omega arith in rw (lt-leb 23 v h, lt-leb 28 v k)
 
-  pub metadata-new : {x : ℕ} → 23 ≤ v → x ≡ pick (leb 28 v) 2 1 → fixed 1 x fault.MetadataVersion (listed 2 (metadataRow v)) .read s ≡ metadata v .read s
+  pub metadata-new : {x : ℕ} → 23 ≤ v → x ≡ cond (leb 28 v) 2 1 → fixed 1 x fault.MetadataVersion (listed 2 (metadataRow v)) .read s ≡ metadata v .read s
   unfolding metadata
   metadata-new h e = ap (λ (n : ℕ). fixed 1 n fault.MetadataVersion (listed 2 (metadataRow v)) .read s) e ∙ rw (le-leb 23 v h)
 

@@ -2,12 +2,11 @@
 use Prim.Native.Nat.{ℕ, _+_, _-_, _*_, _≤_}
 use mathlib.Core.Path.{_≡_, refl, ap, sym, subst⁻¹, _∙_}
 use mathlib.Core.List.{List, [], _++_, append-assoc, append-nil}
-use mathlib.Core.Bool.{Bool, true, false, not}
+use mathlib.Core.Bool.{Bool, true, false, cond, not}
 use native.Mathlib.Omega.{arith}
 use lib.Dec.{eqb}
 use lib.ListN.{length, drop, length-append, length-drop}
 use lib.Seq.{drop-at, take-append-seam, drop-drop}
-use Rattle.wire.specs.Choice.{pick}
 use Rattle.wire.specs.Bytes.{Bytes}
 use Rattle.wire.specs.Read.{done}
 use Rattle.wire.specs.Format.{nothing, such, _⨾_, along, items, encodeItems}
@@ -113,27 +112,27 @@ record Pieces : Type 0 where
   objects : List ℕ
   late : List ℕ
 
-first-length : (b : Bool) (x : List ℕ) → length (pick b x []) ≡ pick b (length x) 0
+first-length : (b : Bool) (x : List ℕ) → length (cond b x []) ≡ cond b (length x) 0
 first-length true x = refl
 first-length false x = refl
 
-second-length : (b : Bool) (x : List ℕ) → length (pick b [] x) ≡ pick b 0 (length x)
+second-length : (b : Bool) (x : List ℕ) → length (cond b [] x) ≡ cond b 0 (length x)
 second-length true x = refl
 second-length false x = refl
 
 module _ (x : Pieces) where
   -- names and timers, each in one of two places
   abbrev names₁ : List ℕ
-  names₁ = pick (x .inFront) (x .saved) []
+  names₁ = cond (x .inFront) (x .saved) []
 
   abbrev names₂ : List ℕ
-  names₂ = pick (x .inFront) [] (x .saved)
+  names₂ = cond (x .inFront) [] (x .saved)
 
   abbrev timers₁ : List ℕ
-  timers₁ = pick (x .atEnd) [] (x .early)
+  timers₁ = cond (x .atEnd) [] (x .early)
 
   abbrev timers₂ : List ℕ
-  timers₂ = pick (x .atEnd) (x .late) []
+  timers₂ = cond (x .atEnd) (x .late) []
 
   -- the bytes up to the node data, and behind the metadata
   abbrev toNodes : List ℕ
@@ -146,22 +145,22 @@ module _ (x : Pieces) where
   whole = toNodes ++ (x .metadata ++ behindMetadata)
 
   abbrev frontEnd : ℕ
-  frontEnd = length (x .opening) + pick (x .inFront) (length (x .saved)) 0
+  frontEnd = length (x .opening) + cond (x .inFront) (length (x .saved)) 0
 
   abbrev metadataEnd : ℕ
   metadataEnd = frontEnd + length (x .nodes) + length (x .metadata)
 
   abbrev earlyEnd : ℕ
-  earlyEnd = metadataEnd + pick (x .atEnd) 0 (length (x .early))
+  earlyEnd = metadataEnd + cond (x .atEnd) 0 (length (x .early))
 
   abbrev objectsEnd : ℕ
   objectsEnd = earlyEnd + length (x .objects)
 
   abbrev namesEnd : ℕ
-  namesEnd = objectsEnd + pick (x .inFront) 0 (length (x .saved))
+  namesEnd = objectsEnd + cond (x .inFront) 0 (length (x .saved))
 
   abbrev lateEnd : ℕ
-  lateEnd = namesEnd + pick (x .atEnd) (length (x .late)) 0
+  lateEnd = namesEnd + cond (x .atEnd) (length (x .late)) 0
 
   nodes-size : length toNodes ≡ frontEnd + length (x .nodes)
   nodes-size = rw (length-append, length-append, first-length (x .inFront) (x .saved)) (omega arith)
@@ -181,23 +180,23 @@ module _ (x : Pieces) where
   objects-hold : {r : List ℕ} → Ending (x .objects) r → Holds whole (rowsTo objectsEnd (length r)) r
   objects-hold h = rows-hold whole (toNodes ++ (x .metadata ++ timers₁)) (x .objects) (names₂ ++ timers₂) _ (simp append-assoc) h (rw (to-size timers₁, second-length (x .atEnd) (x .early)))
 
-  names-hold : {r : List ℕ} → Ending (x .saved) r → Holds whole (rowsTo (pick (x .inFront) frontEnd namesEnd) (length r)) r
+  names-hold : {r : List ℕ} → Ending (x .saved) r → Holds whole (rowsTo (cond (x .inFront) frontEnd namesEnd) (length r)) r
   names-hold {r} h = go (x .inFront) refl
     where
-      go : (b : Bool) → x .inFront ≡ b → Holds whole (rowsTo (pick (x .inFront) frontEnd namesEnd) (length r)) r
+      go : (b : Bool) → x .inFront ≡ b → Holds whole (rowsTo (cond (x .inFront) frontEnd namesEnd) (length r)) r
       go true z = rows-hold whole (x .opening) (x .saved) (x .nodes ++ (x .metadata ++ behindMetadata)) _ (rw z (simp append-assoc)) h (rw z refl)
       go false z =
-          let size : length (timers₁ ++ x .objects) ≡ pick (x .atEnd) 0 (length (x .early)) + length (x .objects) = rw (length-append, second-length (x .atEnd) (x .early)) in
+          let size : length (timers₁ ++ x .objects) ≡ cond (x .atEnd) 0 (length (x .early)) + length (x .objects) = rw (length-append, second-length (x .atEnd) (x .early)) in
           let end : length (toNodes ++ (x .metadata ++ (timers₁ ++ x .objects))) ≡ objectsEnd = rw (to-size (timers₁ ++ x .objects)) (omega arith) in
           rows-hold whole (toNodes ++ (x .metadata ++ (timers₁ ++ x .objects))) (x .saved) timers₂ _ (rw z (simp append-assoc)) h (rw (end, z))
 
   timers-hold : {r : List ℕ} → (x .atEnd ≡ false → Ending (x .early) r) → (x .atEnd ≡ true → Ending (x .late) r)
-      → Holds whole (rowsTo (pick (x .atEnd) lateEnd earlyEnd) (length r)) r
+      → Holds whole (rowsTo (cond (x .atEnd) lateEnd earlyEnd) (length r)) r
   timers-hold {r} early late = go (x .atEnd) refl
     where
-      go : (b : Bool) → x .atEnd ≡ b → Holds whole (rowsTo (pick (x .atEnd) lateEnd earlyEnd) (length r)) r
+      go : (b : Bool) → x .atEnd ≡ b → Holds whole (rowsTo (cond (x .atEnd) lateEnd earlyEnd) (length r)) r
       go true z =
-          let size : length (timers₁ ++ (x .objects ++ names₂)) ≡ pick (x .atEnd) 0 (length (x .early)) + (length (x .objects) + pick (x .inFront) 0 (length (x .saved))) = rw (length-append timers₁ (x .objects ++ names₂), length-append (x .objects) names₂, second-length (x .atEnd) (x .early), second-length (x .inFront) (x .saved)) in
+          let size : length (timers₁ ++ (x .objects ++ names₂)) ≡ cond (x .atEnd) 0 (length (x .early)) + (length (x .objects) + cond (x .inFront) 0 (length (x .saved))) = rw (length-append timers₁ (x .objects ++ names₂), length-append (x .objects) names₂, second-length (x .atEnd) (x .early), second-length (x .inFront) (x .saved)) in
           let end : length (toNodes ++ (x .metadata ++ (timers₁ ++ (x .objects ++ names₂)))) ≡ namesEnd = rw (to-size (timers₁ ++ (x .objects ++ names₂))) (omega arith) in
           rows-hold whole (toNodes ++ (x .metadata ++ (timers₁ ++ (x .objects ++ names₂)))) (x .late) [] _ (rw z (simp (append-assoc, append-nil))) (late z) (rw (end, z))
       go false z =
@@ -205,32 +204,32 @@ module _ (x : Pieces) where
           rows-hold whole (toNodes ++ (x .metadata ++ [])) (x .early) (x .objects ++ (names₂ ++ [])) _ (rw z (simp append-assoc)) (early z) (rw (end, z))
 
 -- ---- a block's bytes
-slot-first : {A : Type 0} (b : Bool) (f : Form A) (x u : A) → only b u f .encode (pick b x u) ≡ pick b (f .encode x) []
+slot-first : {A : Type 0} (b : Bool) (f : Form A) (x u : A) → only b u f .encode (cond b x u) ≡ cond b (f .encode x) []
 unfolding nothing
 slot-first true f x u = refl
 slot-first false f x u = refl
 
-slot-second : {A : Type 0} (b : Bool) (f : Form A) (x u : A) → only (not b) u f .encode (pick b u x) ≡ pick b [] (f .encode x)
+slot-second : {A : Type 0} (b : Bool) (f : Form A) (x u : A) → only (not b) u f .encode (cond b u x) ≡ cond b [] (f .encode x)
 unfolding nothing
 slot-second true f x u = refl
 slot-second false f x u = refl
 
 -- where the other place has the format itself
-same-second : {A : Type 0} (b : Bool) (f : Form A) (x u : A) → only (not b) u f .encode (pick b u x) ≡ pick b [] (only (not b) u f .encode x)
+same-second : {A : Type 0} (b : Bool) (f : Form A) (x u : A) → only (not b) u f .encode (cond b u x) ≡ cond b [] (only (not b) u f .encode x)
 unfolding nothing
 same-second true f x u = refl
 same-second false f x u = refl
 
-same-first : {A : Type 0} (b : Bool) (f : Form A) (x u : A) → only b u f .encode (pick b x u) ≡ pick b (only b u f .encode x) []
+same-first : {A : Type 0} (b : Bool) (f : Form A) (x u : A) → only b u f .encode (cond b x u) ≡ cond b (only b u f .encode x) []
 unfolding nothing
 same-first true f x u = refl
 same-first false f x u = refl
 
-early-slot : (v : ℕ) (k : Timers) → earlyTimers v .encode (pick (since 25 v) untimed k) ≡ pick (since 25 v) [] (earlyTimers v .encode k)
+early-slot : (v : ℕ) (k : Timers) → earlyTimers v .encode (cond (since 25 v) untimed k) ≡ cond (since 25 v) [] (earlyTimers v .encode k)
 unfolding earlyTimers
 early-slot v k = same-second (since 25 v) _ k untimed
 
-late-slot : (v : ℕ) (k : Timers) → lateTimers v .encode (pick (since 25 v) k untimed) ≡ pick (since 25 v) (lateTimers v .encode k) []
+late-slot : (v : ℕ) (k : Timers) → lateTimers v .encode (cond (since 25 v) k untimed) ≡ cond (since 25 v) (lateTimers v .encode k) []
 unfolding lateTimers
 late-slot v k = same-first (since 25 v) _ k untimed
 

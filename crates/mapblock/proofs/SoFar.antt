@@ -2,12 +2,11 @@
 use Prim.Native.Nat.{ℕ, _+_, _-_, _<_, _≤_}
 use mathlib.Core.Path.{_≡_, refl, ap, sym, subst, _∙_}
 use mathlib.Core.List.{List, []}
-use mathlib.Core.Bool.{Bool, true, false}
+use mathlib.Core.Bool.{Bool, true, false, cond}
 use native.Mathlib.Omega.{arith}
 use lib.Dec.{leb, eqb}
 use lib.ListN.{length, drop, length-append, length-drop}
 use borrow.Author.Tests.{le-leb, lt-leb, leb-true, leb-false}
-use Rattle.wire.specs.Choice.{pick}
 use Rattle.wire.specs.Bytes.{Bytes, bytes-drop}
 use Rattle.wire.specs.Read.{done}
 use Rattle.wire.specs.Format.{nothing, _⨾_, pair, encodeItems, ends-in}
@@ -82,15 +81,15 @@ module _ (t u s : List ℕ) (w : FrontFields) (F : FrontIs t u s w) where
     abbrev N : ℕ
     N = length (nodes v .encode (x .1 .1))
 
-    lists-at : w .lists ≡ A + pick (since 29 v) S 0 + 2
+    lists-at : w .lists ≡ A + cond (since 29 v) S 0 + 2
     lists-at = rw (F .opened) at (F .at)
 
-    only-same : (c : Bool) → length (only c unsaved (saved (freeIn t)) .encode (x .1 .0)) ≡ pick c S 0
+    only-same : (c : Bool) → length (only c unsaved (saved (freeIn t)) .encode (x .1 .0)) ≡ cond c S 0
     unfolding nothing
     only-same true = ap (length {A = ℕ}) (saved-same (freeIn t) (x .1 .0))
     only-same false = refl
 
-    front-takes : w .end ≡ A + (pick (since 29 v) S 0 + N)
+    front-takes : w .end ≡ A + (cond (since 29 v) S 0 + N)
     unfolding front _⨾_
     front-takes = front (freeIn t) .backward s x (w .end) b front-read .ends ∙ rw (length-append, length-append, only-same (since 29 v))
 
@@ -116,7 +115,7 @@ module _ (t u s : List ℕ) (w : FrontFields) (F : FrontIs t u s w) where
         let c : Bytes l = bytes-drop (p .0) (drop (w .end) s) (bytes-drop (w .end) s b) in
         let j : p .1 ≡ m .early = early-length v l (p .2) c ∙ sym (M .second) in
         let a : AtEnd (y .1 .0) (m .early) = rw j at (early-rows v l (p .2) c) in
-        subst (λ (q : ℕ). (length (encodeItems timerRow [] (y .1 .0 .rows)) ≡ m .early - pick (eqb q 1) 3 (m .early)) × (pick (eqb q 1) 3 (m .early) ≤ m .early)) (M .timer) a
+        subst (λ (q : ℕ). (length (encodeItems timerRow [] (y .1 .0 .rows)) ≡ m .early - cond (eqb q 1) 3 (m .early)) × (cond (eqb q 1) 3 (m .early) ≤ m .early)) (M .timer) a
 
     pub early-fits : earlyHead m ≤ m .early
     early-fits = early-at-end .1

@@ -4,14 +4,13 @@ use mathlib.Core.Path.{_≡_, refl, ap, sym, _∙_}
 use mathlib.Core.Logic.{inl}
 use mathlib.Core.Option.{Option, some, none}
 use mathlib.Core.List.{List, [], _∷_}
-use mathlib.Core.Bool.{Bool, true, false}
+use mathlib.Core.Bool.{Bool, true, false, cond}
 use native.Mathlib.Omega.{arith}
 use lib.Dec.{eqb, lit<, lit≤}
 use lib.ListN.{length, getD, replicate, length-replicate, getD-replicate}
 use borrow.Author.Tests.{eqb-true, eq-eqb}
-use Rattle.wire.specs.Choice.{pick}
 use Rattle.wire.specs.Bytes.{Bytes, bytes-nil, bytes-cons}
-use Rattle.wire.specs.Read.{done, refused, never, bind-done, pick-done}
+use Rattle.wire.specs.Read.{done, refused, never, bind-done, cond-done}
 use Rattle.wire.proofs.EveryFormat.{every-format}
 use Rattle.mapblock.specs.Data.{Block}
 use Rattle.mapblock.specs.Layout.{since, all}
@@ -32,8 +31,8 @@ taken s b n w = (there, back)
   where
     there : verdict all s ≡ done b n → Valid b × (s ≡ block all .encode b) × (n ≡ length s)
     there h =
-        let x = bind-done (block all .read s) (λ b n. pick (eqb n (length s)) (judged all b n (stray all b)) (refused fault.BytesAfter n)) b n h in
-        let y = pick-done (eqb (x .1) (length s)) (judged all (x .0) (x .1) (stray all (x .0))) fault.BytesAfter (x .1) b n (x .3) in
+        let x = bind-done (block all .read s) (λ b n. cond (eqb n (length s)) (judged all b n (stray all b)) (refused fault.BytesAfter n)) b n h in
+        let y = cond-done (eqb (x .1) (length s)) (judged all (x .0) (x .1) (stray all (x .0))) fault.BytesAfter (x .1) b n (x .3) in
         let z = judged-done (x .0) b (x .1) n (stray all (x .0)) (y .1) in
         let size : x .1 ≡ length s = eqb-true (x .1) (length s) (y .0) in
         let r : block all .read s ≡ done b (length s) = x .2 ∙ ap (λ (c : Block). done c (x .1)) (z .1) ∙ ap (done b) size in
@@ -90,7 +89,7 @@ airAt v t = record {
 air-id : (v i : ℕ) → i < 4096 → contentId v (getD zeros i 0) (getD zeros i 0) ≡ 0
 air-id v i h = rw (zeros-at i h) (by (since 24 v))
   where
-    by : (c : Bool) → _≡_ {A = ℕ} (pick c 0 0) 0
+    by : (c : Bool) → _≡_ {A = ℕ} (cond c 0 0) 0
     by true = refl
     by false = refl
 

@@ -4,12 +4,12 @@ use mathlib.Core.Path.{_≡_, refl, ap, ap₂, sym, subst, subst⁻¹}
 use mathlib.Core.Logic.{_↔_}
 use mathlib.Core.Option.{some, none}
 use mathlib.Core.List.{List, [], _∷_}
-use mathlib.Core.Bool.{Bool, true, false, not}
+use mathlib.Core.Bool.{Bool, true, false, cond, not}
 use native.Mathlib.Omega.{arith}
 use lib.Dec.{leb, eqb, lit<}
 use lib.ListN.{length, getD}
 use borrow.Author.Tests.{le-leb, lt-leb, leb-true, eqb-true, eqb-false}
-use Rattle.wire.specs.Choice.{pick, and-yes, yes-and}
+use Rattle.wire.specs.Choice.{and-yes, yes-and}
 use Rattle.wire.specs.Format.{nothing, such, _⨾_, along, items, OkItems, items-length}
 use Rattle.wire.specs.Formats.{number, u16, fixed, listed, times, only}
 use Rattle.mapblock.specs.Inventory.{Form}
@@ -72,7 +72,7 @@ before-24-ok v k h =
     let late : leb 25 v ≡ false = lt-leb 25 v (omega arith) in
     ((λ x. by (leb 23 v) .0 (rw (late, lt-leb 24 v h) at x)), (λ e. rw (late, lt-leb 24 v h) (by (leb 23 v) .1 e)))
   where
-    by : (c : Bool) → pick c (fixed 1 0 fault.ByteOf23 (nothing {ends = fault.Ends} untimed)) (nothing untimed) .Ok k ↔ (k ≡ untimed)
+    by : (c : Bool) → cond c (fixed 1 0 fault.ByteOf23 (nothing {ends = fault.Ends} untimed)) (nothing untimed) .Ok k ↔ (k ≡ untimed)
     by true = fixed-ok 1 0 fault.ByteOf23 (nothing untimed) k (omega arith)
     by false = ((λ e. e), λ e. e)
 
@@ -85,7 +85,7 @@ unfolding lateTimers nothing
 no-late v h = rw (lt-leb 25 v h)
 
 -- where the version has them
-timers-there : (v : ℕ) (k : Timers) → earlyTimers v .Ok (pick (since 25 v) untimed k) → lateTimers v .Ok (pick (since 25 v) k untimed) → TimersGood v k
+timers-there : (v : ℕ) (k : Timers) → earlyTimers v .Ok (cond (since 25 v) untimed k) → lateTimers v .Ok (cond (since 25 v) k untimed) → TimersGood v k
 timers-there v k e l = either 25 v late (λ h. either 24 v (of-24 h) (old h))
   where
     late : 25 ≤ v → TimersGood v k
@@ -105,10 +105,10 @@ timers-there v k e l = either 25 v late (λ h. either 24 v (of-24 h) (old h))
         let byte : k .byte ≡ 0 = ap (λ (k : Timers). k .byte) x in
         record { timed = timed-none (k .rows) rows; byte = omega arith; except-24 = λ _. byte; before-24 = λ _. rows; of-24 = λ _ _. rows }
 
-timers-back : (v : ℕ) (k : Timers) → TimersGood v k → earlyTimers v .Ok (pick (since 25 v) untimed k) × lateTimers v .Ok (pick (since 25 v) k untimed)
+timers-back : (v : ℕ) (k : Timers) → TimersGood v k → earlyTimers v .Ok (cond (since 25 v) untimed k) × lateTimers v .Ok (cond (since 25 v) k untimed)
 timers-back v k g = either 25 v late (λ h. rw (lt-leb 25 v h) (either 24 v (of-24 h) old, no-late v h))
   where
-    late : 25 ≤ v → earlyTimers v .Ok (pick (since 25 v) untimed k) × lateTimers v .Ok (pick (since 25 v) k untimed)
+    late : 25 ≤ v → earlyTimers v .Ok (cond (since 25 v) untimed k) × lateTimers v .Ok (cond (since 25 v) k untimed)
     late h = rw (le-leb 25 v h) (no-early v h, late-ok v k h .1 (g .except-24 (λ z. absurd (omega arith)), g .timed))
 
     of-24 : v < 25 → 24 ≤ v → earlyTimers v .Ok k
@@ -176,7 +176,7 @@ unfolding strayFrom
 mapped-there b zero i h j p q = absurd (omega arith)
 mapped-there b (suc n) i h j p q = by (unmapped all (b .names) (idAt b i)) refl h (eqb j i) refl (mapped-there b n (suc i))
   where
-    by : (c : Bool) → unmapped all (b .names) (idAt b i) ≡ c → pick c (some i) (strayFrom all b n (suc i)) ≡ none → (d : Bool) → eqb j i ≡ d
+    by : (c : Bool) → unmapped all (b .names) (idAt b i) ≡ c → cond c (some i) (strayFrom all b n (suc i)) ≡ none → (d : Bool) → eqb j i ≡ d
         → (strayFrom all b n (suc i) ≡ none → (j : ℕ) → suc i ≤ j → j < suc i + n → Has idOf (idAt b j) (b .names)) → Has idOf (idAt b j) (b .names)
     by true e h d f ih = let z : _≡_ {A = ℕ} 0 1 = cc in absurd (omega arith)
     by false e h true f ih =
@@ -199,7 +199,7 @@ saved-ok x =
     ((λ h. (h .0, rows .0 (list .0 (h .1)))), λ h. (h .0, list .1 (rows .1 (h .1))))
 
 -- they stand in front or behind
-pub slot-ok : {A : Type 0} (f : Form A) (a₀ a : A) (c : Bool) → (only c a₀ f .Ok (pick c a a₀) × only (not c) a₀ f .Ok (pick c a₀ a)) ↔ f .Ok a
+pub slot-ok : {A : Type 0} (f : Form A) (a₀ a : A) (c : Bool) → (only c a₀ f .Ok (cond c a a₀) × only (not c) a₀ f .Ok (cond c a₀ a)) ↔ f .Ok a
 unfolding nothing
 slot-ok f a₀ a true = ((λ h. h .0), λ h. (h, refl))
 slot-ok f a₀ a false = ((λ h. h .1), λ h. (refl, h))
@@ -211,7 +211,7 @@ objects-ok l =
     let rows = each-ok ObjectGood objectRow object-ok 2 l in
     ((λ h. let x = rows .0 (list .0 h) in record { count = x .0; each = x .1 }), λ g. list .1 (rows .1 (g .count, g .each)))
 
-pub list-version : (c d : Bool) → pick c 2 1 < 256 ^ pick d 1 2
+pub list-version : (c d : Bool) → cond c 2 1 < 256 ^ cond d 1 2
 list-version true true = lit< tt
 list-version true false = lit< tt
 list-version false true = lit< tt
@@ -220,7 +220,7 @@ list-version false false = lit< tt
 metadata-ok : (v : ℕ) (l : List MetadataRow) → metadata v .Ok l ↔ (Rows (MetadataGood v) l × Distinct (λ (r : MetadataRow). r .position) l)
 unfolding metadata
 metadata-ok v l =
-    let list = fixed-ok (pick (since 23 v) 1 2) (pick (since 28 v) 2 1) fault.MetadataVersion (listed 2 (metadataRow v)) l (list-version (since 28 v) (since 23 v)) in
+    let list = fixed-ok (cond (since 23 v) 1 2) (cond (since 28 v) 2 1) fault.MetadataVersion (listed 2 (metadataRow v)) l (list-version (since 28 v) (since 23 v)) in
     let rows = rows-ok (λ (r : MetadataRow). r .position) (MetadataGood v) (metadataRow v) (metadata-row-ok v) l in
     ((λ h. rows .0 (list .0 h)), λ h. list .1 (rows .1 h))
 

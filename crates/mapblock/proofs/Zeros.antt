@@ -1,7 +1,7 @@
 -- The zeros and the ones among the low k bits of a number.
 use Prim.Native.Nat.{ℕ, zero, suc, _+_, _-_, _*_, _/_, _%_, _^_, _≤_}
 use mathlib.Core.Path.{_≡_, refl, _∙_}
-use mathlib.Core.Bool.{Bool, true, false}
+use mathlib.Core.Bool.{Bool, true, false, cond}
 use native.Mathlib.Numerals.{add-one}
 use native.Mathlib.Omega.{arith}
 use lib.Dec.{eqb}
@@ -9,13 +9,12 @@ use lib.Bits.{bitAnd, and-mask}
 use lib.Count.{ones, ones-step}
 use lib.Pow.{mod-pow-add}
 use borrow.Author.Tests.{eqb-true, eqb-false}
-use Rattle.wire.specs.Choice.{pick}
 use Rattle.mapblock.specs.Light.{zeros}
 
-low-bit : (n : ℕ) → pick (eqb (n % 2) 0) 1 0 + n % 2 ≡ 1
+low-bit : (n : ℕ) → cond (eqb (n % 2) 0) 1 0 + n % 2 ≡ 1
 low-bit n = go (eqb (n % 2) 0) refl
   where
-    go : (b : Bool) → eqb (n % 2) 0 ≡ b → pick b 1 0 + n % 2 ≡ 1
+    go : (b : Bool) → eqb (n % 2) 0 ≡ b → cond b 1 0 + n % 2 ≡ 1
     go true e = omega (arith, eqb-true (n % 2) 0 e)
     go false e = let h : n % 2 ≡ 0 → ⊥ = eqb-false (n % 2) 0 e in omega arith
 

@@ -3,10 +3,9 @@ use Prim.Native.Nat.{ℕ, zero, suc, _+_, _*_, _/_}
 use mathlib.Core.Path.{_≡_, refl, ap₂, sym, subst⁻¹}
 use mathlib.Core.Option.{Option, some, none}
 use mathlib.Core.List.{List}
-use mathlib.Core.Bool.{Bool, true, false, not}
+use mathlib.Core.Bool.{Bool, true, false, cond, not}
 use lib.Dec.{ltb, eqb}
 use lib.ListN.{length, getD}
-use Rattle.wire.specs.Choice.{pick}
 use Rattle.wire.specs.Read.{Read, done, refused, bind}
 use Rattle.wire.specs.Format.{nothing, along, _⨾_}
 use Rattle.wire.specs.Formats.{only}
@@ -20,8 +19,8 @@ use Rattle.mapblock.specs.declared.fault.Fault.the-variants as fault
 abbrev pub built : Bool → Bool → Front × Rest → Block
 built n t x =
     let o = x .0 .0 in
-    let s = pick n (x .0 .1 .0) (x .1 .1 .1 .1 .0) in
-    let k = pick t (x .1 .1 .1 .1 .1) (x .1 .1 .0) in
+    let s = cond n (x .0 .1 .0) (x .1 .1 .1 .1 .0) in
+    let k = cond t (x .1 .1 .1 .1 .1) (x .1 .1 .0) in
     record {
       head = record { version = o .version; flags = o .flags; lighting = o .lighting; timestamp = s .timestamp; timer = k .byte };
       names = s .names;
@@ -42,8 +41,8 @@ timersOf b = record { byte = b .head .timer; rows = b .timers }
 
 abbrev pub pieces : Bool → Bool → Block → Front × Rest
 pieces n t b = (
-  (openingOf b, (pick n (savedOf b) unsaved, b .nodes)),
-  (b .metadata, (pick t untimed (timersOf b), (b .objects, (pick n unsaved (savedOf b), pick t (timersOf b) untimed)))),
+  (openingOf b, (cond n (savedOf b) unsaved, b .nodes)),
+  (b .metadata, (cond t untimed (timersOf b), (b .objects, (cond n unsaved (savedOf b), cond t (timersOf b) untimed)))),
 )
 
 pub built-pieces : (n t : Bool) (b : Block) → built n t (pieces n t b) ≡ b
@@ -87,7 +86,7 @@ module _ (free : ℕ → Bool) where
 
 -- ---- content ids
 abbrev pub contentId : ℕ → ℕ → ℕ → ℕ
-contentId v param0 param2 = pick (since 24 v) param0 (pick (ltb param0 128) param0 (16 * param0 + param2 / 16))
+contentId v param0 param2 = cond (since 24 v) param0 (cond (ltb param0 128) param0 (16 * param0 + param2 / 16))
 
 -- of the node at an index
 abbrev pub idAt : Block → ℕ → ℕ
@@ -95,7 +94,7 @@ idAt b i = contentId (b .head .version) (getD (b .nodes .param0) i 0) (getD (b .
 
 -- where step 2 ends
 abbrev pub frontNamesEnd : Block → ℕ
-frontNamesEnd b = length (opening .encode (openingOf b)) + pick (since 29 (b .head .version)) (length (saved all .encode (savedOf b))) 0
+frontNamesEnd b = length (opening .encode (openingOf b)) + cond (since 29 (b .head .version)) (length (saved all .encode (savedOf b))) 0
 
 -- where the param lists stand, behind their two widths, and the param0 of a node
 abbrev pub listsAt : Block → ℕ
@@ -109,7 +108,7 @@ module _ (free : ℕ → Bool) where
   -- of so many nodes from an index on, the first whose id is not mapped
   unfoldable pub strayFrom : Block → ℕ → ℕ → Option ℕ
   strayFrom b zero i = none
-  strayFrom b (suc n) i = pick (unmapped free (b .names) (idAt b i)) (some i) (strayFrom b n (suc i))
+  strayFrom b (suc n) i = cond (unmapped free (b .names) (idAt b i)) (some i) (strayFrom b n (suc i))
 
   abbrev pub stray : Block → Option ℕ
   stray b = strayFrom b 4096 0
@@ -122,4 +121,4 @@ module _ (free : ℕ → Bool) where
   unfoldable pub verdict : List ℕ → Read Fault Block
   verdict s =
       bind (block free .read s) λ b n.
-      pick (eqb n (length s)) (judged b n (stray b)) (refused fault.BytesAfter n)
+      cond (eqb n (length s)) (judged b n (stray b)) (refused fault.BytesAfter n)

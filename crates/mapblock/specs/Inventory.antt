@@ -4,12 +4,12 @@ use mathlib.Core.Path.{_≡_, refl, ap, sym, _∙_}
 use mathlib.Core.Logic.{inl}
 use mathlib.Core.Option.{Option, some, none, Option·none-ne-some}
 use mathlib.Core.List.{List, [], _∷_, _++_}
-use mathlib.Core.Bool.{Bool, true, false}
+use mathlib.Core.Bool.{Bool, true, false, cond}
 use native.Mathlib.Omega.{arith}
 use lib.Dec.{eqb}
 use lib.ListN.{length, take, drop, take-append-drop}
 use lib.Seq.{length-take-le, take-append-seam}
-use Rattle.wire.specs.Choice.{pick, pick-yes}
+use Rattle.wire.specs.Choice.{cond-yes}
 use Rattle.wire.specs.Bytes.{Bytes, bytes-take}
 use Rattle.wire.specs.Marks.{starts, starts-long, starts-append}
 use Rattle.wire.specs.Read.{Read, done, refused, reach, never}
@@ -32,7 +32,7 @@ after (some n) = some (suc n)
 -- how many bytes there are through the first end line; the list begins a line where the flag is true
 abbrev pub through : Bool → List ℕ → Option ℕ
 through fresh [] = none
-through fresh (x ∷ xs) = pick (pick fresh (starts endLine (x ∷ xs)) false) (some 13) (after (through (eqb x 10) xs))
+through fresh (x ∷ xs) = cond (cond fresh (starts endLine (x ∷ xs)) false) (some 13) (after (through (eqb x 10) xs))
 
 abbrev pub sized : List ℕ → Option ℕ → Read Fault (List ℕ)
 sized s none = refused fault.Ends 0
@@ -45,13 +45,13 @@ after-some (some m) n h = (m, refl, (cc))
 
 through-long : (b : Bool) (l : List ℕ) (n : ℕ) → through b l ≡ some n → (13 ≤ n) × (n ≤ length l)
 through-long b [] n h = absurd (Option·none-ne-some n h)
-through-long b (x ∷ xs) n h = go (pick b (starts endLine (x ∷ xs)) false) refl h (λ m. through-long (eqb x 10) xs m)
+through-long b (x ∷ xs) n h = go (cond b (starts endLine (x ∷ xs)) false) refl h (λ m. through-long (eqb x 10) xs m)
   where
-    go : (c : Bool) → pick b (starts endLine (x ∷ xs)) false ≡ c → pick c (some 13) (after (through (eqb x 10) xs)) ≡ some n
+    go : (c : Bool) → cond b (starts endLine (x ∷ xs)) false ≡ c → cond c (some 13) (after (through (eqb x 10) xs)) ≡ some n
         → ((m : ℕ) → through (eqb x 10) xs ≡ some m → (13 ≤ m) × (m ≤ length xs)) → (13 ≤ n) × (n ≤ suc (length xs))
     go true e f ih =
         let z : 13 ≡ n = cc in
-        let k : 13 ≤ suc (length xs) = starts-long endLine (x ∷ xs) (pick-yes b (starts endLine (x ∷ xs)) e .1) in
+        let k : 13 ≤ suc (length xs) = starts-long endLine (x ∷ xs) (cond-yes b (starts endLine (x ∷ xs)) e .1) in
         (omega arith, omega arith)
     go false e f ih =
         let y = after-some (through (eqb x 10) xs) n f in
@@ -64,40 +64,40 @@ through-more b [] t n h = absurd (Option·none-ne-some n h)
 through-more b (x ∷ xs) t n h =
     let i = through-long b (x ∷ xs) n h in
     let k : starts endLine (x ∷ xs ++ t) ≡ starts endLine (x ∷ xs) = starts-append endLine (x ∷ xs) t (omega arith) in
-    go k (pick b (starts endLine (x ∷ xs)) false) refl h (λ m. through-more (eqb x 10) xs t m)
+    go k (cond b (starts endLine (x ∷ xs)) false) refl h (λ m. through-more (eqb x 10) xs t m)
   where
-    go : starts endLine (x ∷ xs ++ t) ≡ starts endLine (x ∷ xs) → (c : Bool) → pick b (starts endLine (x ∷ xs)) false ≡ c → pick c (some 13) (after (through (eqb x 10) xs)) ≡ some n
+    go : starts endLine (x ∷ xs ++ t) ≡ starts endLine (x ∷ xs) → (c : Bool) → cond b (starts endLine (x ∷ xs)) false ≡ c → cond c (some 13) (after (through (eqb x 10) xs)) ≡ some n
         → ((m : ℕ) → through (eqb x 10) xs ≡ some m → through (eqb x 10) (xs ++ t) ≡ some m)
-        → pick (pick b (starts endLine (x ∷ xs ++ t)) false) (some 13) (after (through (eqb x 10) (xs ++ t))) ≡ some n
-    go k true e f ih = ap (λ (d : Bool). pick (pick b d false) (some 13) (after (through (eqb x 10) (xs ++ t)))) k ∙ ap (λ (d : Bool). pick d (some 13) (after (through (eqb x 10) (xs ++ t)))) e ∙ f
+        → cond (cond b (starts endLine (x ∷ xs ++ t)) false) (some 13) (after (through (eqb x 10) (xs ++ t))) ≡ some n
+    go k true e f ih = ap (λ (d : Bool). cond (cond b d false) (some 13) (after (through (eqb x 10) (xs ++ t)))) k ∙ ap (λ (d : Bool). cond d (some 13) (after (through (eqb x 10) (xs ++ t)))) e ∙ f
     go k false e f ih =
         let y = after-some (through (eqb x 10) xs) n f in
-        ap (λ (d : Bool). pick (pick b d false) (some 13) (after (through (eqb x 10) (xs ++ t)))) k ∙ ap (λ (d : Bool). pick d (some 13) (after (through (eqb x 10) (xs ++ t)))) e
+        ap (λ (d : Bool). cond (cond b d false) (some 13) (after (through (eqb x 10) (xs ++ t)))) k ∙ ap (λ (d : Bool). cond d (some 13) (after (through (eqb x 10) (xs ++ t)))) e
         ∙ ap after (ih (y .0) (y .1)) ∙ ap some (y .2)
 
 -- and none after it are needed
 through-take : (b : Bool) (s : List ℕ) (n : ℕ) → through b s ≡ some n → through b (take n s) ≡ some n
 through-take b [] n h = absurd (Option·none-ne-some n h)
 through-take b (x ∷ xs) n h =
-    go (pick b (starts endLine (x ∷ xs)) false) refl h (λ m. through-take (eqb x 10) xs m)
+    go (cond b (starts endLine (x ∷ xs)) false) refl h (λ m. through-take (eqb x 10) xs m)
   where
     same : (m : ℕ) → 12 ≤ m → m ≤ length xs → starts endLine (x ∷ take m xs) ≡ starts endLine (x ∷ xs)
     same m p q =
         let e : starts endLine (x ∷ (take m xs ++ drop m xs)) ≡ starts endLine (x ∷ take m xs) = starts-append endLine (x ∷ take m xs) (drop m xs) (omega (arith, length-take-le m xs q)) in
         sym e ∙ ap (λ (l : List ℕ). starts endLine (x ∷ l)) (take-append-drop m xs)
 
-    step : (m : ℕ) (c : Bool) → 12 ≤ m → m ≤ length xs → pick b (starts endLine (x ∷ xs)) false ≡ c
-        → through b (x ∷ take m xs) ≡ pick c (some 13) (after (through (eqb x 10) (take m xs)))
+    step : (m : ℕ) (c : Bool) → 12 ≤ m → m ≤ length xs → cond b (starts endLine (x ∷ xs)) false ≡ c
+        → through b (x ∷ take m xs) ≡ cond c (some 13) (after (through (eqb x 10) (take m xs)))
     step m c p q e =
-        ap (λ (d : Bool). pick (pick b d false) (some 13) (after (through (eqb x 10) (take m xs)))) (same m p q)
-        ∙ ap (λ (d : Bool). pick d (some 13) (after (through (eqb x 10) (take m xs)))) e
+        ap (λ (d : Bool). cond (cond b d false) (some 13) (after (through (eqb x 10) (take m xs)))) (same m p q)
+        ∙ ap (λ (d : Bool). cond d (some 13) (after (through (eqb x 10) (take m xs)))) e
 
-    go : (c : Bool) → pick b (starts endLine (x ∷ xs)) false ≡ c → pick c (some 13) (after (through (eqb x 10) xs)) ≡ some n
+    go : (c : Bool) → cond b (starts endLine (x ∷ xs)) false ≡ c → cond c (some 13) (after (through (eqb x 10) xs)) ≡ some n
         → ((m : ℕ) → through (eqb x 10) xs ≡ some m → through (eqb x 10) (take m xs) ≡ some m)
         → through b (take n (x ∷ xs)) ≡ some n
     go true e f ih =
         let z : 13 ≡ n = cc in
-        let k : 13 ≤ suc (length xs) = starts-long endLine (x ∷ xs) (pick-yes b (starts endLine (x ∷ xs)) e .1) in
+        let k : 13 ≤ suc (length xs) = starts-long endLine (x ∷ xs) (cond-yes b (starts endLine (x ∷ xs)) e .1) in
         let p : 12 ≤ 12 = omega arith in
         let q : 12 ≤ length xs = omega arith in
         rw (← z) (step 12 true p q e)

@@ -2,9 +2,8 @@
 -- `free` are the ids that may be mapped: `all` in a block of its own. A caller who lends a table of marks may hold some back.
 use Prim.Native.Nat.{ℕ}
 use mathlib.Core.List.{List, [], _∷_}
-use mathlib.Core.Bool.{Bool, true, false, not, _&&_}
+use mathlib.Core.Bool.{Bool, true, false, cond, not, _&&_}
 use lib.Dec.{leb, eqb}
-use Rattle.wire.specs.Choice.{pick}
 use Rattle.wire.specs.Format.{nothing, such, _⨾_}
 use Rattle.wire.specs.Formats.{_▹_, u8, u16, u32, s32, number, counted, listed, fixed, times, only, into}
 use Rattle.mapblock.specs.Inventory.{Form, inventory}
@@ -20,7 +19,7 @@ before n v = not (leb n v)
 -- ---- rows
 -- all but one
 abbrev pub without : ℕ → (ℕ → Bool) → ℕ → Bool
-without m free n = pick (eqb n m) false (free n)
+without m free n = cond (eqb n m) false (free n)
 
 -- A number is unused where it was free before the list and no row of the list has it.
 unfoldable pub unused : {A : Type 0} → (A → ℕ) → (ℕ → Bool) → List A → ℕ → Bool
@@ -91,7 +90,7 @@ saved free = into savedParts
     ▹ fixed 1 0 fault.MappingVersion (listed 2 (nameRow free)))
 
 abbrev pub width : ℕ → ℕ
-width v = pick (since 24 v) 2 1
+width v = cond (since 24 v) 2 1
 
 unfoldable pub params : ℕ → Form Nodes
 params v = into nodeParts
@@ -103,7 +102,7 @@ unfoldable pub nodes : ℕ → Form Nodes
 nodes v = fixed 1 (width v) fault.ContentWidth (fixed 1 2 fault.ParamsWidth (params v))
 
 unfoldable pub metadata : ℕ → Form (List MetadataRow)
-metadata v = fixed (pick (since 23 v) 1 2) (pick (since 28 v) 2 1) fault.MetadataVersion (listed 2 (metadataRow v))
+metadata v = fixed (cond (since 23 v) 1 2) (cond (since 28 v) 2 1) fault.MetadataVersion (listed 2 (metadataRow v))
 
 unfoldable pub objects : Form (List ObjectRow)
 objects = fixed 1 0 fault.ObjectVersion (listed 2 λ _. objectRow)
@@ -111,8 +110,8 @@ objects = fixed 1 0 fault.ObjectVersion (listed 2 λ _. objectRow)
 -- behind the metadata: version 24's timer byte and rows, version 23's 0, else nothing
 unfoldable pub earlyTimers : ℕ → Form Timers
 earlyTimers v = only (before 25 v) untimed
-    (pick (since 24 v) (into timersParts (such (λ t. leb t 1) fault.TimerByte u8 ⨾ λ t. only (eqb t 1) [] (listed 2 timerRow)))
-    (pick (since 23 v) (fixed 1 0 fault.ByteOf23 (nothing untimed))
+    (cond (since 24 v) (into timersParts (such (λ t. leb t 1) fault.TimerByte u8 ⨾ λ t. only (eqb t 1) [] (listed 2 timerRow)))
+    (cond (since 23 v) (fixed 1 0 fault.ByteOf23 (nothing untimed))
     (nothing untimed)))
 
 -- at the end, from version 25

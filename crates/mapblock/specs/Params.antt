@@ -3,10 +3,9 @@ use Prim.Native.Nat.{ℕ, zero, suc, _+_, _*_, _≤_}
 use mathlib.Core.Path.{_≡_}
 use mathlib.Core.Option.{Option, some, none}
 use mathlib.Core.List.{List, [], _∷_}
-use mathlib.Core.Bool.{Bool}
+use mathlib.Core.Bool.{Bool, cond}
 use lib.Dec.{eqb, leb}
 use lib.ListN.{length, getD, take, drop}
-use Rattle.wire.specs.Choice.{pick}
 use Rattle.wire.specs.Bytes.{spelt}
 use Rattle.mapblock.specs.Data.{Nodes}
 use Rattle.mapblock.specs.Layout.{width}
@@ -28,7 +27,7 @@ idIn v s i = contentId v (spelt 0 (take (width v) (drop (width v * i) s))) (getD
 -- of so many nodes from an index on, the first whose id has no mark in the table
 unfoldable pub strayIn : ℕ → List ℕ → List ℕ → ℕ → ℕ → Option ℕ
 strayIn v s t zero i = none
-strayIn v s t (suc n) i = pick (eqb (getD t (idIn v s i) 0) 0) (some i) (strayIn v s t n (suc i))
+strayIn v s t (suc n) i = cond (eqb (getD t (idIn v s i) 0) 0) (some i) (strayIn v s t n (suc i))
 
 -- every id up to a bound has a mark in the table
 abbrev pub MarkedUpto : List ℕ → ℕ → Type 0
@@ -39,7 +38,7 @@ abbrev pub holdsLists : ℕ → List ℕ → Bool
 holdsLists v s = leb (4096 * width v + 8192) (length s)
 
 abbrev pub strayOf : ℕ → List ℕ → List ℕ → Option ℕ
-strayOf v s t = pick (holdsLists v s) (strayIn v s t 4096 0) none
+strayOf v s t = cond (holdsLists v s) (strayIn v s t 4096 0) none
 
 abbrev pub idOf : ℕ → List ℕ → ℕ → ℕ
-idOf v s i = pick (leb 4096 i) 0 (pick (holdsLists v s) (idIn v s i) 0)
+idOf v s i = cond (leb 4096 i) 0 (cond (holdsLists v s) (idIn v s i) 0)

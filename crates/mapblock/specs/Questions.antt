@@ -1,11 +1,10 @@
 -- The reader, and the questions asked of a whole block: document 01, 'Reading, looking, writing' and 'Order'.
 use Prim.Native.Nat.{ℕ, _+_}
 use mathlib.Core.List.{List, [], _∷_}
-use mathlib.Core.Bool.{Bool, _&&_}
+use mathlib.Core.Bool.{Bool, cond, _&&_}
 use mathlib.Core.Path.{_≡_}
 use lib.Dec.{leb, eqb}
 use lib.ListN.{length}
-use Rattle.wire.specs.Choice.{pick}
 use Rattle.wire.specs.Read.{Read, done, refused}
 use Rattle.wire.specs.Format.{encodeItems}
 use Rattle.wire.specs.Answer.{Answer, good, refusal, plain, mapAnswer, partsMisfit, noSuch}
@@ -48,7 +47,7 @@ areWhole a b c = eqb a 4096 && (eqb b 4096 && eqb c 4096)
 
 -- The reader: 12 where a list lent is not of 4,096, and then the block. The lists hold what `lent` says of its param0, param1 and param2.
 abbrev pub readOf : List ℕ → ℕ → ℕ → ℕ → Answer Block
-readOf s a b c = pick (areWhole a b c) (blockOf s) (plain partsMisfit)
+readOf s a b c = cond (areWhole a b c) (blockOf s) (plain partsMisfit)
 
 -- where the sections are; nowhere when refused
 abbrev pub partsOf : Answer (Head × Sections) → Sections
@@ -64,7 +63,7 @@ sectionOf which s (refusal n r o) = []
 -- the name that an id has in the rows
 abbrev pub nameOf : List NameRow → ℕ → List ℕ
 nameOf [] id = []
-nameOf (r ∷ l) id = pick (eqb id (r .id)) (r .name) (nameOf l id)
+nameOf (r ∷ l) id = cond (eqb id (r .id)) (r .name) (nameOf l id)
 
 -- the name of the node at an index
 abbrev pub nameAt : Block → ℕ → List ℕ
@@ -73,14 +72,14 @@ nameAt b i = nameOf (b .names) (idAt b i)
 -- where an id's name stands in rows that start at a place; a row's name stands behind its id and length
 abbrev pub spotOf : List NameRow → ℕ → ℕ → Part
 spotOf [] at id = part at 0
-spotOf (r ∷ l) at id = pick (eqb id (r .id)) (part (at + 4) (length (r .name))) (spotOf l (at + 4 + length (r .name)) id)
+spotOf (r ∷ l) at id = cond (eqb id (r .id)) (part (at + 4) (length (r .name))) (spotOf l (at + 4 + length (r .name)) id)
 
 abbrev pub nameSpot : Block → ℕ → Part
 nameSpot b i = spotOf (b .names) (namesPart b .start) (idAt b i)
 
 -- the reader's number, then 16 for an index above 4095
 abbrev pub nodeOn : ℕ → Answer Block → Answer Part
-nodeOn i (good b) = pick (leb i 4095) (good (nameSpot b i)) (plain noSuch)
+nodeOn i (good b) = cond (leb i 4095) (good (nameSpot b i)) (plain noSuch)
 nodeOn i (refusal n r o) = refusal n r o
 
 abbrev pub nodeOf : List ℕ → ℕ → Answer Part

@@ -1,9 +1,9 @@
 -- Rows from the front of a part: document 01, 'Reading, looking, writing' and 'Order'. The front row is judged alone, so never 5, 6 or 8.
 use Prim.Native.Nat.{ℕ}
+use mathlib.Core.Bool.{cond}
 use mathlib.Core.List.{List, []}
 use lib.Dec.{eqb}
 use lib.ListN.{length, drop}
-use Rattle.wire.specs.Choice.{pick}
 use Rattle.wire.specs.Read.{Read, mapRead}
 use Rattle.wire.specs.Answer.{Answer, good, refusal, plain, versionOutside, noSuch}
 use Rattle.mapblock.specs.Layout.{all, isVersion, nameRow, metadataRow, objectRow, timerRow}
@@ -19,14 +19,14 @@ use Rattle.mapblock.specs.declared.timers.TimerFields.{TimerFields}
 
 -- 16 for an empty part, then what the reader says of the row
 abbrev pub frontRow : {A : Type 0} → List ℕ → Read Fault A → Answer (A × ℕ)
-frontRow s r = pick (eqb (length s) 0) (plain noSuch) (answerOf r)
+frontRow s r = cond (eqb (length s) 0) (plain noSuch) (answerOf r)
 
 abbrev pub nameRowOf : List ℕ → Answer (NameFields × ℕ)
 nameRowOf s = frontRow s (mapRead nameFields (nameRow all [] .read s))
 
 -- 2 comes first
 abbrev pub metadataRowOf : ℕ → List ℕ → Answer (MetadataFields × ℕ)
-metadataRowOf v s = pick (isVersion v) (frontRow s (mapRead (metadataFields v) (metadataRow v [] .read s))) (plain versionOutside)
+metadataRowOf v s = cond (isVersion v) (frontRow s (mapRead (metadataFields v) (metadataRow v [] .read s))) (plain versionOutside)
 
 abbrev pub objectRowOf : List ℕ → Answer (ObjectFields × ℕ)
 objectRowOf s = frontRow s (mapRead objectFields (objectRow .read s))

@@ -1,8 +1,8 @@
 -- What a row question tells of a row: its numbers, and where its runs stand, from the row's first byte. Document 01, 'Reading, looking, writing'.
 use Prim.Native.Nat.{ℕ, _+_}
+use mathlib.Core.Bool.{cond}
 use mathlib.Core.List.{[]}
 use lib.ListN.{length}
-use Rattle.wire.specs.Choice.{pick}
 use Rattle.wire.specs.Format.{encodeItems}
 use Rattle.mapblock.specs.Data.{NameRow, MetadataRow, ObjectRow, TimerRow}
 use Rattle.mapblock.specs.Layout.{since, before, variable}
@@ -30,10 +30,10 @@ abbrev pub metadataFields : ℕ → MetadataRow → MetadataFields
 metadataFields v r = record {
   position = r .position;
   kind = r .kind;
-  content = pick (before 23 v) (part 6 (length (r .content))) nowhere;
+  content = cond (before 23 v) (part 6 (length (r .content))) nowhere;
   variables = length (r .variables);
-  rows = pick (since 23 v) (part 6 (variableBytes v r)) nowhere;
-  inventory = pick (since 23 v) (part (6 + variableBytes v r) (length (r .inventory))) nowhere;
+  rows = cond (since 23 v) (part 6 (variableBytes v r)) nowhere;
+  inventory = cond (since 23 v) (part (6 + variableBytes v r) (length (r .inventory))) nowhere;
 }
 
 abbrev pub objectFields : ObjectRow → ObjectFields

@@ -2,10 +2,9 @@
 use Prim.Native.Nat.{ℕ, _+_, _-_, _*_, _≤_}
 use mathlib.Core.Path.{_≡_}
 use mathlib.Core.List.{List}
-use mathlib.Core.Bool.{Bool}
+use mathlib.Core.Bool.{Bool, cond}
 use lib.Dec.{eqb}
 use lib.ListN.{length, drop}
-use Rattle.wire.specs.Choice.{pick}
 use Rattle.wire.specs.Read.{Read, done, refused, onward}
 use Rattle.wire.specs.Formats.{_▹_}
 use Rattle.mapblock.specs.Inventory.{Form}
@@ -45,7 +44,7 @@ toldOpening (openings.Refused f p) = refused f p
 -- ---- up to the node data
 -- the bytes of a timestamp with its names, in front or not
 abbrev pub savedLength : Bool → Front → ℕ
-savedLength b x = pick b (length (saved all .encode (x .1 .0))) 0
+savedLength b x = cond b (length (saved all .encode (x .1 .0))) 0
 
 -- the front was read; t is the table before, and u after
 pub record FrontIs (t u s : List ℕ) (w : FrontFields) : Type 0 where
@@ -86,10 +85,10 @@ MiddleTold v s (middles.Refused f p) = middle v .read s ≡ refused f p
 -- ---- all but the late timers
 -- what stands in a list before its rows
 abbrev pub metadataHead : ℕ → ℕ
-metadataHead v = pick (since 23 v) 3 4
+metadataHead v = cond (since 23 v) 3 4
 
 abbrev pub earlyHead : MiddleFields → ℕ
-earlyHead m = pick (eqb (m .timer) 1) 3 (m .early)
+earlyHead m = cond (eqb (m .timer) 1) 3 (m .early)
 
 abbrev pub soFar : FrontFields → MiddleFields → ℕ → Part → Found
 soFar w m time names = record {
@@ -119,7 +118,7 @@ withLate w at n = record {
     names = w .sections .names;
     metadata = w .sections .metadata;
     objects = w .sections .objects;
-    timers = pick (since 25 (w .head .version)) (part (at + 3) (n - 3)) (w .sections .timers);
+    timers = cond (since 25 (w .head .version)) (part (at + 3) (n - 3)) (w .sections .timers);
   };
 }
 

@@ -1,9 +1,9 @@
 -- Where things stand in a block: document 01, 'Reading, looking, writing'. A section is the run of a list's rows without count; the rows stand
 -- at the end of their list. A part is told by its start and its length in the caller's block.
 use Prim.Native.Nat.{ℕ, _+_, _-_, _<_}
+use mathlib.Core.Bool.{cond}
 use mathlib.Core.List.{List, []}
 use lib.ListN.{length, take, drop}
-use Rattle.wire.specs.Choice.{pick}
 use Rattle.wire.specs.Format.{encodeItems}
 use Rattle.mapblock.specs.Data.{Block}
 use Rattle.mapblock.specs.Layout.{since, all, nameRow, metadataRow, objectRow, timerRow, saved, nodes, metadata, earlyTimers, objects, lateTimers}
@@ -33,19 +33,19 @@ module _ (b : Block) where
   metadataEnd = nodesEnd + length (metadata v .encode (b .metadata))
 
   abbrev pub earlyEnd : ℕ
-  earlyEnd = metadataEnd + pick (since 25 v) 0 (length (earlyTimers v .encode (timersOf b)))
+  earlyEnd = metadataEnd + cond (since 25 v) 0 (length (earlyTimers v .encode (timersOf b)))
 
   abbrev pub objectsEnd : ℕ
   objectsEnd = earlyEnd + length (objects .encode (b .objects))
 
   abbrev pub namesEnd : ℕ
-  namesEnd = objectsEnd + pick (since 29 v) 0 (length (saved all .encode (savedOf b)))
+  namesEnd = objectsEnd + cond (since 29 v) 0 (length (saved all .encode (savedOf b)))
 
   abbrev pub lateEnd : ℕ
-  lateEnd = namesEnd + pick (since 25 v) (length (lateTimers v .encode (timersOf b))) 0
+  lateEnd = namesEnd + cond (since 25 v) (length (lateTimers v .encode (timersOf b))) 0
 
   abbrev pub namesPart : Part
-  namesPart = rowsTo (pick (since 29 v) (frontNamesEnd b) namesEnd) (length (encodeItems (nameRow all) [] (b .names)))
+  namesPart = rowsTo (cond (since 29 v) (frontNamesEnd b) namesEnd) (length (encodeItems (nameRow all) [] (b .names)))
 
   abbrev pub metadataPart : Part
   metadataPart = rowsTo metadataEnd (length (encodeItems (metadataRow v) [] (b .metadata)))
@@ -54,7 +54,7 @@ module _ (b : Block) where
   objectsPart = rowsTo objectsEnd (length (encodeItems (λ _. objectRow) [] (b .objects)))
 
   abbrev pub timersPart : Part
-  timersPart = rowsTo (pick (since 25 v) lateEnd earlyEnd) (length (encodeItems timerRow [] (b .timers)))
+  timersPart = rowsTo (cond (since 25 v) lateEnd earlyEnd) (length (encodeItems timerRow [] (b .timers)))
 
   unfoldable pub sections : Sections
   sections = record { names = namesPart; metadata = metadataPart; objects = objectsPart; timers = timersPart }

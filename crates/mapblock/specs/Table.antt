@@ -36,6 +36,10 @@ unfoldable pub frontRows : ℕ → List ℕ → List NameRow
 frontRows zero s = []
 frontRows (suc k) s = rowThen (nameRow all [] .read s) (λ n. frontRows k (drop n s))
 
+-- all of them: a row has bytes, so that there are no more rows than bytes
+abbrev pub allRows : List ℕ → List NameRow
+allRows s = frontRows (length s) s
+
 -- The table u after names were read from the table t: it marks their ids beside those that t marks, and can be put back.
 pub record NamesMarked (t u : List ℕ) (names : List NameRow) : Type 0 where
   pub is : u ≡ marked t names

@@ -9,17 +9,16 @@ use crate::nodes::id_of;
 use crate::read::judge;
 use crate::scan::Judged;
 ghost use mathlib.Core.Path.{_≡_};
-ghost use mathlib.Core.List.{List};
 ghost use Prim.Native.Nat.{_+_, _<_};
 ghost use lib.ListN.{length};
-ghost use Rattle.mapblock.specs.Data.{NameRow};
 ghost use Rattle.mapblock.specs.Sections.{InReach};
-ghost use Rattle.mapblock.specs.Questions.{NameRun, spotOf, nodeOf, nodeNameOf, toldNode};
+ghost use Rattle.mapblock.specs.Table.{allRows};
+ghost use Rattle.mapblock.specs.Questions.{spotOf, nodeOf, nodeNameOf, toldNode};
 
-// Where the name of an id stands in the block; `names` are whole rows, and `start` is their place.
+// Where the name of an id stands in the block; `names` are its rows of names, and `start` is their place.
 fn find(names: &[u8], start: usize, id: usize) -> Part
     requires { ⌜ InReach (start + length (now names)) ⌝ }
-    ensures { λ r. ⌜ ((l : List NameRow) → NameRun (now (names .entry)) l → r ≡ spotOf l start id) ⌝ }
+    ensures { λ r. ⌜ r ≡ spotOf (allRows (now (names .entry))) start id ⌝ }
 {
     let mut rest = names;
     let mut at = start;

@@ -1,12 +1,12 @@
 -- The tally of a list of nodes: its rows are as a tally has them, they count what the nodes count, and they are few and light enough.
 use Prim.Native.Nat.{ℕ, suc, _+_, _<_, _≤_}
 use mathlib.Core.Path.{_≡_, refl, sym, ap, _∙_}
-use mathlib.Core.Bool.{Bool, true, false}
+use mathlib.Core.Bool.{Bool, true, false, cond}
 use mathlib.Core.List.{List, [], _∷_, _++_}
 use native.Mathlib.Omega.{arith}
 use lib.ListN.{length}
 use Rattle.wire.specs.Bytes.{Bytes}
-use Rattle.wire.specs.Choice.{pick, yes-and}
+use Rattle.wire.specs.Choice.{yes-and}
 use Rattle.wire.specs.Order.{order, order-same}
 use Rattle.wire.specs.declared.order.Order.{Order}
 use Rattle.wire.specs.declared.order.Order.the-variants.{Before, Same, After}
@@ -24,7 +24,7 @@ module _ (test : Node → Bool) where
   those-append (x ∷ l) k = go (test x) (those-append l k)
     where
       go : (b : Bool) → those test (l ++ k) ≡ those test l ++ those test k
-          → pick b (x ∷ those test (l ++ k)) (those test (l ++ k)) ≡ pick b (x ∷ those test l) (those test l) ++ those test k
+          → cond b (x ∷ those test (l ++ k)) (those test (l ++ k)) ≡ cond b (x ∷ those test l) (those test l) ++ those test k
       go true e = ap (λ (t : List Node). x ∷ t) e
       go false e = e
 
@@ -33,7 +33,7 @@ module _ (test : Node → Bool) where
   those-fewer [] = omega arith
   those-fewer (x ∷ l) = go (test x) (those-fewer l)
     where
-      go : (b : Bool) → length (those test l) ≤ length l → length (pick b (x ∷ those test l) (those test l)) ≤ suc (length l)
+      go : (b : Bool) → length (those test l) ≤ length l → length (cond b (x ∷ those test l) (those test l)) ≤ suc (length l)
       go true h = omega arith
       go false h = omega arith
 
@@ -50,7 +50,7 @@ unfolding those
 named-those test [] h = tt
 named-those test (x ∷ l) h = go (test x) (named-those test l (h .1))
   where
-    go : (b : Bool) → AllNamed (those test l) → AllNamed (pick b (x ∷ those test l) (those test l))
+    go : (b : Bool) → AllNamed (those test l) → AllNamed (cond b (x ∷ those test l) (those test l))
     go true k = (h .0, k)
     go false k = k
 
@@ -80,7 +80,7 @@ module _ (m : Measure) where
   unfolding those
   first-amount x l n = go (order (x .name) n)
     where
-      go : (o : Order) → m .total (pick (choose o false true false) (x ∷ bearing n l) (bearing n l)) ≡ m .kind .counts .add (choose o (m .kind .counts .none) (m .of x) (m .kind .counts .none)) (amountOf m n l)
+      go : (o : Order) → m .total (cond (choose o false true false) (x ∷ bearing n l) (bearing n l)) ≡ m .kind .counts .add (choose o (m .kind .counts .none) (m .of x) (m .kind .counts .none)) (amountOf m n l)
       go Before = sym (m .kind .counts .add-none _)
       go Same = m .total-more x (bearing n l)
       go After = sym (m .kind .counts .add-none _)

@@ -1,14 +1,13 @@
 -- The nodes of blocks that are taken: their number, and that their names may stand in a tally.
 use Prim.Native.Nat.{ℕ, zero, suc, _*_}
 use mathlib.Core.Path.{_≡_, refl, ap, _∙_}
-use mathlib.Core.Bool.{Bool, true, false}
+use mathlib.Core.Bool.{Bool, true, false, cond}
 use mathlib.Core.List.{List, [], _∷_}
 use native.Mathlib.Omega.{arith}
 use lib.Dec.{eqb}
 use lib.IntN.{ℤ}
 use lib.ListN.{length, length-append}
 use borrow.Author.Tests.{le-leb}
-use Rattle.wire.specs.Choice.{pick}
 use Rattle.wire.specs.Bytes.{Bytes, bytes-nil}
 use Rattle.wire.specs.Read.{Read, done, refused}
 use Rattle.wire.specs.Answer.{Answer, good, refusal, mapAnswer, no-good}
@@ -64,7 +63,7 @@ name-named : (l : List NameRow) → Each NameGood l → (id : ℕ) → (isName (
 name-named [] h id = (refl, bytes-nil)
 name-named (r ∷ l) h id = go (eqb id (r .id)) (name-named l (h .1) id)
   where
-    go : (b : Bool) → (isName (nameOf l id) ≡ true) × Bytes (nameOf l id) → (isName (pick b (r .name) (nameOf l id)) ≡ true) × Bytes (pick b (r .name) (nameOf l id))
+    go : (b : Bool) → (isName (nameOf l id) ≡ true) × Bytes (nameOf l id) → (isName (cond b (r .name) (nameOf l id)) ≡ true) × Bytes (cond b (r .name) (nameOf l id))
     go true k = (le-leb (length (r .name)) 65535 (omega (arith, h .0 .name .0)), h .0 .name .1)
     go false k = k
 

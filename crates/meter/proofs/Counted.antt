@@ -1,7 +1,7 @@
 -- The counters of a block's nodes in a lot, by name: they count what stands in the part, and clear again.
 use Prim.Native.Nat.{ℕ, zero, suc, _+_, _≤_, _<_}
 use mathlib.Core.Path.{_≡_, refl, sym, ap, subst, _∙_}
-use mathlib.Core.Bool.{Bool, true, false, _&&_, and-true, and-false}
+use mathlib.Core.Bool.{Bool, true, false, cond, _&&_, and-true, and-false}
 use mathlib.Core.List.{List, [], _∷_}
 use native.Mathlib.Nat.{add-zero}
 use native.Mathlib.Omega.{arith}
@@ -9,7 +9,6 @@ use lib.Dec.{eqb}
 use lib.ListN.{length, getD, length-replicate}
 use lib.Seq.{ext-getD}
 use borrow.Author.Tests.{eqb-true, eqb-false}
-use Rattle.wire.specs.Choice.{pick}
 use Rattle.wire.specs.Order.{order}
 use Rattle.wire.specs.declared.order.Order.{Order}
 use Rattle.wire.specs.declared.order.Order.the-variants.{Before, Same, After}
@@ -60,7 +59,7 @@ module _ (x : Placed) (p : Part) (n : List ℕ) where
     where
       go : (a b : Bool) → inPart p (nodeOf x i) ≡ a → isNamed n (nameAt (x .block) i) ≡ b
           → length (bearing n (those (inPart p) (nodesFrom x k (suc i)))) ≡ cnt both (suc i) k
-          → length (bearing n (pick a (nodeOf x i ∷ those (inPart p) (nodesFrom x k (suc i))) (those (inPart p) (nodesFrom x k (suc i))))) ≡ bit (both i) + cnt both (suc i) k
+          → length (bearing n (cond a (nodeOf x i ∷ those (inPart p) (nodesFrom x k (suc i))) (those (inPart p) (nodesFrom x k (suc i))))) ≡ bit (both i) + cnt both (suc i) k
       go true true e f h = rw (e, f) (omega arith)
       go true false e f h = rw (e, f) (omega arith)
       go false b e f h = rw e (omega arith)
@@ -100,7 +99,7 @@ module _ (t : List ℕ) (f : ℕ → ℕ) where
       none After e = refl
 
       go : (z : Bool) → eqb (getD t (r .id) 0) 0 ≡ z → countIn ones (counted t l) n ≡ countIn ones (told f l) n
-          → countIn ones (pick z (counted t l) (record { name = r .name; count = getD t (r .id) 0 } ∷ counted t l)) n ≡ countIn ones (told f (r ∷ l)) n
+          → countIn ones (cond z (counted t l) (record { name = r .name; count = getD t (r .id) 0 } ∷ counted t l)) n ≡ countIn ones (told f (r ∷ l)) n
       go true e k = omega (arith, k, none (order (r .name) n) (sym (h .0) ∙ eqb-true (getD t (r .id) 0) 0 e))
       go false e k = rw (h .0, k)
 
@@ -110,7 +109,7 @@ module _ (t : List ℕ) (f : ℕ → ℕ) where
   told-heavy (r ∷ l) h = go (eqb (getD t (r .id) 0) 0) refl (told-heavy l (h .1))
     where
       go : (z : Bool) → eqb (getD t (r .id) 0) 0 ≡ z → heavy (counted t l) ≡ heavy (told f l)
-          → heavy (pick z (counted t l) (record { name = r .name; count = getD t (r .id) 0 } ∷ counted t l)) ≡ f (r .id) + heavy (told f l)
+          → heavy (cond z (counted t l) (record { name = r .name; count = getD t (r .id) 0 } ∷ counted t l)) ≡ f (r .id) + heavy (told f l)
       go true e k = omega (arith, k, h .0, eqb-true (getD t (r .id) 0) 0 e)
       go false e k = omega (arith, k, h .0)
 
@@ -121,7 +120,7 @@ used-few t [] at = omega arith
 used-few t (r ∷ l) at = go (eqb (getD t (r .id) 0) 0) refl (used-few t l (at + 4 + length (r .name)))
   where
     go : (z : Bool) → eqb (getD t (r .id) 0) 0 ≡ z → length (usedIn t l (at + 4 + length (r .name))) ≤ heavy (counted t l)
-        → length (pick z (usedIn t l (at + 4 + length (r .name))) (at ∷ usedIn t l (at + 4 + length (r .name)))) ≤ heavy (pick z (counted t l) (record { name = r .name; count = getD t (r .id) 0 } ∷ counted t l))
+        → length (cond z (usedIn t l (at + 4 + length (r .name))) (at ∷ usedIn t l (at + 4 + length (r .name)))) ≤ heavy (cond z (counted t l) (record { name = r .name; count = getD t (r .id) 0 } ∷ counted t l))
     go true e k = k
     go false e k = omega (arith, eqb-false (getD t (r .id) 0) 0 e)
 

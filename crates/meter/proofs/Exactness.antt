@@ -1,7 +1,7 @@
 -- When a part is tallied, and what its tally counts: demand 2's counts.
 use Prim.Native.Nat.{ℕ, _+_, _*_, _<_, _≤_}
 use mathlib.Core.Path.{_≡_, refl, sym, ap, subst, _∙_}
-use mathlib.Core.Bool.{Bool, true, false}
+use mathlib.Core.Bool.{Bool, true, false, cond}
 use mathlib.Core.List.{List, [], _∷_, _++_}
 use mathlib.Core.Option.{Option, some, Option·getD}
 use native.Mathlib.Nat.{le-refl}
@@ -11,7 +11,7 @@ use lib.ListN.{length, take, drop, replicate, length-replicate}
 use lib.Seq.{take-append-seam}
 use borrow.Author.Tests.{leb-true, le-leb}
 use Rattle.wire.specs.Bytes.{Bytes}
-use Rattle.wire.specs.Choice.{pick, and-yes, yes-and}
+use Rattle.wire.specs.Choice.{and-yes, yes-and}
 use Rattle.wire.specs.Answer.{Answer, good, refusal, plain, mapAnswer, lent, no-good, badPart, partsMisfit, noRoom, tooMany}
 use Rattle.tally.specs.Rows.{countIn, Canonical}
 use Rattle.tally.specs.Tally.{tally, rowsOf, limited, mostRows}
@@ -36,7 +36,7 @@ blocks-valid (one-block key s) b l h =
 blocks-valid (whole-sheet s spare) b l h = sheet-valid s l b h
 
 -- a test before an answer
-test-good : {A : Type 0} (t : Bool) (n r o : ℕ) (a : Answer A) (b : A) → pick t a (refusal n r o) ≡ good b → (t ≡ true) × (a ≡ good b)
+test-good : {A : Type 0} (t : Bool) (n r o : ℕ) (a : Answer A) (b : A) → cond t a (refusal n r o) ≡ good b → (t ≡ true) × (a ≡ good b)
 test-good true n r o a b h = (refl, h)
 test-good false n r o a b h = no-good h
 
@@ -69,7 +69,7 @@ module _ (m : Measure) where
       → (length (tally (m .kind) .encode r) ≤ room) × (length r ≤ mostRows) × (t ≡ tally (m .kind) .encode r)
   unfolding fittedSheet
   sheet-good room n r t h =
-      let x = test-good (leb (length (tally (m .kind) .encode r)) room) noRoom n 0 (pick (leb (length r) mostRows) (good (tally (m .kind) .encode r)) (refusal tooMany n 0)) t h in
+      let x = test-good (leb (length (tally (m .kind) .encode r)) room) noRoom n 0 (cond (leb (length r) mostRows) (good (tally (m .kind) .encode r)) (refusal tooMany n 0)) t h in
       let y = test-good (leb (length r) mostRows) tooMany n 0 (good (tally (m .kind) .encode r)) t (x .1) in
       (leb-true _ _ (x .0), leb-true _ _ (y .0), (cc (y .1)))
 
@@ -92,7 +92,7 @@ module _ (m : Measure) where
         bytes = z .1;
       }
   told-tallied (whole-sheet s spare) p room t b h =
-      let x = test-good (goodPart p) badPart 0 0 (pick (leb room spare) (thenAnswer (sheetOf s) λ l. fittedSheet m room (held m p l) (length l)) (plain partsMisfit)) t h in
+      let x = test-good (goodPart p) badPart 0 0 (cond (leb room spare) (thenAnswer (sheetOf s) λ l. fittedSheet m room (held m p l) (length l)) (plain partsMisfit)) t h in
       let w = test-good (leb room spare) partsMisfit 0 0 (thenAnswer (sheetOf s) λ l. fittedSheet m room (held m p l) (length l)) t (x .1) in
       let y = then-good (sheetOf s) (λ l. fittedSheet m room (held m p l) (length l)) t (w .1) in
       let z = sheet-good room (length (y .0)) (held m p (y .0)) t (y .2) in

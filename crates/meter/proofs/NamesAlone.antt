@@ -1,10 +1,9 @@
 -- The tally of a block depends on the names of its nodes alone.
 use Prim.Native.Nat.{ℕ, zero, suc, _+_, _≤_, _<_}
 use mathlib.Core.Path.{_≡_, refl, ap, _∙_}
-use mathlib.Core.Bool.{Bool, true, false, _&&_}
+use mathlib.Core.Bool.{Bool, true, false, cond, _&&_}
 use mathlib.Core.List.{List, [], _∷_, append-nil}
 use native.Mathlib.Omega.{arith}
-use Rattle.wire.specs.Choice.{pick}
 use Rattle.wire.specs.Answer.{Answer, good, refusal, plain, badPart}
 use Rattle.position.specs.Keys.{splitOf}
 use Rattle.position.specs.Nodes.{nodeAt}
@@ -49,8 +48,8 @@ module _ (c : Coordinates) (a b : Block) (p : Part) (time : inSpan (p .span) (a 
     where
       go : (t : Bool) → nameAt a i ≡ nameAt b i
           → tallyOf byOne (those (inPart p) (nodesFrom x n (suc i))) ≡ tallyOf byOne (those (inPart p) (nodesFrom y n (suc i)))
-          → tallyOf byOne (pick t (nodeOf x i ∷ those (inPart p) (nodesFrom x n (suc i))) (those (inPart p) (nodesFrom x n (suc i))))
-          ≡ tallyOf byOne (pick t (nodeOf y i ∷ those (inPart p) (nodesFrom y n (suc i))) (those (inPart p) (nodesFrom y n (suc i))))
+          → tallyOf byOne (cond t (nodeOf x i ∷ those (inPart p) (nodesFrom x n (suc i))) (those (inPart p) (nodesFrom x n (suc i))))
+          ≡ tallyOf byOne (cond t (nodeOf y i ∷ those (inPart p) (nodesFrom y n (suc i))) (those (inPart p) (nodesFrom y n (suc i))))
       go true e r = ap (λ (m : List ℕ). with-name m (tallyOf byOne (those (inPart p) (nodesFrom x n (suc i))))) e ∙ ap (with-name (nameAt b i)) r
       go false e r = r
 
@@ -59,7 +58,7 @@ module _ (c : Coordinates) (a b : Block) (p : Part) (time : inSpan (p .span) (a 
 
 pub names-alone : NamesAlone
 unfolding tallyBlockOf placedAt
-names-alone key s u b c p room e f h t = rw (e, f) (ap (λ (a : Answer (List ℕ)). pick (goodPart p) a (plain badPart)) (go (splitOf key)))
+names-alone key s u b c p room e f h t = rw (e, f) (ap (λ (a : Answer (List ℕ)). cond (goodPart p) a (plain badPart)) (go (splitOf key)))
   where
     go : (k : Answer Coordinates)
         → thenAnswer (thenAnswer k λ d. good (placed d b)) (λ x. fitted byOne room (tallyOf byOne (nodesIn p (x ∷ []))))

@@ -1,11 +1,11 @@
 -- Parts of which each node of the whole lies in exactly one: their tallies sum up to the whole's, and the cut law follows.
 use Prim.Native.Nat.{ℕ, suc, _+_}
 use mathlib.Core.Path.{_≡_, refl, sym, ap, subst, _∙_}
-use mathlib.Core.Bool.{Bool, true, false}
+use mathlib.Core.Bool.{Bool, true, false, cond}
 use mathlib.Core.List.{List, [], _∷_, _++_}
 use native.Mathlib.Omega.{arith}
 use lib.ListN.{length}
-use Rattle.wire.specs.Choice.{pick, and-yes, yes-and}
+use Rattle.wire.specs.Choice.{and-yes, yes-and}
 use Rattle.wire.specs.Order.{order}
 use Rattle.wire.specs.Answer.{good}
 use Rattle.tally.specs.Rows.{choose, plus, countIn, Canonical}
@@ -45,14 +45,14 @@ module _ (m : Measure) where
 
   abbrev owns : C → Node → List Part → C
   owns c x [] = none
-  owns c x (p ∷ ps) = add (pick (inPart p x) c none) (owns c x ps)
+  owns c x (p ∷ ps) = add (cond (inPart p x) c none) (owns c x ps)
 
   -- in no part, and in one
   owns-none : (c : C) (x : Node) (ps : List Part) → shares ps x ≡ 0 → owns c x ps ≡ none
   owns-none c x [] h = refl
   owns-none c x (p ∷ ps) h = go (inPart p x) refl h (owns-none c x ps)
     where
-      go : (b : Bool) → inPart p x ≡ b → once b + shares ps x ≡ 0 → (shares ps x ≡ 0 → owns c x ps ≡ none) → add (pick b c none) (owns c x ps) ≡ none
+      go : (b : Bool) → inPart p x ≡ b → once b + shares ps x ≡ 0 → (shares ps x ≡ 0 → owns c x ps ≡ none) → add (cond b c none) (owns c x ps) ≡ none
       go true e k ih = absurd (omega arith)
       go false e k ih = m .kind .counts .add-none _ ∙ ih (omega arith)
 
@@ -60,20 +60,20 @@ module _ (m : Measure) where
   owns-one c x [] h = absurd (omega arith)
   owns-one c x (p ∷ ps) h = go (inPart p x) refl h (owns-one c x ps)
     where
-      go : (b : Bool) → inPart p x ≡ b → once b + shares ps x ≡ 1 → (shares ps x ≡ 1 → owns c x ps ≡ c) → add (pick b c none) (owns c x ps) ≡ c
+      go : (b : Bool) → inPart p x ≡ b → once b + shares ps x ≡ 1 → (shares ps x ≡ 1 → owns c x ps ≡ c) → add (cond b c none) (owns c x ps) ≡ c
       go true e k ih = ap (add c) (owns-none c x ps (omega arith)) ∙ m .kind .counts .add-comm c none ∙ m .kind .counts .add-none c
       go false e k ih = m .kind .counts .add-none _ ∙ ih (omega arith)
 
-  owns-as : (c : C) (x : Node) (ps : List Part) (b : Bool) → shares ps x ≡ once b → owns c x ps ≡ pick b c none
+  owns-as : (c : C) (x : Node) (ps : List Part) (b : Bool) → shares ps x ≡ once b → owns c x ps ≡ cond b c none
   owns-as c x ps true h = owns-one c x ps h
   owns-as c x ps false h = owns-none c x ps h
 
   -- the first node of a list, where it passes the test and bears the name
-  amount-first : (n : List ℕ) (test : Node → Bool) (x : Node) (l : List Node) → amountOf m n (those test (x ∷ l)) ≡ add (pick (test x) (own n x) none) (amountOf m n (those test l))
+  amount-first : (n : List ℕ) (test : Node → Bool) (x : Node) (l : List Node) → amountOf m n (those test (x ∷ l)) ≡ add (cond (test x) (own n x) none) (amountOf m n (those test l))
   unfolding those
   amount-first n test x l = go (test x)
     where
-      go : (b : Bool) → amountOf m n (pick b (x ∷ those test l) (those test l)) ≡ add (pick b (own n x) none) (amountOf m n (those test l))
+      go : (b : Bool) → amountOf m n (cond b (x ∷ those test l) (those test l)) ≡ add (cond b (own n x) none) (amountOf m n (those test l))
       go true = first-amount m x (those test l) n
       go false = sym (m .kind .counts .add-none _)
 
@@ -86,7 +86,7 @@ module _ (m : Measure) where
   amounts-first : (n : List ℕ) (x : Node) (l : List Node) (ps : List Part) → amounts n (x ∷ l) ps ≡ add (owns (own n x) x ps) (amounts n l ps)
   amounts-first n x l [] = sym (m .kind .counts .add-none none)
   amounts-first n x l (p ∷ ps) =
-      ap (λ (y : C). add y (amounts n (x ∷ l) ps)) (amount-first n (inPart p) x l) ∙ ap (add (add (pick (inPart p x) (own n x) none) (amountOf m n (those (inPart p) l)))) (amounts-first n x l ps)
+      ap (λ (y : C). add y (amounts n (x ∷ l) ps)) (amount-first n (inPart p) x l) ∙ ap (add (add (cond (inPart p x) (own n x) none) (amountOf m n (those (inPart p) l)))) (amounts-first n x l ps)
       ∙ swap _ _ _ _
 
   amounts-nothing : (n : List ℕ) (ps : List Part) → amounts n [] ps ≡ none
@@ -102,7 +102,7 @@ module _ (m : Measure) where
       → amounts n l ps ≡ amountOf m n (those (inPart whole) l)
   amounts-whole n whole ps h [] = amounts-nothing n ps ∙ sym (nothing-there n whole)
   amounts-whole n whole ps h (x ∷ l) =
-      amounts-first n x l ps ∙ ap (λ (y : C). add y (amounts n l ps)) (owns-as (own n x) x ps (inPart whole x) (h x)) ∙ ap (add (pick (inPart whole x) (own n x) none)) (amounts-whole n whole ps h l)
+      amounts-first n x l ps ∙ ap (λ (y : C). add y (amounts n l ps)) (owns-as (own n x) x ps (inPart whole x) (h x)) ∙ ap (add (cond (inPart whole x) (own n x) none)) (amounts-whole n whole ps h l)
       ∙ sym (amount-first n (inPart whole) x l)
 
   -- ---- rows over parts

@@ -1,14 +1,13 @@
 -- No two nodes of what is tallied stand at one place.
 use Prim.Native.Nat.{ℕ, zero, suc, _+_, _≤_, _<_}
 use mathlib.Core.Path.{_≡_, sym, ap, subst⁻¹, _∙_}
-use mathlib.Core.Bool.{Bool, true, false}
+use mathlib.Core.Bool.{Bool, true, false, cond}
 use mathlib.Core.List.{List, [], _∷_, _++_}
 use mathlib.Core.Option.{Option, some, none}
 use native.Mathlib.Omega.{arith}
 use lib.IntN.{ℤ}
 use lib.Signed.{leZ}
 use lib.ListN.{drop}
-use Rattle.wire.specs.Choice.{pick}
 use Rattle.wire.specs.Ints.{ints}
 use Rattle.wire.specs.Answer.{Answer, good, mapAnswer}
 use Rattle.position.specs.Keys.{splitOf}
@@ -28,7 +27,7 @@ unfolding those
 elsewhere-those test n [] h = tt
 elsewhere-those test n (x ∷ l) h = go (test x) (elsewhere-those test n l (h .1))
   where
-    go : (b : Bool) → Elsewhere n (those test l) → Elsewhere n (pick b (x ∷ those test l) (those test l))
+    go : (b : Bool) → Elsewhere n (those test l) → Elsewhere n (cond b (x ∷ those test l) (those test l))
     go true k = (h .0, k)
     go false k = k
 
@@ -37,7 +36,7 @@ unfolding those
 apart-those test [] h = tt
 apart-those test (x ∷ l) h = go (test x) (apart-those test l (h .1))
   where
-    go : (b : Bool) → Apart (those test l) → Apart (pick b (x ∷ those test l) (those test l))
+    go : (b : Bool) → Apart (those test l) → Apart (cond b (x ∷ those test l) (those test l))
     go true k = (elsewhere-those test x l (h .0), k)
     go false k = k
 

@@ -1,7 +1,7 @@
 -- The tally of a sheet, by cases, as the code answers it.
 use Prim.Native.Nat.{ℕ, _≤_}
 use mathlib.Core.Path.{_≡_, refl, sym, subst}
-use mathlib.Core.Bool.{Bool, true, false}
+use mathlib.Core.Bool.{Bool, true, false, cond}
 use mathlib.Core.List.{List}
 use mathlib.Core.Option.{none}
 use native.Mathlib.Omega.{arith}
@@ -12,7 +12,6 @@ use Rattle.wire.specs.Bytes.{Bytes, bytes-drop}
 use Rattle.wire.specs.Read.{done}
 use Rattle.wire.specs.Format.{ends-in}
 use Rattle.wire.specs.Answer.{Answer, good, refusal, plain, no-good, badPart, partsMisfit}
-use Rattle.wire.specs.Choice.{pick}
 use Rattle.tally.specs.Walks.{Answered}
 use Rattle.meter.specs.Standing.{Part, goodPart, nodesIn}
 use Rattle.meter.specs.Counting.{tallyOf, byOne}
@@ -72,8 +71,8 @@ module _ (p : Part) (s d : List ℕ) (spare : ℕ) where
   unfolding startOf tallySheetOf
   sheet-bad h = rw (go (goodPart p) (leb (length d) spare) h) (refl, refl)
     where
-      go : (a b : Bool) → pick a (pick b (good (noRecords byOne)) (plain partsMisfit)) (plain badPart) ≡ plain badPart
-          → pick a (pick b (blocksTally p s (length d)) (plain partsMisfit)) (plain badPart) ≡ plain badPart
+      go : (a b : Bool) → cond a (cond b (good (noRecords byOne)) (plain partsMisfit)) (plain badPart) ≡ plain badPart
+          → cond a (cond b (blocksTally p s (length d)) (plain partsMisfit)) (plain badPart) ≡ plain badPart
       go true true e = no-good (sym e)
       go true false e = refusal-as e
       go false b e = refl
@@ -82,8 +81,8 @@ module _ (p : Part) (s d : List ℕ) (spare : ℕ) where
   unfolding startOf tallySheetOf
   sheet-misfit h = rw (go (goodPart p) (leb (length d) spare) h) (refl, refl)
     where
-      go : (a b : Bool) → pick a (pick b (good (noRecords byOne)) (plain partsMisfit)) (plain badPart) ≡ plain partsMisfit
-          → pick a (pick b (blocksTally p s (length d)) (plain partsMisfit)) (plain badPart) ≡ plain partsMisfit
+      go : (a b : Bool) → cond a (cond b (good (noRecords byOne)) (plain partsMisfit)) (plain badPart) ≡ plain partsMisfit
+          → cond a (cond b (blocksTally p s (length d)) (plain partsMisfit)) (plain badPart) ≡ plain partsMisfit
       go true true e = no-good (sym e)
       go true false e = refl
       go false b e = refusal-as e
@@ -98,7 +97,7 @@ module _ (p : Part) (s d : List ℕ) (spare : ℕ) where
   unfolding startOf tallySheetOf
   begun t q (w, e, c) = go (goodPart p) (leb (length d) spare) refl refl e
     where
-      go : (a b : Bool) → goodPart p ≡ a → leb (length d) spare ≡ b → pick a (pick b (good (noRecords byOne)) (plain partsMisfit)) (plain badPart) ≡ good w → Begun t q
+      go : (a b : Bool) → goodPart p ≡ a → leb (length d) spare ≡ b → cond a (cond b (good (noRecords byOne)) (plain partsMisfit)) (plain badPart) ≡ good w → Begun t q
       go true true f g h =
           let z : w ≡ noRecords byOne = cc in
           record { carries = subst (Carries t q) z c; fits = leb-true _ _ g; same = rw (f, g) }

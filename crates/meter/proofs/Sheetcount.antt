@@ -1,7 +1,7 @@
 -- The program: the length of a block, and what the whole input comes to.
 use Prim.Native.Nat.{ℕ, zero, suc, _+_, _-_, _^_, _≤_, _<_}
 use mathlib.Core.Path.{_≡_, refl, ap, sym, subst, _∙_}
-use mathlib.Core.Bool.{Bool, true, false}
+use mathlib.Core.Bool.{Bool, true, false, cond}
 use mathlib.Core.List.{List, [], _∷_, _++_, append-assoc}
 use native.Mathlib.Omega.{arith}
 use lib.Dec.{eqb, leb}
@@ -9,7 +9,6 @@ use lib.IntN.{ℤ}
 use lib.ListN.{length, drop}
 use lib.Seq.{drop-append-seam}
 use borrow.Author.Tests.{le-leb, lt-leb, leb-true, leb-false, eqb-true, eqb-false, eq-eqb, ne-eqb}
-use Rattle.wire.specs.Choice.{pick}
 use Rattle.wire.specs.Bytes.{Bytes, bytes-drop}
 use Rattle.wire.specs.Read.{Read, done, refused}
 use Rattle.wire.specs.Format.{_⨾_, along, run, pair, ends-in}
@@ -130,7 +129,7 @@ module _ (w : State byOne) (s : List ℕ) where
   unfolding countedFrom
   counted-end = go (eqb (length s) 0) refl
     where
-      go : (b : Bool) → eqb (length s) 0 ≡ b → pick b (finishOf byOne mostTally w) (refusal sheetMalformed (w .records) 0) ≡ answerFrom everything mostTally w 0 s
+      go : (b : Bool) → eqb (length s) 0 ≡ b → cond b (finishOf byOne mostTally w) (refusal sheetMalformed (w .records) 0) ≡ answerFrom everything mostTally w 0 s
       go true e = sym (ap (λ a. thenAnswer a (finishing byOne everything mostTally w)) (records-end (w .records) (w .last) s (eqb-true (length s) 0 e)) ∙ finishing-none byOne everything mostTally w)
       go false e = sym (ap (λ a. thenAnswer a (finishing byOne everything mostTally w)) (records-more (w .records) (w .last) s (let n = eqb-false (length s) 0 e in omega arith)))
 

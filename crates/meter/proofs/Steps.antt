@@ -1,7 +1,7 @@
 -- A sheet read and judged a step at a time: one law for each way on, which a proof about code cites.
 use Prim.Native.Nat.{ℕ, zero, suc, _+_, _<_}
 use mathlib.Core.Path.{_≡_, refl, ap, sym, _∙_}
-use mathlib.Core.Bool.{Bool, true, false}
+use mathlib.Core.Bool.{Bool, true, false, cond}
 use mathlib.Core.List.{List, [], _∷_, _++_}
 use mathlib.Core.Option.{Option, some, none}
 use native.Mathlib.Omega.{arith}
@@ -10,7 +10,6 @@ use lib.IntN.{ℤ}
 use lib.ListN.{length, drop, take}
 use lib.Seq.{drop-drop, drop-append-seam}
 use borrow.Author.Tests.{leb-true, leb-false, eq-eqb, ne-eqb}
-use Rattle.wire.specs.Choice.{pick}
 use Rattle.wire.specs.Marks.{starts}
 use Rattle.wire.specs.Read.{Read, done, refused, onward}
 use Rattle.wire.specs.Format.{_⨾_, along}
@@ -122,12 +121,12 @@ module _ (last : Option ℤ) (r : SheetRecord) where
   pub judge-taken : (x : Placed) → judgeRecord last r ≡ good x → (splitOf (r .key) ≡ good (x .at)) × (rises last (r .key) ≡ true) × (blockOf (r .block) ≡ good (x .block))
   unfolding judgeRecord
   judge-taken x h =
-      let y = then-good (splitOf (r .key)) (λ c. pick (rises last (r .key)) (mapAnswer (placed c) (blockOf (r .block))) (plain sheetMalformed)) x h in
+      let y = then-good (splitOf (r .key)) (λ c. cond (rises last (r .key)) (mapAnswer (placed c) (blockOf (r .block))) (plain sheetMalformed)) x h in
       let u = rising (rises last (r .key)) (mapAnswer (placed (y .0)) (blockOf (r .block))) (y .2) in
       let z = map-good (placed (y .0)) (blockOf (r .block)) x (u .1) in
       (y .1 ∙ ap (λ (p : Placed). good (p .at)) (z .2), u .0, z .1 ∙ ap (λ (p : Placed). good (p .block)) (z .2))
     where
-      rising : (t : Bool) (a : Answer Placed) → pick t a (plain sheetMalformed) ≡ good x → (t ≡ true) × (a ≡ good x)
+      rising : (t : Bool) (a : Answer Placed) → cond t a (plain sheetMalformed) ≡ good x → (t ≡ true) × (a ≡ good x)
       rising true a e = (refl, e)
       rising false a e = no-good e
 

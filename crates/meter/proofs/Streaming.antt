@@ -1,7 +1,7 @@
 -- A sheet tallied a record at a time: start, a step for each record and finish answer what tallying the sheet answers.
 use Prim.Native.Nat.{ℕ, suc, _+_, _-_, _^_, _<_}
 use mathlib.Core.Path.{_≡_, refl, ap, sym, subst, _∙_}
-use mathlib.Core.Bool.{Bool, true, false}
+use mathlib.Core.Bool.{Bool, true, false, cond}
 use mathlib.Core.List.{List, [], _∷_, _++_, append-nil, append-assoc}
 use mathlib.Core.Option.{Option, some, none}
 use native.Mathlib.Nat.{zero-add, add-zero}
@@ -9,7 +9,6 @@ use native.Mathlib.Omega.{arith}
 use lib.Dec.{leb}
 use lib.IntN.{ℤ}
 use lib.ListN.{length, drop}
-use Rattle.wire.specs.Choice.{pick}
 use Rattle.wire.specs.Bytes.{Bytes, bytes-drop}
 use Rattle.wire.specs.Read.{done, refused}
 use Rattle.wire.specs.Format.{encodeItems}
@@ -185,8 +184,8 @@ module _ (m : Measure) (p : Part) where
               ∙ all-stepped [] rs f (noRecords m) tt
 
           go : (a b : Bool)
-              → pick a (pick b (thenAnswer (sheetOf (sheetBytes n rs rest)) (λ l. fittedSheet m room (held m p l) (length l))) (plain partsMisfit)) (plain badPart)
-              ≡ thenAnswer (pick a (pick b (good (noRecords m)) (plain partsMisfit)) (plain badPart)) (λ w. thenAnswer (stepsOf m p w rs) end)
+              → cond a (cond b (thenAnswer (sheetOf (sheetBytes n rs rest)) (λ l. fittedSheet m room (held m p l) (length l))) (plain partsMisfit)) (plain badPart)
+              ≡ thenAnswer (cond a (cond b (good (noRecords m)) (plain partsMisfit)) (plain badPart)) (λ w. thenAnswer (stepsOf m p w rs) end)
           go true true = all
           go true false = refl
           go false b = refl

@@ -1,11 +1,10 @@
 -- Cuts: document 01, 'Cuts and merges'.
 use Prim.Native.Nat.{ℕ, _+_}
 use mathlib.Core.Path.{_≡_}
-use mathlib.Core.Bool.{Bool, true, _&&_}
+use mathlib.Core.Bool.{Bool, true, cond, _&&_}
 use mathlib.Core.List.{List, [], _∷_, _++_}
 use lib.Dec.{leb}
 use lib.IntN.{ℤ, pos, _+ℤ_}
-use Rattle.wire.specs.Choice.{pick}
 use Rattle.position.specs.Keys.{between}
 use Rattle.position.specs.Lots.{lotAt}
 use Rattle.position.specs.Spans.{spanAt}
@@ -55,7 +54,7 @@ pub data Cuts (whole : Part) : List Part → Type 0 where
 
 -- ---- what cuts leave: parts of which each node of the whole lies in exactly one, and no other node in any
 abbrev pub once : Bool → ℕ
-once b = pick b 1 0
+once b = cond b 1 0
 
 -- in how many of the parts a node lies
 abbrev pub shares : List Part → Node → ℕ

@@ -1,11 +1,11 @@
 -- What the program sheetcount makes of its input: document 01, 'Program'.
 use Prim.Native.Nat.{ℕ, zero, suc, _^_, _<_, _≤_}
 use mathlib.Core.Path.{_≡_}
+use mathlib.Core.Bool.{cond}
 use mathlib.Core.List.{List, [], _∷_, _++_}
 use lib.Dec.{eqb, leb}
 use lib.IntN.{ℤ}
 use lib.ListN.{length, drop}
-use Rattle.wire.specs.Choice.{pick}
 use Rattle.wire.specs.Bytes.{Bytes}
 use Rattle.wire.specs.Read.{done}
 use Rattle.wire.specs.Formats.{_▹_, u32, s64}
@@ -44,7 +44,7 @@ recordHead = s64 ▹ u32
 
 -- The length of the i-th record's block: 15 where the twelve bytes are not there, 11 for more than 49,152.
 unfoldable pub blockLengthOf : ℕ → List ℕ → Answer ℕ
-blockLengthOf i s = framed i (recordHead .read s) λ h n. pick (leb (h .1) mostBlock) (good (h .1)) (refusal noRoom i 0)
+blockLengthOf i s = framed i (recordHead .read s) λ h n. cond (leb (h .1) mostBlock) (good (h .1)) (refusal noRoom i 0)
 
 -- A record at the front of some bytes, with how many of them it takes: its length, 15 or 11, and then its framing, its key and its block.
 unfoldable pub nextOf : State byOne → List ℕ → Answer (State byOne × ℕ)
@@ -53,7 +53,7 @@ nextOf w s = thenAnswer (blockLengthOf (w .records) s) λ _. takeOf byOne everyt
 -- ---- the whole input
 -- So many records from a state on. Then no byte more, 15; then the tally's room, 11, and its rows, 14.
 unfoldable pub countedFrom : ℕ → State byOne → List ℕ → Answer (List ℕ)
-countedFrom zero w s = pick (eqb (length s) 0) (finishOf byOne mostTally w) (refusal sheetMalformed (w .records) 0)
+countedFrom zero w s = cond (eqb (length s) 0) (finishOf byOne mostTally w) (refusal sheetMalformed (w .records) 0)
 countedFrom (suc k) w s = thenAnswer (nextOf w s) λ x. countedFrom k (x .0) (drop (x .1) s)
 
 -- the tally that is printed, or the refusal

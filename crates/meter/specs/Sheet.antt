@@ -1,14 +1,13 @@
 -- Sheets: document 01, 'Tallies, lots, spans, sheets' and 'Order'.
 use Prim.Native.Nat.{ℕ, zero, suc}
 use mathlib.Core.Path.{refl}
-use mathlib.Core.Bool.{Bool, true}
+use mathlib.Core.Bool.{Bool, true, cond}
 use mathlib.Core.List.{List, [], _∷_}
 use mathlib.Core.Option.{Option, some, none}
 use lib.Dec.{eqb, leb}
 use lib.IntN.{ℤ}
 use lib.Signed.{ltZ}
 use lib.ListN.{length, drop}
-use Rattle.wire.specs.Choice.{pick}
 use Rattle.wire.specs.Read.{Read, done, refused}
 use Rattle.wire.specs.Format.{Format, such}
 use Rattle.wire.specs.Formats.{_▹_, u32, s64, counted, listed, fixed, mark, into, Shape}
@@ -87,11 +86,11 @@ framed i (refused e p) f = refusal sheetMalformed i 0
 
 -- a record judged against the last key: key 9, rising 15, block 1 to 8
 unfoldable pub judgeRecord : Option ℤ → SheetRecord → Answer Placed
-judgeRecord last r = thenAnswer (splitOf (r .key)) λ c. pick (rises last (r .key)) (mapAnswer (placed c) (blockOf (r .block))) (plain sheetMalformed)
+judgeRecord last r = thenAnswer (splitOf (r .key)) λ c. cond (rises last (r .key)) (mapAnswer (placed c) (blockOf (r .block))) (plain sheetMalformed)
 
 -- So many records, the first of which is the i-th, after the last key: of each the framing, 15, and what it is judged. Then no byte more, 15.
 unfoldable pub recordsFrom : ℕ → ℕ → Option ℤ → List ℕ → Answer (List Placed)
-recordsFrom zero i last s = pick (eqb (length s) 0) (good []) (refusal sheetMalformed i 0)
+recordsFrom zero i last s = cond (eqb (length s) 0) (good []) (refusal sheetMalformed i 0)
 recordsFrom (suc k) i last s =
     framed i (frame .read s) λ r n.
     thenAnswer (inRecord i (judgeRecord last r)) λ x.
@@ -104,14 +103,14 @@ sheetOf s = framed 0 (sheetHead .read s) λ n k. recordsFrom n 0 none (drop k s)
 -- ---- the tally: 10, 12, then the sheet's own, then 11, then 14 for its rows; the last two have the record count as record
 module _ (m : Measure) where
   unfoldable pub fittedSheet : ℕ → MeasureRows m → ℕ → Answer (List ℕ)
-  fittedSheet room l n = pick (leb (length (tally (m .kind) .encode l)) room)
-      (pick (leb (length l) mostRows) (good (tally (m .kind) .encode l)) (refusal tooMany n 0))
+  fittedSheet room l n = cond (leb (length (tally (m .kind) .encode l)) room)
+      (cond (leb (length l) mostRows) (good (tally (m .kind) .encode l)) (refusal tooMany n 0))
       (refusal noRoom n 0)
 
   -- `spare` is the length of the spare buffer
   unfoldable pub tallySheetOf : List ℕ → Part → ℕ → ℕ → Answer (List ℕ)
-  tallySheetOf s p room spare = pick (goodPart p)
-      (pick (leb room spare)
+  tallySheetOf s p room spare = cond (goodPart p)
+      (cond (leb room spare)
       (thenAnswer (sheetOf s) λ l. fittedSheet room (tallyOf m (nodesIn p l)) (length l))
       (plain partsMisfit))
       (plain badPart)

@@ -1,9 +1,8 @@
 -- What stands in a part of the world: document 01, 'Position keys', 'Tallies, lots, spans, sheets' and 'Cuts and merges'.
 use Prim.Native.Nat.{ℕ, zero, suc}
-use mathlib.Core.Bool.{Bool, true, false, _&&_}
+use mathlib.Core.Bool.{Bool, true, false, cond, _&&_}
 use mathlib.Core.List.{List, [], _∷_, _++_}
 use lib.Dec.{eqb}
-use Rattle.wire.specs.Choice.{pick}
 use Rattle.position.specs.Nodes.{nodeAt}
 use Rattle.position.specs.Lots.{inLot, goodLot}
 use Rattle.position.specs.Spans.{inSpan, goodSpan}
@@ -41,7 +40,7 @@ pub record Placed : Type 0 where
 
 abbrev pub hasMetadata : List MetadataRow → ℕ → Bool
 hasMetadata [] i = false
-hasMetadata (r ∷ l) i = pick (eqb i (r .position)) true (hasMetadata l i)
+hasMetadata (r ∷ l) i = cond (eqb i (r .position)) true (hasMetadata l i)
 
 -- the node at an index
 abbrev pub nodeOf : Placed → ℕ → Node
@@ -66,7 +65,7 @@ standing (x ∷ l) = nodesFrom x 4096 0 ++ standing l
 -- the nodes that pass a test
 unfoldable pub those : (Node → Bool) → List Node → List Node
 those test [] = []
-those test (n ∷ l) = pick (test n) (n ∷ those test l) (those test l)
+those test (n ∷ l) = cond (test n) (n ∷ those test l) (those test l)
 
 abbrev pub nodesIn : Part → List Placed → List Node
 nodesIn p l = those (inPart p) (standing l)

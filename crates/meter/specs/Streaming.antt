@@ -1,10 +1,10 @@
 -- A sheet tallied a record at a time: start, step and finish.
 use Prim.Native.Nat.{ℕ, suc}
+use mathlib.Core.Bool.{cond}
 use mathlib.Core.List.{List, [], _∷_}
 use mathlib.Core.Option.{Option, some, none}
 use lib.Dec.{leb}
 use lib.IntN.{ℤ}
-use Rattle.wire.specs.Choice.{pick}
 use Rattle.wire.specs.Answer.{Answer, good, plain, badPart, partsMisfit}
 use Rattle.tally.specs.Rows.{plus}
 use Rattle.meter.specs.Standing.{Part, goodPart, Placed, nodesIn}
@@ -24,7 +24,7 @@ module _ (m : Measure) where
 
   -- 10, then 12 for a spare shorter than the room
   unfoldable pub startOf : Part → ℕ → ℕ → Answer State
-  startOf p room spare = pick (goodPart p) (pick (leb room spare) (good noRecords) (plain partsMisfit)) (plain badPart)
+  startOf p room spare = cond (goodPart p) (cond (leb room spare) (good noRecords) (plain partsMisfit)) (plain badPart)
 
   -- a record taken
   abbrev pub taking : Part → State → ℤ → Placed → State

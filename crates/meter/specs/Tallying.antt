@@ -1,10 +1,10 @@
 -- Tallying one block: document 01, 'Order': 10, 9, 1 to 8, 11.
 use Prim.Native.Nat.{ℕ}
+use mathlib.Core.Bool.{cond}
 use mathlib.Core.List.{List, [], _∷_}
 use lib.Dec.{leb}
 use lib.IntN.{ℤ}
 use lib.ListN.{length}
-use Rattle.wire.specs.Choice.{pick}
 use Rattle.wire.specs.Answer.{Answer, good, refusal, plain, mapAnswer, badPart, noRoom}
 use Rattle.position.specs.Keys.{splitOf}
 use Rattle.position.specs.declared.key.Coordinates.{Coordinates}
@@ -29,9 +29,9 @@ placedAt key s = thenAnswer (splitOf key) λ c. mapAnswer (placed c) (blockOf s)
 module _ (m : Measure) where
   -- the bytes of rows, where they fit
   unfoldable pub fitted : ℕ → MeasureRows m → Answer (List ℕ)
-  fitted room l = pick (leb (length (tally (m .kind) .encode l)) room) (good (tally (m .kind) .encode l)) (plain noRoom)
+  fitted room l = cond (leb (length (tally (m .kind) .encode l)) room) (good (tally (m .kind) .encode l)) (plain noRoom)
 
   unfoldable pub tallyBlockOf : ℤ → List ℕ → Part → ℕ → Answer (List ℕ)
-  tallyBlockOf key s p room = pick (goodPart p)
+  tallyBlockOf key s p room = cond (goodPart p)
       (thenAnswer (placedAt key s) λ x. fitted room (tallyOf m (nodesIn p (x ∷ []))))
       (plain badPart)

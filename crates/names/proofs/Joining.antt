@@ -1,7 +1,7 @@
 -- Two runs of places in order, joined one place at a time.
 use Prim.Native.Nat.{ℕ, _≤_, _<_, _+_}
 use mathlib.Core.Path.{_≡_, refl, sym, ap, _∙_}
-use mathlib.Core.Bool.{Bool, true, false}
+use mathlib.Core.Bool.{Bool, true, false, cond}
 use mathlib.Core.List.{List, [], _∷_, _++_, append-assoc, append-nil}
 use native.Mathlib.Nat.{add-zero}
 use native.Mathlib.Numerals.{add-one}
@@ -10,7 +10,7 @@ use lib.Dec.{ltb}
 use lib.ListN.{length, drop, take, getD, set, length-drop, length-set, take-append-drop, drop-of-length-le}
 use lib.Seq.{take-all, take-suc, take-suc-set, drop-cons, getD-drop, getD-take, length-take-le, slice, slice-empty}
 use borrow.Author.Tests.{ltb-true, ltb-false, lt-ltb, le-ltb}
-use Rattle.wire.specs.Choice.{pick, pick-yes, no-true, no-false}
+use Rattle.wire.specs.Choice.{cond-yes, no-true, no-false}
 use Rattle.wire.specs.Order.{order, flip, order-flip, order-same, order-trans}
 use Rattle.wire.specs.declared.order.Order.{Order}
 use Rattle.wire.specs.declared.order.Order.the-variants.{Before, Same, After}
@@ -109,21 +109,21 @@ join-start {a = a} {mid = mid} h = record {
 }
 
 -- what the test says
-pick-not : (b : Bool) → pick b false true ≡ true → b ≡ false
-pick-not true e = no-true e
-pick-not false e = refl
+cond-not : (b : Bool) → cond b false true ≡ true → b ≡ false
+cond-not true e = no-true e
+cond-not false e = refl
 
-picks-no : (b c : Bool) → pick b (pick c false true) true ≡ false → (b ≡ true) × (c ≡ true)
+picks-no : (b c : Bool) → cond b (cond c false true) true ≡ false → (b ≡ true) × (c ≡ true)
 picks-no true true e = (refl, refl)
 picks-no true false e = no-false e
 picks-no false c e = no-false e
 
 module _ {s a : List ℕ} {mid : ℕ} {b : List ℕ} {i j o : ℕ} (cut : mid ≤ length a) (w : Joining s a mid b i j o) (more : o < length a) where
   pub left-more : leftAt s a i mid j ≡ true → i < mid
-  left-more e = ltb-true i mid (pick-yes (ltb i mid) _ e .0)
+  left-more e = ltb-true i mid (cond-yes (ltb i mid) _ e .0)
 
   left-low : leftAt s a i mid j ≡ true → j < length a → comesBefore s (getD a j 0) (getD a i 0) ≡ false
-  left-low e h = pick-not _ (rw (lt-ltb j (length a) h) at (pick-yes (ltb i mid) _ e .1))
+  left-low e h = cond-not _ (rw (lt-ltb j (length a) h) at (cond-yes (ltb i mid) _ e .1))
 
   right-said : leftAt s a i mid j ≡ false → i < mid → (ltb j (length a) ≡ true) × (comesBefore s (getD a j 0) (getD a i 0) ≡ true)
   right-said e h = picks-no _ _ (rw (lt-ltb i mid h) at e)
@@ -208,7 +208,7 @@ module _ (s a : List ℕ) (i mid j : ℕ) where
   pub right-ended : i < mid → length a ≤ j → leftAt s a i mid j ≡ true
   right-ended h k = rw (lt-ltb i mid h, le-ltb j (length a) k)
 
-  pub left-picks : i < mid → j < length a → {b : Bool} → comesBefore s (getD a j 0) (getD a i 0) ≡ b → leftAt s a i mid j ≡ pick b false true
+  pub left-picks : i < mid → j < length a → {b : Bool} → comesBefore s (getD a j 0) (getD a i 0) ≡ b → leftAt s a i mid j ≡ cond b false true
   left-picks h k e = rw (lt-ltb i mid h, lt-ltb j (length a) k, e)
 
 -- ---- a copy

@@ -8,22 +8,14 @@ use lib.Seq.{take-at, drop-at}
 use Rattle.wire.specs.Lists.{rest-is}
 use Rattle.wire.specs.Bytes.{Bytes, bytes-drop}
 use Rattle.wire.specs.Read.{done, refused, mapRead, map-done, map-refused}
-use Rattle.wire.specs.Format.{run, such, _⨾_, along}
-use Rattle.wire.specs.Formats.{number, counted}
 use Rattle.mapblock.specs.Data.{NameRow}
-use Rattle.mapblock.specs.Layout.{all, unused, nameRow}
+use Rattle.mapblock.specs.Layout.{all, nameRow}
 use Rattle.mapblock.specs.Rows.{nameFields}
 use Rattle.mapblock.specs.Sections.{within}
 use Rattle.mapblock.specs.declared.fault.Fault.{Fault}
-use Rattle.mapblock.specs.declared.fault.Fault.the-variants as fault
 use Rattle.mapblock.specs.declared.names.NameFields.{NameFields}
-use Rattle.mapblock.proofs.NodeNames.{rowHead, head-length, row-bytes}
+use Rattle.mapblock.proofs.NameWalks.{rowHead, head-length, row-bytes, nothing-there}
 use Rattle.names.specs.Places.{rowRead, rowAt}
-
--- no row stands behind the end
-pub nothing-there : nameRow all [] .read [] ≡ refused fault.Ends 0
-unfolding nameRow along _⨾_ such number run counted unused
-nothing-there = refl
 
 pub row-beyond : (s : List ℕ) (p : ℕ) → length s < p → rowAt s p ≡ record { id = 0; name = [] }
 unfolding rowAt

@@ -1,13 +1,12 @@
 -- What places keep when they are put in order, since every sum over them stays.
 use Prim.Native.Nat.{ℕ, _+_}
 use mathlib.Core.Path.{_≡_, refl, ap, sym, _∙_}
-use mathlib.Core.Bool.{Bool, true, false}
+use mathlib.Core.Bool.{Bool, true, false, cond}
 use mathlib.Core.List.{List, [], _∷_}
 use native.Mathlib.Omega.{arith}
 use lib.Dec.{eqb}
 use lib.ListN.{length}
 use borrow.Author.Tests.{eqb-false, ne-eqb}
-use Rattle.wire.specs.Choice.{pick}
 use Rattle.wire.specs.Order.{order}
 use Rattle.tally.specs.Rows.{choose, countIn}
 use Rattle.tally.specs.Tally.{ones}
@@ -23,7 +22,7 @@ length-total (p ∷ l) = let h = length-total l in omega arith
 module _ (s t : List ℕ) where
   -- the places that are not counted
   abbrev stray : ℕ → ℕ
-  stray p = pick (eqb (countAt s t p) 0) 1 0
+  stray p = cond (eqb (countAt s t p) 0) 1 0
 
   counted-none : (l : List ℕ) → Counted s t l → total stray l ≡ 0
   counted-none [] h = refl
@@ -34,7 +33,7 @@ module _ (s t : List ℕ) where
   none-counted (p ∷ l) h = go (eqb (countAt s t p) 0) refl (none-counted l)
     where
       go : (b : Bool) → eqb (countAt s t p) 0 ≡ b → (total stray l ≡ 0 → Counted s t l) → Counted s t (p ∷ l)
-      go true e k = absurd (omega (arith, ap (λ (b : Bool). pick {A = ℕ} b 1 0) e))
+      go true e k = absurd (omega (arith, ap (λ (b : Bool). cond {A = ℕ} b 1 0) e))
       go false e k = (omega (arith, eqb-false (countAt s t p) 0 e), k (omega arith))
 
   count-total : (n : List ℕ) (l : List ℕ) → countIn ones (run s t l) n ≡ total (λ p. choose (order (rowAt s p .name) n) 0 (countAt s t p) 0) l

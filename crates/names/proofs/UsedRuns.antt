@@ -1,17 +1,16 @@
 -- What stands at the places of the rows that are used.
 use Prim.Native.Nat.{ℕ, _+_, _≤_}
 use mathlib.Core.Path.{_≡_, refl, ap, ap₂, subst, _∙_}
-use mathlib.Core.Bool.{Bool, true, false}
+use mathlib.Core.Bool.{Bool, true, false, cond}
 use mathlib.Core.List.{List, [], _∷_}
 use native.Mathlib.Omega.{arith}
 use lib.Dec.{eqb}
 use lib.ListN.{length, getD, drop}
 use lib.Seq.{drop-drop}
 use borrow.Author.Tests.{eqb-false}
-use Rattle.wire.specs.Choice.{pick}
 use Rattle.mapblock.specs.Data.{NameRow}
 use Rattle.mapblock.specs.Questions.{NameRun}
-use Rattle.mapblock.proofs.NodeNames.{run-reads, run-rest}
+use Rattle.mapblock.proofs.NameWalks.{run-reads, run-rest}
 use Rattle.tally.specs.Rows.{Row, Rows}
 use Rattle.tally.specs.Tally.{ones}
 use Rattle.names.specs.Places.{rowRead, rowAt, countAt, namedAt, run}
@@ -19,11 +18,11 @@ use Rattle.names.specs.Used.{usedIn, counted, Counted}
 
 module _ (s t : List ℕ) where
   -- one place more, or none
-  run-one : (b : Bool) (at : ℕ) (ps : List ℕ) {r : Row ℕ} {l : Rows ones} → namedAt s t at ≡ r → run s t ps ≡ l → run s t (pick b ps (at ∷ ps)) ≡ pick b l (r ∷ l)
+  run-one : (b : Bool) (at : ℕ) (ps : List ℕ) {r : Row ℕ} {l : Rows ones} → namedAt s t at ≡ r → run s t ps ≡ l → run s t (cond b ps (at ∷ ps)) ≡ cond b l (r ∷ l)
   run-one true at ps e h = h
   run-one false at ps e h = ap₂ (λ (r : Row ℕ) (l : Rows ones). r ∷ l) e h
 
-  counted-one : (b : Bool) (at : ℕ) (ps : List ℕ) → (b ≡ false → 1 ≤ countAt s t at) → Counted s t ps → Counted s t (pick b ps (at ∷ ps))
+  counted-one : (b : Bool) (at : ℕ) (ps : List ℕ) → (b ≡ false → 1 ≤ countAt s t at) → Counted s t ps → Counted s t (cond b ps (at ∷ ps))
   counted-one true at ps e h = h
   counted-one false at ps e h = (e refl, h)
 

@@ -1,24 +1,24 @@
 -- The walk that finds the places of the rows that are used.
 use Prim.Native.Nat.{ℕ, _+_, _-_, _<_, _≤_}
-use mathlib.Core.Path.{_≡_, refl, ap, sym, subst, _∙_}
+use mathlib.Core.Path.{_≡_, refl, ap, sym, _∙_}
 use mathlib.Core.List.{List, [], _∷_, _++_, append-nil}
-use native.Mathlib.Numerals.{add-one}
 use native.Mathlib.Omega.{arith}
-use lib.ListN.{length, getD, take, drop, set, length-append, length-drop, length-set}
-use lib.Seq.{append-snoc, length-take-le, take-suc-set}
+use lib.ListN.{length, getD, take, drop, set, length-append, length-drop}
+use lib.Seq.{append-snoc, take-at, take-all}
 use borrow.Author.Tests.{eq-eqb, ne-eqb}
-use Rattle.wire.specs.Lists.{rest-is, nil-is}
+use Rattle.wire.specs.Lists.{rest-is}
 use Rattle.wire.specs.Bytes.{Bytes, bytes-drop}
-use Rattle.wire.specs.Read.{done, refused, mapRead, never}
+use Rattle.wire.specs.Read.{done, mapRead}
+use Rattle.wire.specs.Store.{laid}
+use Rattle.wire.proofs.Laid.{laid-none, laid-length, laid-last}
 use Rattle.mapblock.specs.Data.{NameRow}
 use Rattle.mapblock.specs.Layout.{all, nameRow}
 use Rattle.mapblock.specs.Rows.{nameFields}
+use Rattle.mapblock.specs.Table.{allRows}
 use Rattle.mapblock.specs.Questions.{NameRun}
-use Rattle.mapblock.specs.declared.fault.Fault.{Fault}
 use Rattle.mapblock.specs.declared.names.NameFields.{NameFields}
-use Rattle.mapblock.proofs.NodeNames.{run-reads, run-rest, finding-start, row-size, row-inside}
-use Rattle.names.specs.Used.{usedIn}
-use Rattle.names.proofs.RowsAt.{nothing-there}
+use Rattle.mapblock.proofs.NameWalks.{row-inside, first-row, all-run}
+use Rattle.names.specs.Used.{usedIn, usedOf}
 
 -- a row whose id has no count, and one whose id has one
 module _ (t : List ℕ) (r : NameRow) (l : List NameRow) (at : ℕ) where
@@ -34,73 +34,84 @@ used-none : (t : List ℕ) (at : ℕ) → usedIn t [] at ≡ []
 unfolding usedIn
 used-none t at = refl
 
--- What is stored, and what is used of the rows that are left, is what is used of all of them.
-pub record Using (s t rest : List ℕ) (at : ℕ) (places : List ℕ) (n : ℕ) : Type 0 where
-  pub room : length places ≡ 4096
+-- What is stored, W, and what is used of the rows that are left, is what is used of all of them.
+pub record Using (s t rest : List ℕ) (at : ℕ) (before after : List ℕ) (n : ℕ) : Type 0 where
+  pub W : List ℕ
+  pub counts : n ≡ length W
+  pub shape : after ≡ laid 0 W before
+  pub room : length before ≡ 4096
   pub few : n ≤ 4096
-  pub left : (l : List NameRow) → NameRun s l → (m : List NameRow) × NameRun rest m × (take n places ++ usedIn t m at ≡ usedIn t l 0)
+  pub left : W ++ usedIn t (allRows rest) at ≡ usedIn t (allRows s) 0
   pub size : at + length rest ≡ length s
   pub bytes : Bytes rest
 
--- the places stored are those of the rows that are used, where there is room for them
-abbrev pub Stored : List ℕ → List ℕ → List ℕ → ℕ → Type 0
-Stored s t places n = (l : List NameRow) → NameRun s l → length (usedIn t l 0) ≤ 4096 → take n places ≡ usedIn t l 0
+abbrev pub Stored : List ℕ → List ℕ → List ℕ → List ℕ → ℕ → Type 0
+Stored s t before after n = (n ≡ length (usedOf t s)) × (after ≡ laid 0 (usedOf t s) before)
 
-pub using-start : (s t places : List ℕ) → Bytes s → length places ≡ 4096 → Using s t s 0 places 0
-using-start s t places w c = record { room = c; few = omega arith; left = λ l h. (l, h, refl); size = omega arith; bytes = w }
+pub using-start : (s t places : List ℕ) → Bytes s → length places ≡ 4096 → Using s t s 0 places places 0
+using-start s t places w c = record {
+  W = [];
+  counts = refl;
+  shape = sym (laid-none 0 places);
+  room = c;
+  few = omega arith;
+  left = refl;
+  size = omega arith;
+  bytes = w;
+}
 
-module _ {s t rest : List ℕ} {at : ℕ} {places : List ℕ} {n : ℕ} (f : Using s t rest at places n) where
-  -- nothing is used of no rows
-  none-left : (l : List NameRow) (u : List ℕ) → u ≡ [] → take n places ++ u ≡ usedIn t l 0 → take n places ≡ usedIn t l 0
-  none-left l u z e = sym (append-nil (take n places)) ∙ ap (λ (v : List ℕ). take n places ++ v) (sym z) ∙ e
+module _ {s t rest : List ℕ} {at : ℕ} {before after : List ℕ} {n : ℕ} (f : Using s t rest at before after n) where
+  pub using-room : length after ≡ 4096
+  using-room = ap length (f .shape) ∙ laid-length 0 (f .W) before (omega (arith, f .counts, f .few, f .room)) ∙ f .room
 
-  pub using-full : 4096 ≤ n → Stored s t places n
-  using-full h l r k =
-      let x = f .left l r in
-      let whole : length (take n places) ≡ n = length-take-le n places (omega (arith, f .room, f .few)) in
-      none-left l (usedIn t (x .0) at) (nil-is (usedIn t (x .0) at) (omega (arith, length-append (take n places) (usedIn t (x .0) at), ap (length {A = ℕ}) (x .2)))) (x .2)
+  stored : f .W ≡ usedOf t s → Stored s t before after n
+  stored e = (f .counts ∙ ap length e, f .shape ∙ ap (λ (l : List ℕ). laid 0 l before) e)
 
-  pub using-refused : {e : Fault} {p : ℕ} → refused e p ≡ mapRead nameFields (nameRow all [] .read rest) → Stored s t places n
-  using-refused k l r c = let x = f .left l r in go (x .0) (x .1) (x .2)
-    where
-      go : (m : List NameRow) → NameRun rest m → take n places ++ usedIn t m at ≡ usedIn t l 0 → take n places ≡ usedIn t l 0
-      go [] y e = none-left l (usedIn t [] at) (used-none t at) e
-      go (r ∷ m) y e = never (k ∙ ap (mapRead nameFields) (run-reads y))
+  -- no room is left, or no row
+  pub using-full : 4096 ≤ n → Stored s t before after n
+  using-full h = stored (sym (ap (take 4096) (sym (f .left)) ∙ take-at (f .W) (usedIn t (allRows rest) at) 4096 (omega (arith, f .counts, f .few))))
+
+  pub using-none : allRows rest ≡ [] → Stored s t before after n
+  using-none e =
+      let all : f .W ≡ usedIn t (allRows s) 0 = sym (append-nil (f .W)) ∙ ap (λ (l : List ℕ). f .W ++ l) (sym (ap (λ (m : List NameRow). usedIn t m at) e ∙ used-none t at)) ∙ f .left in
+      stored (all ∙ sym (take-all 4096 (usedIn t (allRows s) 0) (omega (arith, ap length all, f .counts, f .few))))
 
   module _ {row : NameFields} {i : ℕ} (k : done row i ≡ mapRead nameFields (nameRow all [] .read rest)) where
-    pub using-size : i ≡ 4 + row .name .length
-    using-size = row-size (finding-start rest 0 0 (f .bytes)) k
+    -- the row that was read has no count, or it has one and its place is stored
+    using-on : (W : List ℕ) (n' : ℕ) (after' : List ℕ) → n' ≡ length W → n' ≤ 4096 → after' ≡ laid 0 W before
+        → ((r : NameRow) (l : List NameRow) → r .id ≡ row .id → W ++ usedIn t l (at + 4 + length (r .name)) ≡ f .W ++ usedIn t (r ∷ l) at)
+        → Using s t (take (length rest - i) (drop i rest)) (at + i) before after' n'
+    using-on W n' after' c m e next =
+        let y = first-row rest (f .bytes) k in
+        let place : at + i ≡ at + 4 + length (y .row .name) = omega (arith, y .size) in
+        rw (rest-is i rest) record {
+          W = W;
+          counts = c;
+          shape = e;
+          room = f .room;
+          few = m;
+          left = ap (λ (j : ℕ). W ++ usedIn t (allRows (drop i rest)) j) place ∙ next (y .row) (allRows (drop i rest)) (ap (λ (x : NameFields). x .id) (y .fields))
+              ∙ ap (λ (l : List NameRow). f .W ++ usedIn t l at) (sym (y .rows)) ∙ f .left;
+          size = rw length-drop (omega (arith, f .size, row-inside rest k));
+          bytes = bytes-drop i rest (f .bytes);
+        }
 
-    pub using-inside : i ≤ length rest
-    using-inside = row-inside (finding-start rest 0 0 (f .bytes)) k
+    pub using-over : getD t (row .id) 0 ≡ 0 → Using s t (take (length rest - i) (drop i rest)) (at + i) before after n
+    using-over h = using-on (f .W) n after (f .counts) (f .few) (f .shape) (λ r l e. ap (λ (u : List ℕ). f .W ++ u) (sym (unused-row t r l at (ap (λ (j : ℕ). getD t j 0) e ∙ h))))
 
-    -- the rows that are left, the first of which was read: what is used of them, told by its count
-    using-rest : (places' : List ℕ) (n' : ℕ) → length places' ≡ 4096 → n' ≤ 4096
-        → ((r : NameRow) (l : List NameRow) → r .id ≡ row .id → take n' places' ++ usedIn t l (at + 4 + length (r .name)) ≡ take n places ++ usedIn t (r ∷ l) at)
-        → Using s t (take (length rest - i) (drop i rest)) (at + i) places' n'
-    using-rest places' n' b c next = rw (rest-is i rest) record {
-      room = b;
-      few = c;
-      left = λ l h. (let x = f .left l h in go l (x .0) (x .1) (x .2));
-      size = rw length-drop (omega (arith, f .size, using-inside));
-      bytes = bytes-drop i rest (f .bytes);
-    }
-      where
-        go : (l m : List NameRow) → NameRun rest m → take n places ++ usedIn t m at ≡ usedIn t l 0
-            → (m : List NameRow) × NameRun (drop i rest) m × (take n' places' ++ usedIn t m (at + i) ≡ usedIn t l 0)
-        go l [] y e = never (sym (k ∙ ap (λ (b : List ℕ). mapRead nameFields (nameRow all [] .read b)) (y .bytes) ∙ ap (mapRead nameFields) nothing-there))
-        go l (r ∷ m) y e =
-            let q : done row i ≡ done (nameFields r) (4 + length (r .name)) = k ∙ ap (mapRead nameFields) (run-reads y) in
-            let z : 4 + length (r .name) ≡ i = cc in
-            let same : nameFields r ≡ row = cc in
-            let place : at + i ≡ at + 4 + length (r .name) = omega arith in
-            (m, subst (λ (j : ℕ). NameRun (drop j rest) m) z (run-rest y), rw place (next r m (ap (λ (x : NameFields). x .id) same) ∙ e))
+    pub using-store : n < 4096 → (getD t (row .id) 0 ≡ 0 → ⊥) → Using s t (take (length rest - i) (drop i rest)) (at + i) before (set after n at) (n + 1)
+    using-store c h =
+        let behind : n ≡ 0 + length (f .W) = omega (arith, f .counts) in
+        using-on (f .W ++ at ∷ []) (n + 1) (set after n at)
+        (omega (arith, f .counts, length-append (f .W) (at ∷ [])))
+        (omega arith)
+        (ap (λ (l : List ℕ). set l n at) (f .shape) ∙ ap (λ (j : ℕ). set (laid 0 (f .W) before) j at) behind ∙ laid-last 0 (f .W) before at (omega (arith, f .counts, f .room)))
+        (λ r l e.
+        append-snoc (f .W) at (usedIn t l (at + 4 + length (r .name)))
+        ∙ ap (λ (u : List ℕ). f .W ++ u) (sym (used-row t r l at (λ z. h (ap (λ (j : ℕ). getD t j 0) (sym e) ∙ z)))))
 
-    pub using-over : getD t (row .id) 0 ≡ 0 → Using s t (take (length rest - i) (drop i rest)) (at + i) places n
-    using-over h = using-rest places n (f .room) (f .few) (λ r l e. ap (λ (u : List ℕ). take n places ++ u) (sym (unused-row t r l at (ap (λ (j : ℕ). getD t j 0) e ∙ h))))
-
-    pub using-store : n < 4096 → (getD t (row .id) 0 ≡ 0 → ⊥) → Using s t (take (length rest - i) (drop i rest)) (at + i) (set places n at) (n + 1)
-    using-store c h = using-rest (set places n at) (n + 1) (rw length-set (f .room)) (omega arith) (λ r l e.
-        ap (λ (u : List ℕ). u ++ usedIn t l (at + 4 + length (r .name))) (ap (λ (j : ℕ). take j (set places n at)) (add-one n) ∙ take-suc-set places n at (omega (arith, f .room)))
-        ∙ append-snoc (take n places) at (usedIn t l (at + 4 + length (r .name)))
-        ∙ ap (λ (u : List ℕ). take n places ++ u) (sym (used-row t r l at (λ z. h (ap (λ (j : ℕ). getD t j 0) (sym e) ∙ z)))))
+-- ---- of bytes that are rows, where there is room for all that are used
+pub used-places : (t before : List ℕ) {s after : List ℕ} {l : List NameRow} {n : ℕ} → NameRun s l → length (usedIn t l 0) ≤ 4096 → Stored s t before after n → take n after ≡ usedIn t l 0
+used-places t before {s} {after} {l} {n} r h w =
+    let all : usedOf t s ≡ usedIn t l 0 = ap (λ (m : List NameRow). take 4096 (usedIn t m 0)) (all-run r) ∙ take-all 4096 (usedIn t l 0) h in
+    ap (take n) (w .1) ∙ take-at (usedOf t s) (drop (0 + length (usedOf t s)) before) n (sym (w .0)) ∙ all

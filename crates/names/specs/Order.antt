@@ -1,11 +1,10 @@
 -- Places in the order of their names.
 use Prim.Native.Nat.{ℕ, _+_, _≤_}
 use mathlib.Core.Path.{_≡_}
-use mathlib.Core.Bool.{Bool, true, false}
+use mathlib.Core.Bool.{Bool, true, false, cond}
 use mathlib.Core.List.{List, [], _∷_}
 use lib.Dec.{ltb}
 use lib.ListN.{length, take, drop, getD}
-use Rattle.wire.specs.Choice.{pick}
 use Rattle.wire.specs.Order.{order}
 use Rattle.tally.specs.Rows.{choose}
 use Rattle.names.specs.Places.{rowAt}
@@ -36,7 +35,7 @@ pub record Arranged (s xs ys : List ℕ) : Type 0 where
 
 -- whether the next of two runs of places, a from i to mid and a from j on, is the first's
 abbrev pub leftAt : List ℕ → List ℕ → ℕ → ℕ → ℕ → Bool
-leftAt s a i mid j = pick (ltb i mid) (pick (ltb j (length a)) (pick (comesBefore s (getD a j 0) (getD a i 0)) false true) true) false
+leftAt s a i mid j = cond (ltb i mid) (cond (ltb j (length a)) (cond (comesBefore s (getD a j 0) (getD a i 0)) false true) true) false
 
 -- two runs of places, each in order, that a room can take
 pub record Joins (s a : List ℕ) (mid : ℕ) (b : List ℕ) : Type 0 where

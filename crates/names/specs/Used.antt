@@ -1,10 +1,11 @@
 -- The rows of names that a block uses: those whose id has a count.
 use Prim.Native.Nat.{ℕ, _+_, _≤_}
+use mathlib.Core.Bool.{cond}
 use mathlib.Core.List.{List, [], _∷_}
 use lib.Dec.{eqb}
-use lib.ListN.{length, getD}
-use Rattle.wire.specs.Choice.{pick}
+use lib.ListN.{length, take, getD}
 use Rattle.mapblock.specs.Data.{NameRow}
+use Rattle.mapblock.specs.Table.{allRows}
 use Rattle.tally.specs.Rows.{Rows}
 use Rattle.tally.specs.Tally.{ones}
 use Rattle.names.specs.Places.{countAt}
@@ -12,12 +13,16 @@ use Rattle.names.specs.Places.{countAt}
 -- the places of the rows whose id has a count, for rows that start at a place
 unfoldable pub usedIn : List ℕ → List NameRow → ℕ → List ℕ
 usedIn t [] at = []
-usedIn t (r ∷ l) at = pick (eqb (getD t (r .id) 0) 0) (usedIn t l (at + 4 + length (r .name))) (at ∷ usedIn t l (at + 4 + length (r .name)))
+usedIn t (r ∷ l) at = cond (eqb (getD t (r .id) 0) 0) (usedIn t l (at + 4 + length (r .name))) (at ∷ usedIn t l (at + 4 + length (r .name)))
+
+-- the same of the rows at the front of some bytes, as many as there is room for
+abbrev pub usedOf : List ℕ → List ℕ → List ℕ
+usedOf t s = take 4096 (usedIn t (allRows s) 0)
 
 -- the rows of a tally that they make
 unfoldable pub counted : List ℕ → List NameRow → Rows ones
 counted t [] = []
-counted t (r ∷ l) = pick (eqb (getD t (r .id) 0) 0) (counted t l) (record { name = r .name; count = getD t (r .id) 0 } ∷ counted t l)
+counted t (r ∷ l) = cond (eqb (getD t (r .id) 0) 0) (counted t l) (record { name = r .name; count = getD t (r .id) 0 } ∷ counted t l)
 
 -- every place has a name that is counted
 abbrev pub Counted : List ℕ → List ℕ → List ℕ → Type 0

@@ -94,10 +94,12 @@ fn sort_halves(s: &[u8], places: &mut [usize], room: &mut [usize])
     join_halves(s, places, mid, room);
 }
 
-// Puts places in the order of the names that stand there; they stay as they are where the room is shorter.
+// Puts places in the order of the names that stand there; they stay as they are where the room is shorter. Places of one name may change
+// among themselves, since their counts are added up; what `room` holds afterwards is open: it is a table to work in.
 pub fn sort(s: &[u8], places: &mut [usize], room: &mut [usize])
     ensures { λ _. ⌜ length (now (places .exit)) ≡ length (now (places .entry)) ⌝ }
     ensures { λ _. ⌜ (length (now (places .entry)) ≤ length (now (room .entry)) → Arranged (now (s .entry)) (now (places .entry)) (now (places .exit))) ⌝ }
+    ensures { λ _. ⌜ (length (now (room .entry)) < length (now (places .entry)) → now (places .exit) ≡ now (places .entry)) ⌝ }
 {
     if room.len() < places.len() {
         return;

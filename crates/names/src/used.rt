@@ -2,12 +2,10 @@
 use mapblock::names::NameRead;
 use mapblock::names::name_row;
 ghost use mathlib.Core.Path.{_≡_};
-ghost use mathlib.Core.List.{List};
 ghost use Prim.Native.Nat.{_≤_};
-ghost use lib.ListN.{length, take};
-ghost use Rattle.mapblock.specs.Data.{NameRow};
-ghost use Rattle.mapblock.specs.Questions.{NameRun};
-ghost use Rattle.names.specs.Used.{usedIn};
+ghost use lib.ListN.{length};
+ghost use Rattle.wire.specs.Store.{laid};
+ghost use Rattle.names.specs.Used.{usedOf};
 
 // A table of places has the length that its type says; this says so to proofs, and does nothing.
 pub fn sized(places: &[usize; 4096])
@@ -16,10 +14,11 @@ pub fn sized(places: &[usize; 4096])
     let _whole: &[usize] = places;
 }
 
-// Stores the places of the rows whose id has a count, and says how many; it ends with the rows, or where the room does.
+// Stores the places of the rows whose id has a count, and says how many; it ends with the rows, or where there is no room for more.
 pub fn used(s: &[u8], counts: &[u16; 65536], places: &mut [usize; 4096]) -> usize
     ensures { λ r. ⌜ r ≤ 4096 ⌝ }
-    ensures { λ r. ⌜ ((l : List NameRow) → NameRun (now (s .entry)) l → length (usedIn (now (counts .entry)) l 0) ≤ 4096 → take r (now (places .exit)) ≡ usedIn (now (counts .entry)) l 0) ⌝ }
+    ensures { λ r. ⌜ r ≡ length (usedOf (now (counts .entry)) (now (s .entry))) ⌝ }
+    ensures { λ _. ⌜ now (places .exit) ≡ laid 0 (usedOf (now (counts .entry)) (now (s .entry))) (now (places .entry)) ⌝ }
 {
     sized(places);
     let mut rest = s;

@@ -1,13 +1,13 @@
 -- The promises of specs/Theorems.antt, proved.
 use mathlib.Core.Path.{_≡_, refl, ap, subst}
-use mathlib.Core.Bool.{Bool, true, false}
+use mathlib.Core.Bool.{Bool, true, false, cond}
 use mathlib.Core.Logic.{inr}
 use native.Mathlib.Omega.{arith}
 use lib.Dec.{leb, ltb}
 use lib.IntN.{ℤ, natAbs}
 use lib.Signed.{ltZ}
 use borrow.Author.Tests.{le-leb, lt-ltb, le-ltb}
-use Rattle.wire.specs.Choice.{pick, yes-and, yes-three, and-no, same-test}
+use Rattle.wire.specs.Choice.{yes-and, yes-three, and-no, same-test}
 use Rattle.wire.specs.Answer.{good, outOfRange, answered}
 use Rattle.wire.specs.Ints.{ints}
 use Rattle.position.specs.Keys.{between, allInside, keyOf, joinOf, moved, isKey, fields, splitOf}
@@ -47,7 +47,7 @@ keys-have-triples k =
 by-first : (a b : ℤ) (t rest : Bool) → (ltZ a b ≡ true → t ≡ true) → (ltZ b a ≡ true → t ≡ false) → (a ≡ b → t ≡ rest) → t ≡ byFirst a b rest
 by-first a b t rest f g h = go (ltZ a b) (ltZ b a) refl refl
   where
-    go : (p q : Bool) → ltZ a b ≡ p → ltZ b a ≡ q → t ≡ pick p true (pick q false rest)
+    go : (p q : Bool) → ltZ a b ≡ p → ltZ b a ≡ q → t ≡ cond p true (cond q false rest)
     go true q e d = f e
     go false true e d = g d
     go false false e d = h (omega ints)

@@ -1,9 +1,8 @@
 -- Position keys: document 01, 'Position keys'.
 use Prim.Native.Nat.{ℕ, _-_, _/_, _%_, _^_}
-use mathlib.Core.Bool.{Bool, _&&_}
+use mathlib.Core.Bool.{Bool, cond, _&&_}
 use lib.IntN.{ℤ, pos, negsuc, natAbs, _+ℤ_, _-ℤ_, _*ℤ_}
 use lib.Signed.{leZ}
-use Rattle.wire.specs.Choice.{pick}
 use Rattle.wire.specs.Answer.{Answer, good, plain, outOfRange}
 use Rattle.position.specs.declared.key.Coordinates.{Coordinates}
 use Rattle.position.specs.declared.key.JoinAnswer.{JoinAnswer}
@@ -28,7 +27,7 @@ unfoldable pub keyOf : ℤ → ℤ → ℤ → ℤ
 keyOf x y z = z *ℤ pos 16_777_216 +ℤ y *ℤ pos 4_096 +ℤ x
 
 unfoldable pub joinOf : ℤ → ℤ → ℤ → Answer ℤ
-joinOf x y z = pick (allInside x y z) (good (keyOf x y z)) (plain outOfRange)
+joinOf x y z = cond (allInside x y z) (good (keyOf x y z)) (plain outOfRange)
 
 -- ---- splitting
 -- a key with 34,368,129,024 added
@@ -48,7 +47,7 @@ abbrev pub fields : ℕ → Coordinates
 fields s = record { x = lowered (s % 4_096); y = lowered (s / 4_096 % 4_096); z = lowered (s / 16_777_216) }
 
 unfoldable pub splitOf : ℤ → Answer Coordinates
-splitOf k = pick (isKey k) (good (fields (natAbs (moved k)))) (plain outOfRange)
+splitOf k = cond (isKey k) (good (fields (natAbs (moved k)))) (plain outOfRange)
 
 -- ---- what the code's answers say
 abbrev pub toldJoin : JoinAnswer → Answer ℤ

@@ -1,8 +1,7 @@
 -- Lots: document 01, 'Tallies, lots, spans, sheets'.
-use mathlib.Core.Bool.{Bool, _&&_}
+use mathlib.Core.Bool.{Bool, cond, _&&_}
 use lib.IntN.{ℤ, pos, negsuc}
 use lib.Signed.{leZ}
-use Rattle.wire.specs.Choice.{pick}
 use Rattle.wire.specs.Answer.{Answer, good, plain, badPart}
 use Rattle.position.specs.Keys.{between}
 use Rattle.position.specs.declared.lot.Lot.{Lot}
@@ -25,7 +24,7 @@ abbrev pub lotAt : ℤ → ℤ → ℤ → ℤ → ℤ → ℤ → Lot
 lotAt a b c d e f = record { x0 = a; y0 = b; z0 = c; x1 = d; y1 = e; z1 = f }
 
 unfoldable pub lotOf : ℤ → ℤ → ℤ → ℤ → ℤ → ℤ → Answer Lot
-lotOf a b c d e f = pick (goodLot (lotAt a b c d e f)) (good (lotAt a b c d e f)) (plain badPart)
+lotOf a b c d e f = cond (goodLot (lotAt a b c d e f)) (good (lotAt a b c d e f)) (plain badPart)
 
 abbrev pub world : Lot
 world = lotAt (negsuc 32767) (negsuc 32767) (negsuc 32767) (pos 32767) (pos 32767) (pos 32767)

@@ -1,9 +1,8 @@
 -- The nodes of a block: document 01, 'Position keys' and 'The numbers a call comes back with'.
 use Prim.Native.Nat.{ℕ, _/_, _%_}
-use mathlib.Core.Bool.{Bool}
+use mathlib.Core.Bool.{Bool, cond}
 use lib.Dec.{leb}
 use lib.IntN.{ℤ, pos, _+ℤ_, _*ℤ_}
-use Rattle.wire.specs.Choice.{pick}
 use Rattle.wire.specs.Answer.{Answer, good, plain, outOfRange, noSuch}
 use Rattle.position.specs.Keys.{allInside}
 use Rattle.position.specs.declared.key.Coordinates.{Coordinates}
@@ -23,7 +22,7 @@ abbrev pub isBlock : Coordinates → Bool
 isBlock b = allInside (b .x) (b .y) (b .z)
 
 unfoldable pub nodeOf : Coordinates → ℕ → Answer Coordinates
-nodeOf b i = pick (isBlock b) (pick (leb i 4095) (good (nodeAt b i)) (plain noSuch)) (plain outOfRange)
+nodeOf b i = cond (isBlock b) (cond (leb i 4095) (good (nodeAt b i)) (plain noSuch)) (plain outOfRange)
 
 -- what the code's answer says
 abbrev pub toldNode : NodeAnswer → Answer Coordinates

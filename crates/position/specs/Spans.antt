@@ -1,8 +1,7 @@
 -- Spans: document 01, 'Tallies, lots, spans, sheets'.
 use Prim.Native.Nat.{ℕ}
-use mathlib.Core.Bool.{Bool, _&&_}
+use mathlib.Core.Bool.{Bool, cond, _&&_}
 use lib.Dec.{leb, ltb}
-use Rattle.wire.specs.Choice.{pick}
 use Rattle.wire.specs.Answer.{Answer, good, plain, badPart}
 use Rattle.position.specs.declared.span.Span.{Span}
 use Rattle.position.specs.declared.span.SpanAnswer.{SpanAnswer}
@@ -19,7 +18,7 @@ abbrev pub spanAt : ℕ → ℕ → Span
 spanAt a b = record { from = a; until = b }
 
 unfoldable pub spanOf : ℕ → ℕ → Answer Span
-spanOf a b = pick (goodSpan (spanAt a b)) (good (spanAt a b)) (plain badPart)
+spanOf a b = cond (goodSpan (spanAt a b)) (good (spanAt a b)) (plain badPart)
 
 abbrev pub allTime : Span
 allTime = spanAt 0 0xffffffff

@@ -2,10 +2,9 @@
 use Prim.Native.Nat.{ℕ, _≤_, _<_}
 use mathlib.Core.Path.{_≡_}
 use mathlib.Core.Logic.{_↔_}
-use mathlib.Core.Bool.{Bool, true, false, _&&_}
+use mathlib.Core.Bool.{Bool, true, false, cond, _&&_}
 use lib.IntN.{ℤ, pos, negsuc}
 use lib.Signed.{leZ, ltZ}
-use Rattle.wire.specs.Choice.{pick}
 use Rattle.wire.specs.Answer.{good}
 use Rattle.position.specs.Keys.{allInside, keyOf, joinOf, isKey, splitOf}
 use Rattle.position.specs.Nodes.{isBlock, nodeAt}
@@ -29,7 +28,7 @@ KeysHaveTriples = (k : ℤ) → (isKey k ≡ true) ↔ ((c : Coordinates) × (is
 
 -- by two numbers, and where they are equal by the rest
 abbrev pub byFirst : ℤ → ℤ → Bool → Bool
-byFirst a b rest = pick (ltZ a b) true (pick (ltZ b a) false rest)
+byFirst a b rest = cond (ltZ a b) true (cond (ltZ b a) false rest)
 
 -- by z, then by y, then by x
 abbrev pub before : Coordinates → Coordinates → Bool

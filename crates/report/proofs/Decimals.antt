@@ -1,14 +1,13 @@
 -- The decimal digits of a number, as io writes them.
 use Prim.Native.Nat.{ℕ, zero, suc, _-_, _*_, _/_, _%_, _^_, _<_, _≤_}
 use mathlib.Core.Path.{_≡_, refl, ap, ap₂, _∙_}
-use mathlib.Core.Bool.{Bool, true, false}
+use mathlib.Core.Bool.{Bool, true, false, cond}
 use mathlib.Core.List.{List, [], _∷_, _++_}
 use native.Mathlib.Nat.{pow-suc, one-le-pow, mod-lt}
 use native.Mathlib.Omega.{arith}
 use lib.Dec.{ltb, lit<}
 use lib.ListN.{length, take, length-append}
 use borrow.Author.Tests.{ltb-true, ltb-false, lt-ltb}
-use Rattle.wire.specs.Choice.{pick}
 use Rattle.io.specs.Counts.{Counts}
 use Rattle.io.specs.Digits.{glyph, digits, Fewest}
 use Rattle.report.specs.Text.{digit, decimalBy, decimal}
@@ -41,7 +40,7 @@ digits-by (suc k) r n h f =
     go r f (ltb n 10) refl (λ i g. digits-by k (suc i) (n / 10) (omega arith) (fewest-on i n g))
   where
     go : (r : ℕ) → Fewest 10 1 n r → (b : Bool) → ltb n 10 ≡ b → ((i : ℕ) → Fewest 10 1 n (suc (suc i)) → digits 10 (suc i) (n / 10) ≡ decimalBy k (n / 10))
-        → digits 10 r n ≡ pick b (digit n ∷ []) (decimalBy k (n / 10) ++ digit (n % 10) ∷ [])
+        → digits 10 r n ≡ cond b (digit n ∷ []) (decimalBy k (n / 10) ++ digit (n % 10) ∷ [])
     go r f true e ih = digits-below r n (ltb-true n 10 e) f
     go zero f false e ih = absurd (omega (arith, f .0))
     go (suc zero) f false e ih = absurd (omega (arith, f .1, ltb-false n 10 e))
@@ -62,7 +61,7 @@ unfolding decimalBy
 length-by zero n = omega arith
 length-by (suc k) n = go (ltb n 10) (length-by k (n / 10))
   where
-    go : (b : Bool) → length (decimalBy k (n / 10)) ≤ suc k → length (pick b (digit n ∷ []) (decimalBy k (n / 10) ++ digit (n % 10) ∷ [])) ≤ suc (suc k)
+    go : (b : Bool) → length (decimalBy k (n / 10)) ≤ suc k → length (cond b (digit n ∷ []) (decimalBy k (n / 10) ++ digit (n % 10) ∷ [])) ≤ suc (suc k)
     go true ih = omega arith
     go false ih = rw length-append (omega arith)
 

@@ -1,9 +1,9 @@
 -- What is printed of a tally and of a refusal: document 01, 'Program'.
 use Prim.Native.Nat.{ℕ, zero, suc, _+_, _/_, _%_}
+use mathlib.Core.Bool.{cond}
 use mathlib.Core.List.{List, [], _∷_, _++_}
 use lib.Dec.{leb, ltb}
 use lib.ListN.{length}
-use Rattle.wire.specs.Choice.{pick}
 use Rattle.wire.specs.Answer.{Answer, good, refusal, plain, noRoom}
 use Rattle.tally.specs.Rows.{Row, Rows}
 use Rattle.tally.specs.Tally.{ones, one, rowsOf}
@@ -17,7 +17,7 @@ digit d = 48 + d
 -- the decimal digits of a number that has at most suc k of them
 unfoldable pub decimalBy : ℕ → ℕ → List ℕ
 decimalBy zero n = digit (n % 10) ∷ []
-decimalBy (suc k) n = pick (ltb n 10) (digit n ∷ []) (decimalBy k (n / 10) ++ (digit (n % 10) ∷ []))
+decimalBy (suc k) n = cond (ltb n 10) (digit n ∷ []) (decimalBy k (n / 10) ++ (digit (n % 10) ∷ []))
 
 -- below 2^64 a number has at most twenty
 unfoldable pub decimal : ℕ → List ℕ
@@ -62,7 +62,7 @@ refusalText n i = refusedWord ++ (decimal n ++ (recordWord ++ (decimal i ++ (new
 -- ---- what a call answers that puts text into a buffer
 -- 11 where it does not fit
 abbrev pub fittedText : ℕ → List ℕ → Answer (List ℕ)
-fittedText room x = pick (leb (length x) room) (good x) (plain noRoom)
+fittedText room x = cond (leb (length x) room) (good x) (plain noRoom)
 
 -- of bytes that are to be a tally: 13, 11
 unfoldable pub tallyTextOf : ℕ → List ℕ → Answer (List ℕ)

@@ -1,14 +1,13 @@
 -- Of rows, those whose names are there and those whose names are new; and how long a sum of rows is.
 use Prim.Native.Nat.{ℕ, _+_}
 use mathlib.Core.Path.{_≡_, refl, ap, sym, _∙_}
-use mathlib.Core.Bool.{Bool, true, false}
+use mathlib.Core.Bool.{Bool, true, false, cond}
 use mathlib.Core.List.{List, [], _∷_}
 use native.Mathlib.Nat.{zero-add}
 use native.Mathlib.Omega.{arith}
 use lib.Dec.{leb}
 use lib.ListN.{length, length-append}
 use borrow.Author.Tests.{leb-true}
-use Rattle.wire.specs.Choice.{pick}
 use Rattle.wire.specs.Order.{order, flip, order-same, order-flip}
 use Rattle.wire.specs.declared.order.Order.{Order}
 use Rattle.wire.specs.declared.order.Order.the-variants.{Before, Same, After}
@@ -85,12 +84,12 @@ module _ (f : Row ℕ → ℕ) (by-name : (r s : Row ℕ) → r .name ≡ s .nam
   total [] = 0
   total (r ∷ l) = f r + total l
 
-  total-add : (g : Row ℕ) (X : Rows ones) → Canonical ones X → total (addRow ones g X) ≡ pick (has X (g .name)) 0 (f g) + total X
+  total-add : (g : Row ℕ) (X : Rows ones) → Canonical ones X → total (addRow ones g X) ≡ cond (has X (g .name)) 0 (f g) + total X
   total-add g [] c = refl
   total-add g (s ∷ l) c = go (order (g .name) (s .name)) refl (total-add g l (c .4))
     where
-      go : (w : Order) → order (g .name) (s .name) ≡ w → total (addRow ones g l) ≡ pick (has l (g .name)) 0 (f g) + total l
-          → total (choose w (g ∷ s ∷ l) (joined ones g s ∷ l) (s ∷ addRow ones g l)) ≡ pick (has (s ∷ l) (g .name)) 0 (f g) + (f s + total l)
+      go : (w : Order) → order (g .name) (s .name) ≡ w → total (addRow ones g l) ≡ cond (has l (g .name)) 0 (f g) + total l
+          → total (choose w (g ∷ s ∷ l) (joined ones g s ∷ l) (s ∷ addRow ones g l)) ≡ cond (has (s ∷ l) (g .name)) 0 (f g) + (f s + total l)
       go Before e ih = rw (has-none (s ∷ l) (g .name) (count-above ones (s ∷ l) (g .name) (e, above-weak ones (g .name) (s .name) l e (c .3))))
       go Same e ih =
           let q : g .name ≡ s .name = order-same (g .name) (s .name) e in
@@ -112,7 +111,7 @@ module _ (f : Row ℕ → ℕ) (by-name : (r s : Row ℕ) → r .name ≡ s .nam
           ap (leb 1) e
 
       go : (b : Bool) → has R (x .name) ≡ b → total (plus ones G R) ≡ total (fresh R G) + total R
-          → pick (has (plus ones G R) (x .name)) 0 (f x) + total (plus ones G R) ≡ total (fresh R (x ∷ G)) + total R
+          → cond (has (plus ones G R) (x .name)) 0 (f x) + total (plus ones G R) ≡ total (fresh R (x ∷ G)) + total R
       go true e ih = rw (same, e, fresh-there R x G e) (omega arith)
       go false e ih = rw (same, e, fresh-new R x G e) (omega arith)
 

@@ -1,12 +1,11 @@
 -- Rows added to rows in two passes: the first adds to the counts of names that are there, the second puts the rows of those that are not.
 use Prim.Native.Nat.{ℕ, _+_, _-_, _<_, _≤_}
 use mathlib.Core.Path.{_≡_}
-use mathlib.Core.Bool.{Bool, true, false}
+use mathlib.Core.Bool.{Bool, true, false, cond}
 use mathlib.Core.List.{List, [], _∷_, _++_}
 use lib.Dec.{leb}
 use lib.ListN.{length, take, drop}
 use Rattle.wire.specs.Bytes.{Bytes}
-use Rattle.wire.specs.Choice.{pick}
 use Rattle.wire.specs.Order.{order}
 use Rattle.wire.specs.declared.order.Order.the-variants.{Before}
 use Rattle.tally.specs.Rows.{Row, Rows, Canonical, isName, addRow, plus, countIn}
@@ -29,11 +28,11 @@ has X n = leb 1 (countIn ones X n)
 -- of the rows G, those whose names have a row in X, and those whose names have none
 unfoldable pub known : Rows ones → Rows ones → Rows ones
 known X [] = []
-known X (g ∷ G) = pick (has X (g .name)) (g ∷ known X G) (known X G)
+known X (g ∷ G) = cond (has X (g .name)) (g ∷ known X G) (known X G)
 
 unfoldable pub fresh : Rows ones → Rows ones → Rows ones
 fresh X [] = []
-fresh X (g ∷ G) = pick (has X (g .name)) (fresh X G) (g ∷ fresh X G)
+fresh X (g ∷ G) = cond (has X (g .name)) (fresh X G) (g ∷ fresh X G)
 
 -- every name after that of g comes after the rows D
 abbrev pub Passed : Row ℕ → Rows ones → Type 0
@@ -114,10 +113,10 @@ pub record RowFilled (t t′ : List ℕ) (g g′ : Gap) (n : ℕ) (r : Row ℕ) 
   pub D′ : Rows ones
   pub L′ : Rows ones
   pub apart : Apart t′ g′ n D′ L′
-  pub sum : D′ ++ L′ ≡ pick (has L (r .name)) (D ++ L) (addRow ones r (D ++ L))
+  pub sum : D′ ++ L′ ≡ cond (has L (r .name)) (D ++ L) (addRow ones r (D ++ L))
   pub passed : Passed r D′
   pub same : (m : List ℕ) → order (r .name) m ≡ Before → countIn ones L′ m ≡ countIn ones L m
-  pub room : g′ .write + g .read ≡ g .write + g′ .read + pick (has L (r .name)) 0 (length (fields one .encode r))
+  pub room : g′ .write + g .read ≡ g .write + g′ .read + cond (has L (r .name)) 0 (length (fields one .encode r))
   pub behind : drop n t′ ≡ drop n t
 
 pub record FilledTo (t t′ : List ℕ) (g g′ : Gap) (n : ℕ) (r : Row ℕ) : Type 0 where

@@ -1,7 +1,7 @@
 -- Rows checked one after the other: what is left to read, after those read so far, decides.
 use Prim.Native.Nat.{ℕ, _+_, _-_, _<_, _≤_}
 use mathlib.Core.Path.{_≡_, refl, ap, sym, _∙_}
-use mathlib.Core.Bool.{Bool, true, false}
+use mathlib.Core.Bool.{Bool, true, false, cond}
 use mathlib.Core.List.{List, [], _∷_, _++_}
 use mathlib.Core.Option.{some, none, Option·none-ne-some}
 use mathlib.Core.Logic.{inl, inr}
@@ -10,7 +10,7 @@ use native.Mathlib.Omega.{arith}
 use lib.Dec.{eqb}
 use lib.ListN.{length, take, drop, length-drop}
 use borrow.Author.Tests.{eq-eqb, ne-eqb, eqb-true, eqb-false}
-use Rattle.wire.specs.Choice.{pick, yes-and, and-no}
+use Rattle.wire.specs.Choice.{yes-and, and-no}
 use Rattle.wire.specs.Order.{order}
 use Rattle.wire.specs.declared.order.Order.{Order}
 use Rattle.wire.specs.Read.{Read, done, refused}
@@ -102,6 +102,6 @@ module _ {count : ℕ} {s rest last : List ℕ} {first : Bool} {left : ℕ} (k :
       let e : items (row one) count .read s ≡ done (k .pre) (k .at) = sym (k .reads) ∙ items-end (row one) left (k .pre) (k .seen) (k .at) rest z in
       rw e (go (eqb (length rest) 0) refl)
     where
-      go : (b : Bool) → eqb (length rest) 0 ≡ b → b ≡ isSome (pick (eqb (k .at) (length s)) (some (k .pre)) none)
+      go : (b : Bool) → eqb (length rest) 0 ≡ b → b ≡ isSome (cond (eqb (k .at) (length s)) (some (k .pre)) none)
       go true e = let p = eqb-true (length rest) 0 e in rw (eq-eqb (k .at) (length s) (omega (arith, k .size)))
       go false e = let p = eqb-false (length rest) 0 e in rw (ne-eqb (k .at) (length s) (λ q. p (omega (arith, k .size))))

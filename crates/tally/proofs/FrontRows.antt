@@ -1,14 +1,13 @@
 -- The row at the front of a part, as the code reads it: the name behind its length, then the count.
 use Prim.Native.Nat.{ℕ, _+_, _-_, _^_, _<_, _≤_}
 use mathlib.Core.Path.{_≡_, refl, ap, sym, _∙_}
-use mathlib.Core.Bool.{Bool, true, false}
+use mathlib.Core.Bool.{Bool, true, false, cond}
 use mathlib.Core.List.{List, []}
 use mathlib.Core.Option.{some, none}
 use native.Mathlib.Omega.{arith}
 use lib.Dec.{eqb}
 use lib.ListN.{length, take, drop}
 use borrow.Author.Tests.{le-leb, lt-leb, eq-eqb, ne-eqb}
-use Rattle.wire.specs.Choice.{pick}
 use Rattle.wire.specs.Answer.{good, plain, tallyMalformed, noSuch}
 use Rattle.wire.specs.Bytes.{Bytes}
 use Rattle.wire.specs.Read.{done, refused}
@@ -125,6 +124,6 @@ module _ (s : List ℕ) where
     pub front-isnt : (part : Row ℕ × ℕ → List ℕ) → [] ≡ partOf part (frontOf one s)
     front-isnt part = rw (← h) (go (eqb (length s) 0))
       where
-        go : (b : Bool) → [] ≡ partOf part (pick b (plain noSuch) (plain tallyMalformed))
+        go : (b : Bool) → [] ≡ partOf part (cond b (plain noSuch) (plain tallyMalformed))
         go true = refl
         go false = refl

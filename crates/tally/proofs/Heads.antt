@@ -1,7 +1,7 @@
 -- The head of a tally, read and written.
 use Prim.Native.Nat.{ℕ, _+_, _-_, _<_, _≤_}
 use mathlib.Core.Path.{_≡_, refl, ap, sym, _∙_}
-use mathlib.Core.Bool.{Bool, true, false}
+use mathlib.Core.Bool.{Bool, true, false, cond}
 use mathlib.Core.List.{List, _++_}
 use mathlib.Core.Option.{some, none}
 use native.Mathlib.Omega.{arith}
@@ -9,7 +9,7 @@ use lib.Dec.{leb, eqb}
 use lib.ListN.{length, drop, length-drop}
 use lib.Seq.{drop-drop}
 use borrow.Author.Tests.{leb-true, leb-false, eqb-true, eqb-false, eq-eqb, ne-eqb}
-use Rattle.wire.specs.Choice.{pick, same-test}
+use Rattle.wire.specs.Choice.{same-test}
 use Rattle.wire.specs.Bytes.{spell}
 use Rattle.wire.specs.Marks.{starts}
 use Rattle.wire.specs.Read.{Read, done, refused, onward}
@@ -75,7 +75,7 @@ module _ (t : List ℕ) where
 
           -- told from the tally's first byte
           outward : (r : Read Malformed (Rows ones)) → whole t (onward 3 (λ a. a) (onward 2 (λ a. a) (onward 4 (λ a. a) r))) ≡ whole (drop headLength t) r
-          outward (done l i) = ap (λ (b : Bool). pick b (some l) none) (same-test (eqb (3 + (2 + (4 + i))) (length t)) yes no)
+          outward (done l i) = ap (λ (b : Bool). cond b (some l) none) (same-test (eqb (3 + (2 + (4 + i))) (length t)) yes no)
             where
               yes : eqb (3 + (2 + (4 + i))) (length t) ≡ true → eqb i (length (drop headLength t)) ≡ true
               yes q = let p = eqb-true (3 + (2 + (4 + i))) (length t) q in eq-eqb i (length (drop headLength t)) (omega (arith, length-drop headLength t))

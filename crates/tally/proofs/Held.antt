@@ -1,7 +1,7 @@
 -- Bytes that hold rows: what their front says, what is behind it, and when bytes are a tally.
 use Prim.Native.Nat.{ℕ, zero, suc, _+_, _-_, _^_, _<_, _≤_}
 use mathlib.Core.Path.{_≡_, refl, ap, ap₂, sym, subst, _∙_}
-use mathlib.Core.Bool.{Bool, true, false}
+use mathlib.Core.Bool.{Bool, true, false, cond}
 use mathlib.Core.List.{List, [], _∷_, _++_, append-assoc}
 use mathlib.Core.Option.{some, none, Option·some-injective, Option·none-ne-some}
 use native.Mathlib.Omega.{arith}
@@ -9,7 +9,7 @@ use lib.Dec.{leb, eqb, lit<}
 use lib.ListN.{length, take, drop, length-append}
 use lib.Seq.{drop-append-seam, take-at, drop-at}
 use borrow.Author.Tests.{le-leb, leb-true, eqb-true, eq-eqb}
-use Rattle.wire.specs.Choice.{pick, no-true, and-yes, yes-and, three-yes, yes-three}
+use Rattle.wire.specs.Choice.{no-true, and-yes, yes-and, three-yes, yes-three}
 use Rattle.wire.specs.Bytes.{Bytes, spell, spell-length, bytes-nil, bytes-cons}
 use Rattle.wire.specs.Order.{order}
 use Rattle.wire.specs.Read.{Read, done, refused}
@@ -36,7 +36,7 @@ found-some (refused e p) a n h = absurd (Option·none-ne-some (a, n) h)
 pub whole-some : {A : Type 0} (s : List ℕ) (r : Read Malformed A) (a : A) → whole s r ≡ some a → r ≡ done a (length s)
 whole-some {A} s (done b m) a h = go (eqb m (length s)) refl h
   where
-    go : (t : Bool) → eqb m (length s) ≡ t → pick t (some b) none ≡ some a → _≡_ {A = Read Malformed A} (done b m) (done a (length s))
+    go : (t : Bool) → eqb m (length s) ≡ t → cond t (some b) none ≡ some a → _≡_ {A = Read Malformed A} (done b m) (done a (length s))
     go true e g = ap₂ done (Option·some-injective b a g) (eqb-true m (length s) e)
     go false e g = absurd (Option·none-ne-some a g)
 whole-some s (refused e p) a h = absurd (Option·none-ne-some a h)

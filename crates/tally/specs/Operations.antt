@@ -1,10 +1,10 @@
 -- What the operations on tallies answer: document 01, 'Tallies, lots, spans, sheets', 'Cuts and merges' and 'Order'.
 use Prim.Native.Nat.{ℕ}
+use mathlib.Core.Bool.{cond}
 use mathlib.Core.List.{List, []}
 use mathlib.Core.Option.{Option, some, none}
 use lib.Dec.{leb, eqb}
 use lib.ListN.{length, take, drop}
-use Rattle.wire.specs.Choice.{pick}
 use Rattle.wire.specs.Answer.{Answer, good, refusal, plain, noRoom, partsMisfit, tallyMalformed, tooMany, noSuch}
 use Rattle.tally.specs.Rows.{isName, addRow, plus}
 use Rattle.tally.specs.Tally.{Kind, KindRow, KindRows, headLength, found, row, tally, rowsOf, countable}
@@ -26,11 +26,11 @@ module _ (k : Kind) where
 
   -- the front row of a part, judged alone, and its length; 16 for an empty part
   abbrev pub frontOf : List ℕ → Answer (KindRow k × ℕ)
-  frontOf s = pick (eqb (length s) 0) (plain noSuch) (withRows (found (row k [] .read s)) good)
+  frontOf s = cond (eqb (length s) 0) (plain noSuch) (withRows (found (row k [] .read s)) good)
 
   -- ---- the tally of rows in a room: 14, then 11
   unfoldable pub tallied : ℕ → KindRows k → Answer (List ℕ)
-  tallied room l = pick (countable k l) (pick (leb (length (tally k .encode l)) room) (good (tally k .encode l)) (plain noRoom)) (plain tooMany)
+  tallied room l = cond (countable k l) (cond (leb (length (tally k .encode l)) room) (good (tally k .encode l)) (plain noRoom)) (plain tooMany)
 
   -- ---- Merging: 13 (first tally first), 14, 11.
   unfoldable pub mergeOf : ℕ → List ℕ → List ℕ → Answer (List ℕ)
@@ -39,11 +39,11 @@ module _ (k : Kind) where
   -- ---- Adding, in a buffer whose first n bytes are the tally: 12, 13 (also a stated length beyond the buffer), 14, 11. Adding 0 changes
   -- nothing.
   abbrev pub added : List ℕ → ℕ → KindRow k → KindRows k → Answer (List ℕ)
-  added buffer n r l = pick (k .counts .stands (r .count)) (tallied (length buffer) (addRow (k .counts) r l)) (good (take n buffer))
+  added buffer n r l = cond (k .counts .stands (r .count)) (tallied (length buffer) (addRow (k .counts) r l)) (good (take n buffer))
 
   unfoldable pub addOf : List ℕ → ℕ → KindRow k → Answer (List ℕ)
-  addOf buffer n r = pick (isName (r .name))
-      (pick (leb n (length buffer)) (withRows (rowsOf k (take n buffer)) (added buffer n r)) (plain tallyMalformed))
+  addOf buffer n r = cond (isName (r .name))
+      (cond (leb n (length buffer)) (withRows (rowsOf k (take n buffer)) (added buffer n r)) (plain tallyMalformed))
       (plain partsMisfit)
 
 -- a part of what was answered; empty when refused

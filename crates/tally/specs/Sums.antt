@@ -1,11 +1,10 @@
 -- The sum of two lists of rows, as merging walks it: a row at a time from the front of both.
 use Prim.Native.Nat.{ℕ, _+_, _-_, _≤_}
 use mathlib.Core.Path.{_≡_}
-use mathlib.Core.Bool.{true, false}
+use mathlib.Core.Bool.{true, false, cond}
 use mathlib.Core.List.{List, [], _∷_}
 use lib.Dec.{eqb}
 use lib.ListN.{length, take, drop}
-use Rattle.wire.specs.Choice.{pick}
 use Rattle.wire.specs.Bytes.{spell}
 use Rattle.wire.specs.Store.{laid, stored}
 use Rattle.wire.specs.Formats.{counted}
@@ -22,7 +21,7 @@ use Rattle.tally.specs.declared.merge.MergeAnswer.{MergeAnswer}
 
 -- the list that the name of the next row stands in
 abbrev pub side : ℕ → List ℕ → List ℕ → List ℕ
-side first x y = pick (eqb first 0) y x
+side first x y = cond (eqb first 0) y x
 
 -- where that row stands: what the code may slice
 pub record NextInside (x y : List ℕ) (first second size : ℕ) : Type 0 where

@@ -1,7 +1,7 @@
 -- The bytes of a tally: document 01, 'Tallies, lots, spans, sheets'.
 use Prim.Native.Nat.{ℕ, _+_, _^_, _<_}
 use mathlib.Core.Path.{_≡_, refl}
-use mathlib.Core.Bool.{Bool, true, false, _&&_}
+use mathlib.Core.Bool.{Bool, true, false, cond, _&&_}
 use mathlib.Core.List.{List, [], _∷_, _++_}
 use mathlib.Core.Logic.{_↔_}
 use mathlib.Core.Option.{Option, some, none}
@@ -9,7 +9,6 @@ use native.Mathlib.Omega.{arith}
 use lib.Dec.{leb, eqb, lit<}
 use lib.ListN.{length}
 use borrow.Author.Tests.{leb-true, le-leb}
-use Rattle.wire.specs.Choice.{pick}
 use Rattle.wire.specs.Bytes.{spell, spell-length}
 use Rattle.wire.specs.Order.{order}
 use Rattle.wire.specs.Read.{Read, done, refused}
@@ -67,7 +66,7 @@ found (refused e p) = none
 
 -- the same where it ends with the bytes
 abbrev pub whole : {A : Type 0} → List ℕ → Read Malformed A → Option A
-whole s (done a n) = pick (eqb n (length s)) (some a) none
+whole s (done a n) = cond (eqb n (length s)) (some a) none
 whole s (refused e p) = none
 
 module _ (k : Kind) where

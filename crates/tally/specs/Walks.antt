@@ -1,12 +1,11 @@
 -- Bytes that are rows, as the functions of this crate walk them.
 use Prim.Native.Nat.{ℕ, _≤_}
 use mathlib.Core.Path.{_≡_}
-use mathlib.Core.Bool.{Bool, true, false}
+use mathlib.Core.Bool.{Bool, true, false, cond}
 use mathlib.Core.List.{List, [], _∷_, _++_}
 use mathlib.Core.Option.{Option, some, none}
 use lib.ListN.{length, drop}
 use Rattle.wire.specs.Answer.{Answer, mapAnswer, lent}
-use Rattle.wire.specs.Choice.{pick}
 use Rattle.wire.specs.Order.{order}
 use Rattle.wire.specs.Format.{items}
 use Rattle.wire.specs.Store.{stored}
@@ -17,7 +16,7 @@ use Rattle.tally.specs.declared.head.Stated.the-variants as stated
 
 -- a name after the last one, unless it is the first
 abbrev pub mayFollow : Bool → List ℕ → List ℕ → Bool
-mayFollow first last name = pick first true (choose (order last name) true false false)
+mayFollow first last name = cond first true (choose (order last name) true false false)
 
 -- the format takes the bytes to their end
 abbrev pub isSome : {A : Type 0} → Option A → Bool
@@ -49,4 +48,4 @@ Answered a before after x = (a ≡ mapAnswer length x) × (after ≡ lent x befo
 
 -- a row at a place of a buffer, where it fits and its name may stand in a tally; else the buffer as it was
 unfoldable pub rowStored : ℕ → Row ℕ → List ℕ → List ℕ
-rowStored at r d = pick (isName (r .name)) (stored at (fields one .encode r) d) d
+rowStored at r d = cond (isName (r .name)) (stored at (fields one .encode r) d) d

@@ -4,7 +4,7 @@ use mathlib.Core.Path.{_≡_, refl, ap, sym, _∙_}
 use mathlib.Core.List.{List}
 use mathlib.Core.Bool.{Bool, true}
 use lib.ListN.{drop}
-use Rattle.wire.specs.Read.{Read, done, refused, mapRead, onward, bind-done, pick-done}
+use Rattle.wire.specs.Read.{Read, done, refused, mapRead, onward, bind-done, cond-done}
 use Rattle.wire.specs.Format.{Format, tested, such, _⨾_, pair, along, items}
 use Rattle.wire.specs.Formats.{_▹_, number, listed}
 
@@ -21,13 +21,13 @@ pub such-done : {E : Type 0} {ends : E} {A : Type 0} (test : A → Bool) (e : E)
 unfolding such
 such-done test e f s {a} {n} h =
     let x = bind-done (f .read s) (tested test e) a n h in
-    x .2 ∙ pick-done (test (x .0)) (done (x .0) (x .1)) e 0 a n (x .3) .1
+    x .2 ∙ cond-done (test (x .0)) (done (x .0) (x .1)) e 0 a n (x .3) .1
 
 pub such-passes : {E : Type 0} {ends : E} {A : Type 0} (test : A → Bool) (e : E) (f : Format E ends A) (s : List ℕ) {a : A} {n : ℕ} → such test e f .read s ≡ done a n → test a ≡ true
 unfolding such
 such-passes test e f s {a} {n} h =
     let x = bind-done (f .read s) (tested test e) a n h in
-    let y = pick-done (test (x .0)) (done (x .0) (x .1)) e 0 a n (x .3) in
+    let y = cond-done (test (x .0)) (done (x .0) (x .1)) e 0 a n (x .3) in
     let same : x .0 ≡ a = cc (y .1) in
     ap test (sym same) ∙ y .0
 

@@ -4,12 +4,11 @@ use Prim.Native.Nat.{ℕ, zero, suc, _+_}
 use mathlib.Core.Path.{_≡_, refl, ap, sym, _∙_}
 use mathlib.Core.Logic.{_⊎_, inl, inr}
 use mathlib.Core.List.{List, [], _∷_, _++_, append-nil}
-use mathlib.Core.Bool.{Bool, true, false}
+use mathlib.Core.Bool.{Bool, true, false, cond}
 use lib.ListN.{length, drop}
 use lib.Seq.{drop-append-seam}
-use Rattle.wire.specs.Choice.{pick}
 use Rattle.wire.specs.Bytes.{Bytes}
-use Rattle.wire.specs.Read.{Read, done, refused, bind, mapRead, onward, never, same-refusal, bind-done, map-done, map-refused, onward-done, onward-refused, pick-done}
+use Rattle.wire.specs.Read.{Read, done, refused, bind, mapRead, onward, never, same-refusal, bind-done, map-done, map-refused, onward-done, onward-refused, cond-done}
 use Rattle.wire.specs.Format.{Format, tested, such, _⨾_, next, pair, along, items, readItems, encodeItems, local}
 use Rattle.wire.specs.Formats.{number, listed}
 use Rattle.wire.proofs.EveryFormat.{every-format}
@@ -28,7 +27,7 @@ module _ {E : Type 0} {ends : E} {A : Type 0} (test : A → Bool) (e : E) (f : F
   such-refused : (s : List ℕ) (k : E) (p : ℕ) (r : Read E A) → f .read s ≡ r → bind r (tested test e) ≡ refused k p → (f .read s ≡ refused k p) ⊎ (k ≡ ends → ⊥)
   such-refused s k p (done a n) h g = go (test a) g
     where
-      go : (b : Bool) → pick b (done a n) (refused e 0) ≡ refused k p → (f .read s ≡ refused k p) ⊎ (k ≡ ends → ⊥)
+      go : (b : Bool) → cond b (done a n) (refused e 0) ≡ refused k p → (f .read s ≡ refused k p) ⊎ (k ≡ ends → ⊥)
       go true z = never (sym z)
       go false z = inr (λ w. let x : e ≡ k = cc in other (x ∙ w))
   such-refused s k p (refused k₁ p₁) h g = inl (h ∙ same-refusal g)
@@ -39,7 +38,7 @@ module _ {E : Type 0} {ends : E} {A : Type 0} (test : A → Bool) (e : E) (f : F
     same = λ a. refl;
     takes = λ s a n h.
         let x = bind-done (f .read s) (tested test e) a n h in
-        x .2 ∙ pick-done (test (x .0)) (done (x .0) (x .1)) e 0 a n (x .3) .1;
+        x .2 ∙ cond-done (test (x .0)) (done (x .0) (x .1)) e 0 a n (x .3) .1;
     refuses = λ s k p h. such-refused s k p (f .read s) refl h;
   }
 
@@ -101,9 +100,9 @@ module _ {E : Type 0} {ends : E} {A B : Type 0} (OkF OkG : B → Type 0) (to : A
     refuses = λ s e p h. along-refuses s e p (l .refuses s e p (map-refused to (f .read s) e p h));
   }
 
-pub looser-pick : {E : Type 0} {ends : E} {A : Type 0} {f g h k : Format E ends A} (b : Bool) → Looser f g → Looser h k → Looser (pick b f h) (pick b g k)
-looser-pick true l m = l
-looser-pick false l m = m
+pub looser-cond : {E : Type 0} {ends : E} {A : Type 0} {f g h k : Format E ends A} (b : Bool) → Looser f g → Looser h k → Looser (cond b f h) (cond b g k)
+looser-cond true l m = l
+looser-cond false l m = m
 
 -- so many items
 module _ {E : Type 0} {ends : E} {A : Type 0} (item loose : List A → Format E ends A) (l : (seen : List A) → Looser (item seen) (loose seen)) where

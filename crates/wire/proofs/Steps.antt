@@ -2,7 +2,7 @@
 use Prim.Native.Nat.{ℕ, zero, suc, _+_, _-_, _*_, _^_, _<_, _≤_}
 use mathlib.Core.Path.{_≡_, refl}
 use mathlib.Core.List.{List}
-use mathlib.Core.Bool.{Bool, true, false}
+use mathlib.Core.Bool.{Bool, true, false, cond}
 use native.Mathlib.Nat.{pow-suc, pow-le-pow-right, lt-of-lt-of-le}
 use native.Mathlib.Numerals.{add-one, sub-one}
 use native.Mathlib.Omega.{arith}
@@ -11,7 +11,6 @@ use lib.IntN.{ℤ}
 use lib.ListN.{length, getD, take, drop}
 use lib.Seq.{drop-cons}
 use borrow.Author.Tests.{le-leb, lt-leb}
-use Rattle.wire.specs.Choice.{pick}
 use Rattle.wire.specs.Bytes.{spelt}
 use Rattle.wire.specs.Read.{Read, done, refused, bind, mapRead, onward, blaming}
 use Rattle.wire.specs.Format.{Format, run, such, _⨾_, next, along, pair}
@@ -94,7 +93,7 @@ module _ {E : Type 0} (ends : E) where
   unfolding run
   run-blamed n s = go (leb n (length s))
     where
-      go : (b : Bool) → pick b (done (take n s) n) (refused ends 0) ≡ blaming ends (pick b (done (take n s) n) (refused short 0))
+      go : (b : Bool) → cond b (done (take n s) n) (refused ends 0) ≡ blaming ends (cond b (done (take n s) n) (refused short 0))
       go true = refl
       go false = refl
 

@@ -2,10 +2,9 @@
 use Prim.Native.Nat.{ℕ, _+_, _≤_}
 use mathlib.Core.Path.{_≡_, refl}
 use mathlib.Core.List.{List, _++_}
-use mathlib.Core.Bool.{Bool, true, false}
+use mathlib.Core.Bool.{Bool, true, false, cond}
 use native.Mathlib.Omega.{arith}
 use lib.ListN.{length, drop, length-append, length-drop}
-use Rattle.wire.specs.Choice.{pick}
 
 -- Done, with what the call gives; or refused, with the number, the record and the offset. The record is 0 but for sheets, and the offset
 -- is 0 but for 1 to 8.
@@ -80,7 +79,7 @@ pub no-good : {A C : Type 0} {n r o : ℕ} {a : A} → refusal n r o ≡ good a 
 no-good h = let z : _≡_ {A = ℕ} 0 1 = cc in absurd (omega arith)
 
 -- where an answer by a test is good, the test held
-pub answered : {A : Type 0} (t : Bool) (n : ℕ) (a d : A) → pick t (good a) (plain n) ≡ good d → (t ≡ true) × (a ≡ d)
+pub answered : {A : Type 0} (t : Bool) (n : ℕ) (a d : A) → cond t (good a) (plain n) ≡ good d → (t ≡ true) × (a ≡ d)
 answered true n a d e = (refl, cc)
 answered false n a d e = no-good e
 

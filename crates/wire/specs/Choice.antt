@@ -1,14 +1,9 @@
--- Choosing by a test, and the laws of tests that proofs cite.
+-- The laws of tests that proofs cite.
 use Prim.Native.Nat.{ℕ}
 use mathlib.Core.Path.{_≡_, refl, sym}
-use mathlib.Core.Bool.{Bool, true, false, _&&_}
+use mathlib.Core.Bool.{Bool, true, false, cond, _&&_}
 use mathlib.Core.Logic.{_⊎_, inl, inr}
 use native.Mathlib.Omega.{arith}
-
--- the first where the test holds, else the second
-abbrev pub pick {ℓ} : {A : Type ℓ} → Bool → A → A → A
-pick true a b = a
-pick false a b = b
 
 pub no-true {ℓ} : {C : Type ℓ} → false ≡ true → C
 no-true e = let z : _≡_ {A = ℕ} 0 1 = cc in absurd (omega arith)
@@ -43,9 +38,9 @@ same-test true f g = sym (f refl)
 same-test false f g = sym (g refl)
 
 -- a choice between a value and false
-pub pick-yes : (a b : Bool) → pick a b false ≡ true → (a ≡ true) × (b ≡ true)
-pick-yes true b e = (refl, e)
-pick-yes false b e = no-true e
+pub cond-yes : (a b : Bool) → cond a b false ≡ true → (a ≡ true) × (b ≡ true)
+cond-yes true b e = (refl, e)
+cond-yes false b e = no-true e
 
 -- of two ways, what the second leads to
 pub or-so {ℓ} : {X A B : Type ℓ} → (A → B) → X ⊎ A → X ⊎ B

@@ -4,15 +4,15 @@ use Prim.Native.Nat.{ℕ, zero, suc, zero-le, _+_, _-_, _≤_}
 use mathlib.Core.Path.{_≡_, refl, ap, sym, subst₂, _∙_}
 use mathlib.Core.Logic.{_⊎_, inl, inr}
 use mathlib.Core.List.{List, [], _∷_, _++_, append-assoc}
-use mathlib.Core.Bool.{Bool, true, false}
+use mathlib.Core.Bool.{Bool, true, false, cond}
 use native.Mathlib.Omega.{arith}
 use lib.Dec.{leb}
 use lib.ListN.{length, take, drop, length-append, take-append-drop}
 use lib.Seq.{drop-drop, drop-append-seam, drop-append-le, take-append-seam, length-take-le}
 use borrow.Author.Tests.{le-leb, leb-true}
-use Rattle.wire.specs.Choice.{pick, or-so}
+use Rattle.wire.specs.Choice.{or-so}
 use Rattle.wire.specs.Bytes.{Bytes, bytes-nil, bytes-append, bytes-drop, bytes-take}
-use Rattle.wire.specs.Read.{Read, done, refused, bind, mapRead, onward, reach, never, same-refusal, bind-done, map-done, map-refused, onward-done, onward-refused, pick-done, reach-map, reach-onward, reach-bind, reach-pick}
+use Rattle.wire.specs.Read.{Read, done, refused, bind, mapRead, onward, reach, never, same-refusal, bind-done, map-done, map-refused, onward-done, onward-refused, cond-done, reach-map, reach-onward, reach-bind, reach-cond}
 
 -- the value's bytes stand at the front of s, n of them
 pub record Took {A : Type 0} (Ok : A → Type 0) (encode : A → List ℕ) (s : List ℕ) (a : A) (n : ℕ) : Type 0 where
@@ -50,7 +50,7 @@ pub ends-in : {E : Type 0} {ends : E} {A : Type 0} (f : Format E ends A) {s : Li
 ends-in f {s} h = rw h at (f .inside s)
 
 -- ---- n bytes
-pub want-of-bytes : {E A : Type 0} {e : E} {p : ℕ} (ends : E) (c : Bool) (a : A) (n : ℕ) → pick c (done a n) (refused ends 0) ≡ refused e p → e ≡ ends
+pub want-of-bytes : {E A : Type 0} {e : E} {p : ℕ} (ends : E) (c : Bool) (a : A) (n : ℕ) → cond c (done a n) (refused ends 0) ≡ refused e p → e ≡ ends
 want-of-bytes ends true a n h = never (sym h)
 want-of-bytes ends false a n h = cc
 
@@ -58,14 +58,14 @@ unfoldable pub run : {E : Type 0} {ends : E} → ℕ → Format E ends (List ℕ
 run {E} {ends} n = record {
   Ok = λ l. (length l ≡ n) × Bytes l;
   encode = λ l. l;
-  read = λ s. pick (leb n (length s)) (done (take n s) n) (refused ends 0);
+  read = λ s. cond (leb n (length s)) (done (take n s) n) (refused ends 0);
   bytes = λ l h. h .1;
-  inside = λ s. reach-pick (leb n (length s)) n (length s) (take n s) ends (λ t. leb-true _ _ t);
+  inside = λ s. reach-cond (leb n (length s)) n (length s) (take n s) ends (λ t. leb-true _ _ t);
   forward = λ l h t.
       let fits : n ≤ length (l ++ t) = rw (length-append, h .0) (omega arith) in
       rw (le-leb _ _ fits, ← h .0, take-append-seam);
   backward = λ s l m b h.
-      let x = pick-done (leb n (length s)) (done (take n s) n) ends 0 l m h in
+      let x = cond-done (leb n (length s)) (done (take n s) n) ends 0 l m h in
       let same : take n s ≡ l = cc (x .1) in
       let end : n ≡ m = cc (x .1) in
       let size : length (take n s) ≡ n = length-take-le n s (leb-true _ _ (x .0)) in
@@ -92,13 +92,13 @@ nothing {A = A} a₀ = record {
 
 -- ---- a value that passes a test; any other is refused at its own place
 abbrev pub tested : {E A : Type 0} → (A → Bool) → E → A → ℕ → Read E A
-tested test e a n = pick (test a) (done a n) (refused e 0)
+tested test e a n = cond (test a) (done a n) (refused e 0)
 
 module _ {E : Type 0} {ends : E} {A : Type 0} (test : A → Bool) (e : E) (f : Format E ends A) where
   pub such-backward : (s : List ℕ) (a : A) (n : ℕ) → Bytes s → bind (f .read s) (tested test e) ≡ done a n → Took (λ a. f .Ok a × (test a ≡ true)) (f .encode) s a n
   such-backward s a n b h =
       let x = bind-done (f .read s) (tested test e) a n h in
-      let y = pick-done (test (x .0)) (done (x .0) (x .1)) e 0 a n (x .3) in
+      let y = cond-done (test (x .0)) (done (x .0) (x .1)) e 0 a n (x .3) in
       let same : x .0 ≡ a = cc (y .1) in
       let k = f .backward s a n b (x .2 ∙ y .1) in
       record { ok = (k .ok, ap test (sym same) ∙ y .0); front = k .front; ends = k .ends }
@@ -118,7 +118,7 @@ such test e f = record {
   encode = f .encode;
   read = λ s. bind (f .read s) (tested test e);
   bytes = λ a h. f .bytes a (h .0);
-  inside = λ s. reach-bind (f .read s) (tested test e) (length s) (f .inside s) (λ a n h. reach-pick (test a) n (length s) a e (λ t. h));
+  inside = λ s. reach-bind (f .read s) (tested test e) (length s) (f .inside s) (λ a n h. reach-cond (test a) n (length s) a e (λ t. h));
   forward = λ a h t. rw (f .forward a (h .0) t, h .1);
   backward = such-backward test e f;
   firm = such-firm test e f;

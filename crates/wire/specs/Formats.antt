@@ -10,14 +10,13 @@
 use Prim.Native.Nat.{ℕ, suc, _+_, _-_, _^_, _<_, _≤_}
 use mathlib.Core.Path.{_≡_, refl, ap, sym, subst⁻¹}
 use mathlib.Core.List.{List, []}
-use mathlib.Core.Bool.{Bool, true, false}
+use mathlib.Core.Bool.{Bool, true, false, cond}
 use native.Mathlib.Omega.{arith}
 use lib.Dec.{ltb, eqb}
 use lib.IntN.{ℤ, pos, negsuc}
 use lib.Signed.{mag}
 use lib.ListN.{length}
 use borrow.Author.Tests.{eqb-true, lt-ltb, le-ltb, ltb-true, ltb-false}
-use Rattle.wire.specs.Choice.{pick}
 use Rattle.wire.specs.Bytes.{Bytes, spell, spelt, spell-length, spell-bytes, spelt-spell, spell-spelt, spelt-below}
 use Rattle.wire.specs.Marks.{starts, starts-whole}
 use Rattle.wire.specs.Format.{Format, run, nothing, such, _⨾_, along, items, items-length, pair}
@@ -49,7 +48,7 @@ u64 = number 8
 
 -- Two's complement: of the numbers below 2·half those from half on stand for the negative ones.
 abbrev pub signedOf : ℕ → ℕ → ℤ
-signedOf half n = pick (ltb n half) (pos n) (negsuc (half + half - suc n))
+signedOf half n = cond (ltb n half) (pos n) (negsuc (half + half - suc n))
 
 abbrev pub unsignedOf : ℕ → ℤ → ℕ
 unsignedOf half (pos n) = n
@@ -172,7 +171,7 @@ times n f = items (λ seen. f) n
 
 -- f where the test holds; else nothing, and the value that stands for it
 abbrev pub only : {E : Type 0} {ends : E} {A : Type 0} → Bool → A → Format E ends A → Format E ends A
-only b a f = pick b f (nothing a)
+only b a f = cond b f (nothing a)
 
 -- ---- a record and the nested pairs that hold the same
 pub record Shape (A B : Type 0) : Type 0 where

@@ -2,10 +2,9 @@
 use Prim.Native.Nat.{ℕ, zero-le, _+_, _-_, _≤_}
 use mathlib.Core.Path.{_≡_, refl, sym}
 use mathlib.Core.List.{List}
-use mathlib.Core.Bool.{Bool, true, false}
+use mathlib.Core.Bool.{Bool, true, false, cond}
 use native.Mathlib.Omega.{arith}
 use lib.ListN.{length, drop, length-drop}
-use Rattle.wire.specs.Choice.{pick}
 
 pub data Read (E A : Type 0) : Type 0 where
   done : A → ℕ → Read E A
@@ -67,9 +66,9 @@ pub onward-refused : {E A B : Type 0} (n : ℕ) (f : A → B) (r : Read E A) (e 
 onward-refused n f (done a k) e p h = never (sym h)
 onward-refused n f (refused k q) e p h = (q, (cc), (cc))
 
-pub pick-done : {E A : Type 0} (c : Bool) (x : Read E A) (e : E) (p : ℕ) (a : A) (n : ℕ) → pick c x (refused e p) ≡ done a n → (c ≡ true) × (x ≡ done a n)
-pick-done true x e p a n h = (refl, h)
-pick-done false x e p a n h = never h
+pub cond-done : {E A : Type 0} (c : Bool) (x : Read E A) (e : E) (p : ℕ) (a : A) (n : ℕ) → cond c x (refused e p) ≡ done a n → (c ≡ true) × (x ≡ done a n)
+cond-done true x e p a n h = (refl, h)
+cond-done false x e p a n h = never h
 
 -- ---- how far a reading reaches
 pub reach-map : {E A B : Type 0} (f : A → B) (r : Read E A) → reach (mapRead f r) ≡ reach r
@@ -86,6 +85,6 @@ pub reach-bind : {E A B : Type 0} (r : Read E A) (f : A → ℕ → Read E B) (l
 reach-bind (done a n) f l h k = k a n h
 reach-bind (refused e p) f l h k = h
 
-pub reach-pick : {E A : Type 0} (c : Bool) (n l : ℕ) (a : A) (e : E) → (c ≡ true → n ≤ l) → reach (pick c (done a n) (refused e 0)) ≤ l
-reach-pick true n l a e h = h refl
-reach-pick false n l a e h = zero-le
+pub reach-cond : {E A : Type 0} (c : Bool) (n l : ℕ) (a : A) (e : E) → (c ≡ true → n ≤ l) → reach (cond c (done a n) (refused e 0)) ≤ l
+reach-cond true n l a e h = h refl
+reach-cond false n l a e h = zero-le

@@ -2,11 +2,10 @@
 -- cite.
 use Prim.Native.Nat.{ℕ, _-_}
 use mathlib.Core.Path.{_≡_}
-use mathlib.Core.Bool.{Bool}
+use mathlib.Core.Bool.{Bool, cond}
 use mathlib.Core.List.{List, [], _∷_, _++_, map}
 use lib.IntN.{ℤ, pos, negsuc}
 use lib.ListN.{length, take}
-use Rattle.wire.specs.Choice.{pick}
 use Rattle.wire.specs.Read.{Read, done, refused}
 use Rattle.wire.specs.Answer.{Answer, good, refusal}
 use Rattle.position.specs.Keys.{joinOf, splitOf}
@@ -38,7 +37,7 @@ counts [] = []
 counts (n ∷ l) = pos n ∷ counts l
 
 abbrev pub flag : Bool → ℕ
-flag b = pick b 1 0
+flag b = cond b 1 0
 
 -- of an answer its number, and on 0 its values
 abbrev pub answer : {A : Type 0} → (A → List ℤ) → Answer A → List ℤ

@@ -2,12 +2,11 @@
 use Prim.Native.Nat.{ℕ, suc}
 use mathlib.Core.Path.{_≡_, refl, ap₂, _∙_}
 use mathlib.Core.List.{List, [], _∷_, _++_}
-use mathlib.Core.Bool.{Bool, true, false, not}
+use mathlib.Core.Bool.{Bool, true, false, cond, not}
 use native.Mathlib.Omega.{arith}
 use lib.Dec.{leb, eqb}
 use lib.ListN.{length}
 use borrow.Author.Tests.{leb-true, leb-false, eq-eqb, ne-eqb}
-use Rattle.wire.specs.Choice.{pick}
 use Rattle.wire.specs.Bytes.{Bytes, spell}
 use Rattle.wire.specs.Format.{run, nothing, such, _⨾_, along, items, encodeItems}
 use Rattle.wire.specs.Formats.{number, behind, fixed, listed, only}
@@ -28,26 +27,26 @@ unfolding behind listed along _⨾_ such items number run
 fixed-bytes item l k v e = refl
 
 -- ---- formats chosen by a test
-pick-bytes : {A : Type 0} (b : Bool) (f g : Form A) (a : A) → pick b f g .encode a ≡ pick b (f .encode a) (g .encode a)
-pick-bytes true f g a = refl
-pick-bytes false f g a = refl
+cond-bytes : {A : Type 0} (b : Bool) (f g : Form A) (a : A) → cond b f g .encode a ≡ cond b (f .encode a) (g .encode a)
+cond-bytes true f g a = refl
+cond-bytes false f g a = refl
 
 -- what stands in one of two places
 module _ {A : Type 0} (none : A) (f : Form A) (a : A) where
-  only-here : (b : Bool) → only b none f .encode (pick b a none) ≡ pick b (f .encode a) []
+  only-here : (b : Bool) → only b none f .encode (cond b a none) ≡ cond b (f .encode a) []
   unfolding nothing
   only-here true = refl
   only-here false = refl
 
-  only-there : (b : Bool) → only (not b) none f .encode (pick b none a) ≡ pick (not b) (f .encode a) []
+  only-there : (b : Bool) → only (not b) none f .encode (cond b none a) ≡ cond (not b) (f .encode a) []
   unfolding nothing
   only-there true = refl
   only-there false = refl
 
 -- ---- the pieces
-pub opening-bytes : (o : Opening) → opening .encode o ≡ spell 1 (o .version) ++ (spell 1 (o .flags) ++ pick (since 27 (o .version)) (spell 2 (o .lighting)) [])
+pub opening-bytes : (o : Opening) → opening .encode o ≡ spell 1 (o .version) ++ (spell 1 (o .flags) ++ cond (since 27 (o .version)) (spell 2 (o .lighting)) [])
 unfolding opening along _⨾_ such nothing number run
-opening-bytes o = rw (pick-bytes (since 27 (o .version)) (number {ends = fault.Ends} 2) (nothing 65535) (o .lighting))
+opening-bytes o = rw (cond-bytes (since 27 (o .version)) (number {ends = fault.Ends} 2) (nothing 65535) (o .lighting))
 
 pub saved-bytes : (x : Saved) → saved all .encode x ≡ savedBytes (x .timestamp) (length (x .names)) (encodeItems (nameRow all) [] (x .names))
 unfolding saved behind listed along _⨾_ such items number run
@@ -64,39 +63,39 @@ nodes-bytes v n h k = rw (bytes-same [] (n .param1) h, bytes-same [] (n .param2)
 
 pub metadata-bytes : (v : ℕ) (l : List MetadataRow) → metadata v .encode l ≡ metadataBytes v (length l) (encodeItems (metadataRow v) [] l)
 unfolding metadata
-metadata-bytes v l = fixed-bytes (metadataRow v) l (pick (since 23 v) 1 2) (pick (since 28 v) 2 1) fault.MetadataVersion
+metadata-bytes v l = fixed-bytes (metadataRow v) l (cond (since 23 v) 1 2) (cond (since 28 v) 2 1) fault.MetadataVersion
 
 pub objects-bytes : (l : List ObjectRow) → objects .encode l ≡ objectsBytes (length l) (encodeItems (λ _. objectRow) [] l)
 unfolding objects
 objects-bytes l = fixed-bytes (λ _. objectRow) l 1 0 fault.ObjectVersion
 
 -- version 24 or 23, told by bounds
-chosen : (v : ℕ) (x y : List ℕ) → pick (before 25 v) (pick (since 24 v) x (pick (since 23 v) y [])) [] ≡ pick (eqb v 24) x (pick (eqb v 23) y [])
+chosen : (v : ℕ) (x y : List ℕ) → cond (before 25 v) (cond (since 24 v) x (cond (since 23 v) y [])) [] ≡ cond (eqb v 24) x (cond (eqb v 23) y [])
 chosen v x y = go (leb 25 v) refl (leb 24 v) refl (leb 23 v) refl
   where
     go : (a : Bool) → leb 25 v ≡ a → (b : Bool) → leb 24 v ≡ b → (c : Bool) → leb 23 v ≡ c
-        → pick (before 25 v) (pick (since 24 v) x (pick (since 23 v) y [])) [] ≡ pick (eqb v 24) x (pick (eqb v 23) y [])
+        → cond (before 25 v) (cond (since 24 v) x (cond (since 23 v) y [])) [] ≡ cond (eqb v 24) x (cond (eqb v 23) y [])
     go true e b f c g = let h = leb-true 25 v e in rw (e, ne-eqb v 24 (λ q. omega arith), ne-eqb v 23 (λ q. omega arith))
     go false e true f c g = let h = leb-false 25 v e in let k = leb-true 24 v f in rw (e, f, eq-eqb v 24 (omega arith))
     go false e false f true g = let h = leb-false 24 v f in let k = leb-true 23 v g in rw (e, f, g, ne-eqb v 24 (λ q. omega arith), eq-eqb v 23 (omega arith))
     go false e false f false g = let h = leb-false 23 v g in rw (e, f, g, ne-eqb v 24 (λ q. omega arith), ne-eqb v 23 (λ q. omega arith))
 
-bytes-of-24 : (x : Timers) → timersOf24 .encode x ≡ spell 1 (x .byte) ++ pick (eqb (x .byte) 1) (listBytes (length (x .rows)) (encodeItems timerRow [] (x .rows))) []
+bytes-of-24 : (x : Timers) → timersOf24 .encode x ≡ spell 1 (x .byte) ++ cond (eqb (x .byte) 1) (listBytes (length (x .rows)) (encodeItems timerRow [] (x .rows))) []
 unfolding listed along _⨾_ such nothing items number run
-bytes-of-24 x = rw (pick-bytes (eqb (x .byte) 1) (listed 2 timerRow) (nothing []) (x .rows))
+bytes-of-24 x = rw (cond-bytes (eqb (x .byte) 1) (listed 2 timerRow) (nothing []) (x .rows))
 
 abbrev zeroOf23 : Form Timers
 zeroOf23 = fixed 1 0 fault.ByteOf23 (nothing untimed)
 
-pub early-bytes : (v : ℕ) (x : Timers) → earlyTimers v .encode (pick (since 25 v) untimed x) ≡ earlyBytes v (x .byte) (length (x .rows)) (encodeItems timerRow [] (x .rows))
+pub early-bytes : (v : ℕ) (x : Timers) → earlyTimers v .encode (cond (since 25 v) untimed x) ≡ earlyBytes v (x .byte) (length (x .rows)) (encodeItems timerRow [] (x .rows))
 unfolding earlyTimers behind along _⨾_ such nothing number run
 early-bytes v x =
-    let below = pick (since 23 v) zeroOf23 (nothing untimed) in
-    only-there untimed (pick (since 24 v) timersOf24 below) x (since 25 v)
-    ∙ rw (pick-bytes (since 24 v) timersOf24 below x, pick-bytes (since 23 v) zeroOf23 (nothing untimed) x, bytes-of-24 x)
-    (chosen v (spell 1 (x .byte) ++ pick (eqb (x .byte) 1) (listBytes (length (x .rows)) (encodeItems timerRow [] (x .rows))) []) (spell 1 0))
+    let below = cond (since 23 v) zeroOf23 (nothing untimed) in
+    only-there untimed (cond (since 24 v) timersOf24 below) x (since 25 v)
+    ∙ rw (cond-bytes (since 24 v) timersOf24 below x, cond-bytes (since 23 v) zeroOf23 (nothing untimed) x, bytes-of-24 x)
+    (chosen v (spell 1 (x .byte) ++ cond (eqb (x .byte) 1) (listBytes (length (x .rows)) (encodeItems timerRow [] (x .rows))) []) (spell 1 0))
 
-pub late-bytes : (v : ℕ) (x : Timers) → lateTimers v .encode (pick (since 25 v) x untimed) ≡ lateBytes v (length (x .rows)) (encodeItems timerRow [] (x .rows))
+pub late-bytes : (v : ℕ) (x : Timers) → lateTimers v .encode (cond (since 25 v) x untimed) ≡ lateBytes v (length (x .rows)) (encodeItems timerRow [] (x .rows))
 unfolding lateTimers behind listed along _⨾_ such nothing items number run
 late-bytes v x = only-here untimed _ x (since 25 v)
 

@@ -3,12 +3,12 @@ use Prim.Native.Nat.{ℕ, zero, suc, _<_}
 use mathlib.Core.Path.{_≡_, refl}
 use mathlib.Core.Logic.{_↔_}
 use mathlib.Core.List.{List, [], _∷_}
-use mathlib.Core.Bool.{Bool, true, false, _&&_, _||_}
+use mathlib.Core.Bool.{Bool, true, false, cond, _&&_, _||_}
 use native.Mathlib.Omega.{arith}
 use lib.Dec.{ltb, eqb}
 use lib.ListN.{length, getD}
 use borrow.Author.Tests.{lt-leb, leb-false, lt-ltb, ltb-true, eq-eqb, ne-eqb, eqb-true, eqb-false}
-use Rattle.wire.specs.Choice.{pick, no-false, and-yes, three-yes, yes-and, yes-three}
+use Rattle.wire.specs.Choice.{no-false, and-yes, three-yes, yes-and, yes-three}
 use Rattle.mapblock.specs.Layout.{since}
 use Rattle.mapblock.specs.Questions.{areWhole}
 use Rattle.mapblock.specs.declared.head.Head.{Head}
@@ -27,13 +27,13 @@ pub record Fitting (p : Parts) : Type 0 where
   pub of-24 : p .head .version ≡ 24 → (p .head .timer ≡ 1 → ⊥) → length (p .timers) ≡ 0
 
 -- ---- tests
-pub pick-then : (c x : Bool) → pick c true x ≡ true → c ≡ false → x ≡ true
-pick-then true x h e = no-false e
-pick-then false x h e = h
+pub cond-then : (c x : Bool) → cond c true x ≡ true → c ≡ false → x ≡ true
+cond-then true x h e = no-false e
+cond-then false x h e = h
 
-then-pick : (c x : Bool) → (c ≡ false → x ≡ true) → pick c true x ≡ true
-then-pick true x h = refl
-then-pick false x h = h refl
+then-cond : (c x : Bool) → (c ≡ false → x ≡ true) → cond c true x ≡ true
+then-cond true x h = refl
+then-cond false x h = h refl
 
 or-no : (a b : Bool) → (a || b) ≡ false → (a ≡ false) × (b ≡ false)
 or-no true b h = no-false h
@@ -53,16 +53,16 @@ below-back m (x ∷ l) h = yes-and (lt-ltb x m (h zero (omega arith))) (below-ba
 -- ---- the tests of `fits`
 module _ (h : Head) where
   module _ (c : carries h ≡ true) where
-    carried : (pick (since 27 (h .version)) true (eqb (h .lighting) 65535) ≡ true) × (pick (eqb (h .version) 24) true (eqb (h .timer) 0) ≡ true)
-    carried = and-yes (pick (since 27 (h .version)) true (eqb (h .lighting) 65535)) (pick (eqb (h .version) 24) true (eqb (h .timer) 0)) c
+    carried : (cond (since 27 (h .version)) true (eqb (h .lighting) 65535) ≡ true) × (cond (eqb (h .version) 24) true (eqb (h .timer) 0) ≡ true)
+    carried = and-yes (cond (since 27 (h .version)) true (eqb (h .lighting) 65535)) (cond (eqb (h .version) 24) true (eqb (h .timer) 0)) c
 
     -- under 27 there is no lighting
     pub unlit : h .version < 27 → h .lighting ≡ 65535
-    unlit k = eqb-true (h .lighting) 65535 (pick-then (since 27 (h .version)) (eqb (h .lighting) 65535) (carried .0) (lt-leb 27 (h .version) k))
+    unlit k = eqb-true (h .lighting) 65535 (cond-then (since 27 (h .version)) (eqb (h .lighting) 65535) (carried .0) (lt-leb 27 (h .version) k))
 
     -- outside 24 the timer byte is 0
     pub no-timer : (h .version ≡ 24 → ⊥) → h .timer ≡ 0
-    no-timer k = eqb-true (h .timer) 0 (pick-then (eqb (h .version) 24) (eqb (h .timer) 0) (carried .1) (ne-eqb (h .version) 24 k))
+    no-timer k = eqb-true (h .timer) 0 (cond-then (eqb (h .version) 24) (eqb (h .timer) 0) (carried .1) (ne-eqb (h .version) 24 k))
 
   abbrev mayHold : Bool
   mayHold = since 25 (h .version) || (eqb (h .version) 24 && eqb (h .timer) 1)
@@ -77,10 +77,10 @@ module _ (h : Head) where
 
   -- before 25 there are timers only in 24 with the byte 1
   pub no-timers : (timers : List ℕ) → timed h timers ≡ true → h .version < 25 → (h .version ≡ 24 → h .timer ≡ 1 → ⊥) → length timers ≡ 0
-  no-timers timers t k n = eqb-true (length timers) 0 (pick-then mayHold (eqb (length timers) 0) t (none-held k n))
+  no-timers timers t k n = eqb-true (length timers) 0 (cond-then mayHold (eqb (length timers) 0) t (none-held k n))
 
   timed-back : (timers : List ℕ) → (h .version < 24 → length timers ≡ 0) → (h .version ≡ 24 → (h .timer ≡ 1 → ⊥) → length timers ≡ 0) → timed h timers ≡ true
-  timed-back timers before of-24 = then-pick mayHold (eqb (length timers) 0) λ e.
+  timed-back timers before of-24 = then-cond mayHold (eqb (length timers) 0) λ e.
       let x = or-no (since 25 (h .version)) (eqb (h .version) 24 && eqb (h .timer) 1) e in
       let low = leb-false 25 (h .version) (x .0) in
       eq-eqb (length timers) 0 (either 24 (h .version)
@@ -116,7 +116,7 @@ fits-plain p = (there, back)
           size2 = eqb-true (length (p .param2)) 4096 (y .2);
           lighting = unlit (p .head) (fits-carries p h);
           timer = no-timer (p .head) (fits-carries p h);
-          narrow = λ k. below-there 256 (p .param0) (pick-then (since 24 v) (allBelow 256 (p .param0)) (fits-narrow p h) (lt-leb 24 v k));
+          narrow = λ k. below-there 256 (p .param0) (cond-then (since 24 v) (allBelow 256 (p .param0)) (fits-narrow p h) (lt-leb 24 v k));
           before-24 = λ k. none (omega arith) (λ e. absurd (omega arith));
           of-24 = λ e k. none (omega arith) (λ _. k);
         }
@@ -124,5 +124,5 @@ fits-plain p = (there, back)
     back : Fitting p → fits p ≡ true
     back g =
         yes-three (yes-three (eq-eqb _ _ (g .size0)) (eq-eqb _ _ (g .size1)) (eq-eqb _ _ (g .size2)))
-        (yes-and (then-pick (since 27 v) _ (λ e. eq-eqb _ _ (g .lighting (leb-false 27 v e)))) (then-pick (eqb v 24) _ (λ e. eq-eqb _ _ (g .timer (eqb-false v 24 e)))))
-        (yes-and (then-pick (since 24 v) _ (λ e. below-back 256 (p .param0) (g .narrow (leb-false 24 v e)))) (timed-back (p .head) (p .timers) (g .before-24) (g .of-24)))
+        (yes-and (then-cond (since 27 v) _ (λ e. eq-eqb _ _ (g .lighting (leb-false 27 v e)))) (then-cond (eqb v 24) _ (λ e. eq-eqb _ _ (g .timer (eqb-false v 24 e)))))
+        (yes-and (then-cond (since 24 v) _ (λ e. below-back 256 (p .param0) (g .narrow (leb-false 24 v e)))) (timed-back (p .head) (p .timers) (g .before-24) (g .of-24)))

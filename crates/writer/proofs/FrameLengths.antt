@@ -3,14 +3,13 @@ use Prim.Native.Nat.{ℕ, _+_, _-_, _<_, _≤_}
 use mathlib.Core.Path.{_≡_, refl, ap, sym, subst⁻¹, _∙_}
 use mathlib.Core.Option.{Option, some, none, Option·map, Option·none-ne-some, Option·some-ne-none}
 use mathlib.Core.List.{List, []}
-use mathlib.Core.Bool.{Bool, true, false, not}
+use mathlib.Core.Bool.{Bool, true, false, cond, not}
 use native.Mathlib.Nat.{add-zero, zero-add}
 use native.Mathlib.Omega.{arith}
 use lib.Dec.{leb}
 use lib.ListN.{length, drop, length-drop, drop-of-length-le}
 use lib.Seq.{drop-drop}
 use borrow.Author.Tests.{le-leb, lt-leb, leb-true, leb-false}
-use Rattle.wire.specs.Choice.{pick}
 use Rattle.wire.specs.Read.{Read, done, refused, bind, mapRead, onward}
 use Rattle.wire.specs.Format.{nothing, such, tested, _⨾_, next, pair, along, ends-in}
 use Rattle.wire.specs.Formats.{_▹_, u8, u16, s32, signed, listed, times, only}
@@ -84,12 +83,12 @@ module _ {A B : Type 0} (f : Form A) (g : Form B) (s : List ℕ) where
 
 -- a field of so many bytes
 abbrev Width : {A : Type 0} → ℕ → Form A → Type 0
-Width w f = (s : List ℕ) → Long f s ≡ pick (leb w (length s)) (some w) none
+Width w f = (s : List ℕ) → Long f s ≡ cond (leb w (length s)) (some w) none
 
 number-width : (k : ℕ) → Width k (num k)
 number-width k s = go (leb k (length s)) refl
   where
-    go : (b : Bool) → leb k (length s) ≡ b → Long (num k) s ≡ pick b (some k) none
+    go : (b : Bool) → leb k (length s) ≡ b → Long (num k) s ≡ cond b (some k) none
     go true h = ap lengthRead (number-done fault.Ends k s (leb-true k (length s) h))
     go false h = ap lengthRead (number-ends fault.Ends k s (leb-false k (length s) h))
 
@@ -102,7 +101,7 @@ skip : {A B : Type 0} (f : Form A) (g : Form B) (w : ℕ) (s : List ℕ) → Wid
 skip f g w s h k = length-then f g s ∙ rw (h s) (go (leb w (length s)) refl)
   where
     go : (b : Bool) → leb w (length s) ≡ b
-        → (given (pick b (some w) none) λ n. Option·map (λ m. n + m) (Long g (drop n s))) ≡ Option·map (λ m. w + m) (Long g (drop w s))
+        → (given (cond b (some w) none) λ n. Option·map (λ m. n + m) (Long g (drop n s))) ≡ Option·map (λ m. w + m) (Long g (drop w s))
     go true e = refl
     go false e = let short : length s ≤ w = omega (arith, leb-false w (length s) e) in rw (drop-of-length-le s short, k)
 

@@ -2,13 +2,12 @@
 use Prim.Native.Nat.{ℕ}
 use mathlib.Core.Path.{_≡_, ap}
 use mathlib.Core.List.{List, []}
-use mathlib.Core.Bool.{Bool}
+use mathlib.Core.Bool.{Bool, cond}
 use native.Mathlib.Omega.{arith}
 use lib.Dec.{leb, eqb}
-use Rattle.wire.specs.Choice.{pick}
 use Rattle.wire.specs.Format.{nothing, such, _⨾_}
 use Rattle.wire.specs.Formats.{_▹_, u8, u16, u32, number, counted, listed, behind, fixed, only, into}
-use Rattle.wire.proofs.Looser.{Looser, looser-self, looser-such, looser-trans, looser-then, looser-along, looser-pick, looser-listed}
+use Rattle.wire.proofs.Looser.{Looser, looser-self, looser-such, looser-trans, looser-then, looser-along, looser-cond, looser-listed}
 use Rattle.mapblock.specs.Inventory.{Form, inventory}
 use Rattle.mapblock.specs.Data.{NameRow, MetadataRow, TimerRow, Saved, Timers, untimed, savedParts, timersParts}
 use Rattle.mapblock.specs.Layout.{since, before, all, unused, unmapped, position, newPosition, nameRow, variable, metadataRow, timerRow, saved, metadata, earlyTimers, lateTimers}
@@ -36,7 +35,7 @@ variable-looser v =
     looser-along _ _ _ _ _ _
     (looser-both (looser-self (counted 2))
     (looser-both (looser-self (counted 4))
-    (looser-pick (since 28 v) (looser-such (λ b. leb b 1) fault.PrivateByte u8 (other fault.PrivateByte (λ z. omega arith))) (looser-self (nothing 0)))))
+    (looser-cond (since 28 v) (looser-such (λ b. leb b 1) fault.PrivateByte u8 (other fault.PrivateByte (λ z. omega arith))) (looser-self (nothing 0)))))
     _ _ _ _
 
 position-looser : {A : Type 0} (key : A → ℕ) (seen : List A) → Looser (newPosition key seen) u16
@@ -50,7 +49,7 @@ metadata-looser v seen =
     (looser-both (position-looser (λ (r : MetadataRow). r .position) seen)
     (looser-both (looser-self (only (before 23 v) 0 u16))
     (looser-both (looser-self (only (before 23 v) [] (counted 2)))
-    (looser-both (looser-pick (since 23 v) (looser-listed (λ _. variable v) (λ _. variableFrame v) (λ _. variable-looser v) 4) (looser-self (nothing [])))
+    (looser-both (looser-cond (since 23 v) (looser-listed (λ _. variable v) (λ _. variableFrame v) (λ _. variable-looser v) 4) (looser-self (nothing [])))
     (looser-self (only (since 23 v) [] inventory))))))
     _ _ _ _
 
@@ -63,13 +62,13 @@ abbrev pub savedFrame : Form Saved
 savedFrame = into savedParts (u32 ▹ fixed 1 0 fault.MappingVersion (listed 2 λ _. nameFrame))
 
 abbrev pub metadataListFrame : ℕ → Form (List MetadataRow)
-metadataListFrame v = fixed (pick (since 23 v) 1 2) (pick (since 28 v) 2 1) fault.MetadataVersion (listed 2 λ _. metadataFrame v)
+metadataListFrame v = fixed (cond (since 23 v) 1 2) (cond (since 28 v) 2 1) fault.MetadataVersion (listed 2 λ _. metadataFrame v)
 
 -- the timer byte may have any value
 abbrev pub earlyFrame : ℕ → Form Timers
 earlyFrame v = only (before 25 v) untimed
-    (pick (since 24 v) (into timersParts (u8 ⨾ λ t. only (eqb t 1) [] (listed 2 λ _. timerFrame)))
-    (pick (since 23 v) (fixed 1 0 fault.ByteOf23 (nothing untimed))
+    (cond (since 24 v) (into timersParts (u8 ⨾ λ t. only (eqb t 1) [] (listed 2 λ _. timerFrame)))
+    (cond (since 23 v) (fixed 1 0 fault.ByteOf23 (nothing untimed))
     (nothing untimed)))
 
 abbrev pub lateFrame : ℕ → Form Timers
@@ -96,16 +95,16 @@ early-24-looser =
     looser-along _ _ _ _ _ _
     (looser-then (such (λ t. leb t 1) fault.TimerByte u8) u8 (λ t. only (eqb t 1) [] (listed 2 timerRow)) (λ t. only (eqb t 1) [] (listed 2 λ _. timerFrame))
     (looser-such (λ t. leb t 1) fault.TimerByte u8 (other fault.TimerByte (λ z. omega arith)))
-    (λ t. looser-pick (eqb t 1) timers-looser (looser-self (nothing []))))
+    (λ t. looser-cond (eqb t 1) timers-looser (looser-self (nothing []))))
     _ _ _ _
 
 pub early-looser : (v : ℕ) → Looser (earlyTimers v) (earlyFrame v)
 unfolding earlyTimers
-early-looser v = looser-pick (before 25 v) (looser-pick (since 24 v) early-24-looser (looser-self _)) (looser-self (nothing untimed))
+early-looser v = looser-cond (before 25 v) (looser-cond (since 24 v) early-24-looser (looser-self _)) (looser-self (nothing untimed))
 
 pub late-looser : (v : ℕ) → Looser (lateTimers v) (lateFrame v)
 unfolding lateTimers
 late-looser v =
-    looser-pick (since 25 v)
+    looser-cond (since 25 v)
     (looser-along _ _ _ _ _ _ (looser-both (looser-self (nothing 0)) (looser-fixed 1 10 fault.TimerRowLength timers-looser)) _ _ _ _)
     (looser-self (nothing untimed))

@@ -3,11 +3,10 @@ use Prim.Native.Nat.{ℕ, zero, suc, _+_, _-_, _*_, _<_}
 use mathlib.Core.Path.{_≡_, ap, sym, subst, _∙_}
 use mathlib.Core.Option.{some, none, Option·none-ne-some}
 use mathlib.Core.List.{List, _++_}
-use mathlib.Core.Bool.{Bool, true, false}
+use mathlib.Core.Bool.{Bool, true, false, cond}
 use native.Mathlib.Omega.{arith}
 use lib.ListN.{length, getD, length-append}
 use borrow.Author.Tests.{le-leb, lt-leb}
-use Rattle.wire.specs.Choice.{pick}
 use Rattle.wire.specs.Read.{Read, done, refused, onward}
 use Rattle.wire.specs.Format.{nothing, _⨾_}
 use Rattle.wire.specs.Formats.{only}
@@ -49,7 +48,7 @@ module _ (p : Parts) (l : List NameRow) (m : List MetadataRow) (o : List ObjectR
   front-steady = settled (front-looser all) (piecesOf b .0) (pieces-ok p b held version mk .0)
 
   -- where the param lists stand
-  saved-length : length (only (since 29 v) unsaved (saved all) .encode (piecesOf b .0 .1 .0)) ≡ pick (since 29 v) (length (saved all .encode (savedOf b))) 0
+  saved-length : length (only (since 29 v) unsaved (saved all) .encode (piecesOf b .0 .1 .0)) ≡ cond (since 29 v) (length (saved all .encode (savedOf b))) 0
   unfolding nothing
   saved-length = either 29 v (λ h. rw (le-leb 29 v h)) (λ h. rw (lt-leb 29 v h))
 
@@ -118,6 +117,6 @@ unfolding strayAmong
 among-below v param0 param2 t zero i {j} e = absurd (Option·none-ne-some j (sym e))
 among-below v param0 param2 t (suc n) i {j} e = go (freeIn t (contentId v (getD param0 i 0) (getD param2 i 0))) e (λ f. among-below v param0 param2 t n (suc i) f)
   where
-    go : (x : Bool) → some j ≡ pick x (some i) (strayAmong v param0 param2 t n (suc i)) → (some j ≡ strayAmong v param0 param2 t n (suc i) → j < suc i + n) → j < i + suc n
+    go : (x : Bool) → some j ≡ cond x (some i) (strayAmong v param0 param2 t n (suc i)) → (some j ≡ strayAmong v param0 param2 t n (suc i) → j < suc i + n) → j < i + suc n
     go true f ih = let z : j ≡ i = cc in omega arith
     go false f ih = omega (arith, ih f)

@@ -3,17 +3,16 @@ use Prim.Native.Nat.{ℕ, _<_}
 use mathlib.Core.Path.{_≡_, refl, ap, sym, subst, _∙_}
 use mathlib.Core.Option.{Option, some, none, Option·none-ne-some}
 use mathlib.Core.List.{List}
-use mathlib.Core.Bool.{Bool, true, false}
+use mathlib.Core.Bool.{Bool, true, false, cond}
 use native.Mathlib.Omega.{arith}
 use lib.Dec.{lit<}
 use lib.ListN.{length}
 use borrow.Author.Tests.{le-leb, lt-leb}
-use Rattle.wire.specs.Choice.{pick}
 use Rattle.wire.specs.Bytes.{Bytes}
 use Rattle.wire.specs.Read.{mapRead, map-done}
 use Rattle.wire.specs.Format.{nothing, _⨾_, along}
 use Rattle.wire.specs.Formats.{_▹_, listed, only}
-use Rattle.wire.proofs.Looser.{Looser, Settled, looser-self, looser-then, looser-pick, settled}
+use Rattle.wire.proofs.Looser.{Looser, Settled, looser-self, looser-then, looser-cond, settled}
 use Rattle.mapblock.specs.Inventory.{Form}
 use Rattle.mapblock.specs.Data.{NameRow, MetadataRow, ObjectRow, TimerRow, Block, unsaved}
 use Rattle.mapblock.specs.Layout.{since, before, all, isVersion, objectRow, opening, nodes, objects, Front, Rest, front, rest, steps}
@@ -47,14 +46,14 @@ given-some : {A B : Type 0} (o : Option A) (f : A → Option B) {b : B} → give
 given-some none f {b} h = absurd (Option·none-ne-some b h)
 given-some (some a) f h = (a, refl, h)
 
-pick-some : {A : Type 0} (c : Bool) (o : Option A) {a : A} → pick c o none ≡ some a → (c ≡ true) × (o ≡ some a)
-pick-some true o h = (refl, h)
-pick-some false o {a} h = absurd (Option·none-ne-some a h)
+cond-some : {A : Type 0} (c : Bool) (o : Option A) {a : A} → cond c o none ≡ some a → (c ≡ true) × (o ≡ some a)
+cond-some true o h = (refl, h)
+cond-some false o {a} h = absurd (Option·none-ne-some a h)
 
 pub made-of : (p : Parts) (b : Block) → blockMade p ≡ some b → MadeOf p b
 unfolding blockMade
 made-of p b h =
-    let x = pick-some (fits p) (rowsMade p) h in
+    let x = cond-some (fits p) (rowsMade p) h in
     let n = given-some (sectionRows nameFrame (p .names)) _ (x .1) in
     let m = given-some (sectionRows (metadataFrame (p .head .version)) (p .metadata)) _ (n .2) in
     let o = given-some (sectionRows objectRow (p .objects)) _ (m .2) in
@@ -88,7 +87,7 @@ module _ (free : ℕ → Bool) where
   unfolding front
   front-looser =
       looser-then opening opening _ _ (looser-self opening)
-      (λ o. looser-both (looser-pick (since 29 (o .version)) (saved-looser free) (looser-self _)) (looser-self (nodes (o .version))))
+      (λ o. looser-both (looser-cond (since 29 (o .version)) (saved-looser free) (looser-self _)) (looser-self (nodes (o .version))))
 
   pub rest-looser : (v : ℕ) → Looser (rest free v) (restFrame v)
   unfolding rest
@@ -96,7 +95,7 @@ module _ (free : ℕ → Bool) where
       looser-both (metadata-list-looser v)
       (looser-both (early-looser v)
       (looser-both (looser-self objects)
-      (looser-both (looser-pick (before 29 v) (saved-looser free) (looser-self _))
+      (looser-both (looser-cond (before 29 v) (saved-looser free) (looser-self _))
       (late-looser v))))
 
   pub steps-looser : Looser (steps free) stepsFrame

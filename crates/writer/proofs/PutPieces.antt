@@ -1,12 +1,13 @@
 -- The pieces of a block by version: which bytes each is, and what the code puts.
 use Prim.Native.Nat.{ℕ, _+_, _<_, _≤_}
 use mathlib.Core.Path.{_≡_, refl, ap, _∙_}
+use mathlib.Core.Bool.{cond}
 use mathlib.Core.List.{List, [], _++_}
 use native.Mathlib.Omega.{arith}
 use lib.Dec.{ltb}
 use lib.ListN.{length}
 use borrow.Author.Tests.{le-leb, lt-leb, ltb-true, ltb-false, ne-eqb}
-use Rattle.wire.specs.Choice.{pick, same-test}
+use Rattle.wire.specs.Choice.{same-test}
 use Rattle.wire.specs.Bytes.{spell}
 use Rattle.wire.specs.Store.{stored, PutAt}
 use Rattle.wire.specs.Formats.{number}
@@ -40,7 +41,7 @@ module _ (v count : ℕ) (rows : List ℕ) where
   pub metadata-22 : v < 23 → metadataBytes v count rows ≡ spell 2 1 ++ listBytes count rows
   metadata-22 h = rw (lt-leb 23 v h, lt-leb 28 v (omega arith))
 
-  pub metadata-23 : 23 ≤ v → metadataBytes v count rows ≡ spell 1 (pick (since 28 v) 2 1) ++ listBytes count rows
+  pub metadata-23 : 23 ≤ v → metadataBytes v count rows ≡ spell 1 (cond (since 28 v) 2 1) ++ listBytes count rows
   metadata-23 h = rw (le-leb 23 v h)
 
 -- ---- what follows the metadata

@@ -3,13 +3,13 @@ use Prim.Native.Nat.{ℕ, _%_, _<_, _≤_}
 use mathlib.Core.Path.{_≡_, refl, ap, sym, _∙_}
 use mathlib.Core.Option.{Option, some, none}
 use mathlib.Core.List.{List, [], _∷_, _++_}
-use mathlib.Core.Bool.{Bool, true, false}
+use mathlib.Core.Bool.{Bool, true, false, cond}
 use native.Mathlib.Omega.{arith}
 use lib.Dec.{leb, lit<, lit≤}
 use lib.ListN.{length, getD, take, drop, length-append}
 use lib.Seq.{take-append-seam, drop-append-seam}
 use borrow.Author.Tests.{le-leb, leb-true}
-use Rattle.wire.specs.Choice.{pick, yes-and}
+use Rattle.wire.specs.Choice.{yes-and}
 use Rattle.wire.specs.Bytes.{Bytes}
 use Rattle.wire.specs.Read.{Read, done, refused}
 use Rattle.wire.specs.Answer.{Answer, good, refusal, plain, no-good, answered, mapAnswer, lent, noRoom, versionOutside}
@@ -135,7 +135,7 @@ record WrittenAs (p : Parts) (room : ℕ) (b : Block) : Type 0 where
   said : verdict all (block all .encode b) ≡ done c n
   fits : length (block all .encode b) ≤ room
 
-by-version : {A : Type 0} (c : Bool) (x : Answer A) {a : A} → pick c x (plain versionOutside) ≡ good a → (c ≡ true) × (x ≡ good a)
+by-version : {A : Type 0} (c : Bool) (x : Answer A) {a : A} → cond c x (plain versionOutside) ≡ good a → (c ≡ true) × (x ≡ good a)
 by-version true x h = (refl, h)
 by-version false x h = no-good h
 

@@ -3,14 +3,13 @@ use Prim.Native.Nat.{ℕ, zero, suc, zero-le, _-_, _<_, _≤_}
 use mathlib.Core.Path.{_≡_, refl, ap, _∙_}
 use mathlib.Core.Option.{some, none, Option·map, Option·none-ne-some, map-eq-some-iff}
 use mathlib.Core.List.{List, [], _∷_, _++_}
-use mathlib.Core.Bool.{Bool, true, false}
+use mathlib.Core.Bool.{Bool, true, false, cond}
 use native.Mathlib.Numerals.{sub-one}
 use native.Mathlib.Omega.{arith}
 use lib.Dec.{eqb}
 use lib.ListN.{length, drop, length-append}
 use lib.Seq.{drop-append-seam}
 use borrow.Author.Tests.{eq-eqb, ne-eqb, eqb-true}
-use Rattle.wire.specs.Choice.{pick}
 use Rattle.wire.specs.Lists.{nil-is}
 use Rattle.wire.specs.Bytes.{Bytes, bytes-drop}
 use Rattle.wire.specs.Read.{Read, done, refused}
@@ -66,13 +65,13 @@ module _ {A : Type 0} (f : Form A) where
   unfolding rowsIn
   rows-made zero s l b h = go (eqb (length s) 0) refl h
     where
-      go : (c : Bool) → eqb (length s) 0 ≡ c → pick c (some []) none ≡ some l → Made zero s l
+      go : (c : Bool) → eqb (length s) 0 ≡ c → cond c (some []) none ≡ some l → Made zero s l
       go true e g = made-none (eqb-true (length s) 0 e) g
       go false e g = absurd (Option·none-ne-some l g)
   rows-made (suc k) s l b h = go (eqb (length s) 0) refl (f .read s) refl h (λ n m. rows-made k (drop n s) m (bytes-drop n s b))
     where
       go : (c : Bool) → eqb (length s) 0 ≡ c → (r : Read Fault A) → f .read s ≡ r
-          → pick c (some []) (rowThen r λ n. rowsIn f k (drop n s)) ≡ some l
+          → cond c (some []) (rowThen r λ n. rowsIn f k (drop n s)) ≡ some l
           → ((n : ℕ) (m : List A) → rowsIn f k (drop n s) ≡ some m → Made k (drop n s) m) → Made (suc k) s l
       go true e r d g ih = made-none (eqb-true (length s) 0 e) g
       go false e (done a n) d g ih =

@@ -2,11 +2,10 @@
 use Prim.Native.Nat.{ℕ, _+_, _*_, _^_, _<_, _≤_}
 use mathlib.Core.Path.{_≡_, refl, ap, sym, subst, _∙_}
 use mathlib.Core.List.{List, [], _∷_, _++_}
-use mathlib.Core.Bool.{Bool, true, false}
+use mathlib.Core.Bool.{Bool, true, false, cond}
 use native.Mathlib.Omega.{arith}
 use lib.Dec.{lit<}
 use lib.ListN.{length, length-append}
-use Rattle.wire.specs.Choice.{pick}
 use Rattle.wire.specs.Bytes.{Bytes, spell, spell-length}
 use Rattle.wire.specs.Read.{Read, done, refused, onward, reach, never, onward-done}
 use Rattle.wire.specs.Format.{run, such, _⨾_, along, OkItems, encodeItems, items}
@@ -141,7 +140,7 @@ metadata-says v {k} {s} {count} {r} b e h l w =
         let rows = said (items (metadataRow v) (length l)) l in
         sym (said-fixed k x fault.MetadataVersion (listed 2 (metadataRow v)) l f ∙ ap (onward k (λ u. u)) (said-listed 2 (metadataRow v) l (rows-few (metadataFrame v) b w)) ∙ onward-on k 2 rows)
 
-    by : (c d : Bool) → onward (pick c 3 4) (λ u. u) (said (items (metadataRow v) (length l)) l) ≡ said (fixed (pick c 1 2) (pick d 2 1) fault.MetadataVersion (listed 2 (metadataRow v))) l
+    by : (c d : Bool) → onward (cond c 3 4) (λ u. u) (said (items (metadataRow v) (length l)) l) ≡ said (fixed (cond c 1 2) (cond d 2 1) fault.MetadataVersion (listed 2 (metadataRow v))) l
     by true true = headed 1 2 (lit< tt)
     by true false = headed 1 1 (lit< tt)
     by false true = headed 2 2 (lit< tt)
@@ -160,6 +159,6 @@ rows-reach item count s h = within-ended (items item count) s h
 pub metadata-head-few : (v : ℕ) → metadataHead v ≤ 4
 metadata-head-few v = go (since 23 v)
   where
-    go : (b : Bool) → pick b 3 4 ≤ 4
+    go : (b : Bool) → cond b 3 4 ≤ 4
     go true = omega arith
     go false = omega arith

@@ -14,11 +14,11 @@ use Rattle.mapblock.specs.Block.{contentId, idAt, strayFrom}
 use Rattle.mapblock.specs.Table.{Tabled}
 use Rattle.writer.specs.Parts.{narrow}
 use Rattle.writer.specs.Said.{strayAmong}
-use Rattle.writer.proofs.Fitting.{pick-then, below-there}
+use Rattle.writer.proofs.Fitting.{cond-then, below-there}
 
 -- up to 23 a param0 is a byte
 pub narrow-at : (v : ℕ) (l : List ℕ) (i : ℕ) → narrow v l ≡ true → i < length l → v < 24 → getD l i 0 < 256
-narrow-at v l i h k g = below-there 256 l (pick-then _ _ h (lt-leb 24 v g)) i k
+narrow-at v l i h k g = below-there 256 l (cond-then _ _ h (lt-leb 24 v g)) i k
 
 -- ---- the loop
 module _ (v : ℕ) (param0 param2 t : List ℕ) (i : ℕ) (h : i < 4096) {r : ℕ} (e : r ≡ contentId v (getD param0 i 0) (getD param2 i 0)) where

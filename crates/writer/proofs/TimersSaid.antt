@@ -2,11 +2,10 @@
 use Prim.Native.Nat.{ℕ, _<_, _≤_}
 use mathlib.Core.Path.{_≡_, refl, ap, sym, _∙_}
 use mathlib.Core.List.{List, []}
-use mathlib.Core.Bool.{Bool, true, false}
+use mathlib.Core.Bool.{Bool, true, false, cond}
 use native.Mathlib.Omega.{arith}
 use lib.Dec.{leb, eqb, lit<}
 use borrow.Author.Tests.{eqb-false, le-leb, lt-leb, leb-false, leb-true}
-use Rattle.wire.specs.Choice.{pick}
 use Rattle.wire.specs.Bytes.{Bytes}
 use Rattle.wire.specs.Read.{Read, done, refused, bind, onward}
 use Rattle.wire.specs.Format.{run, nothing, such, _⨾_, along, tested}
@@ -96,7 +95,7 @@ nothing-ok a = refl
 untimed-ok : (v : ℕ) → v < 24 → earlyFrame v .Ok untimed
 untimed-ok v h = rw (lt-leb 25 v (omega arith), lt-leb 24 v h) (go (since 23 v))
   where
-    go : (x : Bool) → pick x (fixed 1 0 fault.ByteOf23 (nothing {ends = fault.Ends} untimed)) (nothing untimed) .Ok untimed
+    go : (x : Bool) → cond x (fixed 1 0 fault.ByteOf23 (nothing {ends = fault.Ends} untimed)) (nothing untimed) .Ok untimed
     go true = fixed-ok 1 0 fault.ByteOf23 (nothing untimed) untimed (lit< tt) .1 (nothing-ok untimed)
     go false = nothing-ok untimed
 

@@ -1,10 +1,10 @@
 -- Rows by their framing alone: document 01, 12, "a section not made of whole rows, over 65,535 rows".
 use Prim.Native.Nat.{ℕ, zero, suc}
+use mathlib.Core.Bool.{cond}
 use mathlib.Core.Option.{Option, some, none, Option·map}
 use mathlib.Core.List.{List, [], _∷_}
 use lib.Dec.{eqb}
 use lib.ListN.{length, drop}
-use Rattle.wire.specs.Choice.{pick}
 use Rattle.wire.specs.Read.{Read, done, refused}
 use Rattle.wire.specs.Formats.{u8, u16}
 use Rattle.mapblock.specs.Inventory.{Form}
@@ -34,8 +34,8 @@ rowThen (refused e p) behind = none
 
 -- the rows that bytes are made of, one after another to the end, at most k
 unfoldable pub rowsIn : {A : Type 0} → Form A → ℕ → List ℕ → Option (List A)
-rowsIn f zero s = pick (eqb (length s) 0) (some []) none
-rowsIn f (suc k) s = pick (eqb (length s) 0) (some []) (rowThen (f .read s) λ n. rowsIn f k (drop n s))
+rowsIn f zero s = cond (eqb (length s) 0) (some []) none
+rowsIn f (suc k) s = cond (eqb (length s) 0) (some []) (rowThen (f .read s) λ n. rowsIn f k (drop n s))
 
 -- "over 65,535 rows"
 abbrev pub mostRows : ℕ

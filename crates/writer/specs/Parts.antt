@@ -2,10 +2,9 @@
 use Prim.Native.Nat.{ℕ}
 use mathlib.Core.Option.{Option, some, none}
 use mathlib.Core.List.{List, [], _∷_}
-use mathlib.Core.Bool.{Bool, true, _&&_, _||_}
+use mathlib.Core.Bool.{Bool, true, cond, _&&_, _||_}
 use lib.Dec.{ltb, eqb}
 use lib.ListN.{length, getD}
-use Rattle.wire.specs.Choice.{pick}
 use Rattle.wire.specs.Bytes.{Bytes}
 use Rattle.mapblock.specs.Data.{NameRow, MetadataRow, ObjectRow, TimerRow, Block}
 use Rattle.mapblock.specs.Layout.{since, objectRow}
@@ -55,7 +54,7 @@ pub record Held (p : Parts) : Type 0 where
 -- ---- parts that fit
 -- no "head value the version doesn't carry (lighting not 65,535 under 27, timer byte not 0 outside 24)"
 abbrev pub carries : Head → Bool
-carries h = pick (since 27 (h .version)) true (eqb (h .lighting) 65535) && pick (eqb (h .version) 24) true (eqb (h .timer) 0)
+carries h = cond (since 27 (h .version)) true (eqb (h .lighting) 65535) && cond (eqb (h .version) 24) true (eqb (h .timer) 0)
 
 unfoldable pub allBelow : ℕ → List ℕ → Bool
 allBelow m [] = true
@@ -63,11 +62,11 @@ allBelow m (x ∷ l) = ltb x m && allBelow m l
 
 -- no "param0 above 255 up to version 23"
 abbrev pub narrow : ℕ → List ℕ → Bool
-narrow v param0 = pick (since 24 v) true (allBelow 256 param0)
+narrow v param0 = cond (since 24 v) true (allBelow 256 param0)
 
 -- no "timers in 22, in 23, or in 24 with a timer byte not 1"
 abbrev pub timed : Head → List ℕ → Bool
-timed h timers = pick (since 25 (h .version) || (eqb (h .version) 24 && eqb (h .timer) 1)) true (eqb (length timers) 0)
+timed h timers = cond (since 25 (h .version) || (eqb (h .version) 24 && eqb (h .timer) 1)) true (eqb (length timers) 0)
 
 -- no "lent list not of 4,096", and the three above
 abbrev pub fits : Parts → Bool
@@ -100,4 +99,4 @@ rowsMade p =
 
 -- none where they do not fit
 unfoldable pub blockMade : Parts → Option Block
-blockMade p = pick (fits p) (rowsMade p) none
+blockMade p = cond (fits p) (rowsMade p) none

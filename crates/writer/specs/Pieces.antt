@@ -1,8 +1,8 @@
 -- The bytes of a block as the code lays them, from the sections' bytes and the number of their rows.
 use Prim.Native.Nat.{ℕ}
+use mathlib.Core.Bool.{cond}
 use mathlib.Core.List.{List, [], _++_}
 use lib.Dec.{eqb}
-use Rattle.wire.specs.Choice.{pick}
 use Rattle.wire.specs.Bytes.{spell}
 use Rattle.wire.specs.Format.{encodeItems}
 use Rattle.wire.specs.Formats.{number}
@@ -12,7 +12,7 @@ use Rattle.mapblock.specs.declared.fault.Fault.the-variants as fault
 use Rattle.writer.specs.declared.counts.Counts.{Counts}
 
 abbrev pub openingBytes : Head → List ℕ
-openingBytes h = spell 1 (h .version) ++ (spell 1 (h .flags) ++ pick (since 27 (h .version)) (spell 2 (h .lighting)) [])
+openingBytes h = spell 1 (h .version) ++ (spell 1 (h .flags) ++ cond (since 27 (h .version)) (spell 2 (h .lighting)) [])
 
 -- a count, and the rows
 abbrev pub listBytes : ℕ → List ℕ → List ℕ
@@ -29,24 +29,24 @@ abbrev pub nodesBytes : ℕ → List ℕ → List ℕ → List ℕ → List ℕ
 nodesBytes v param0 param1 param2 = spell 1 (width v) ++ (spell 1 2 ++ (entryBytes (width v) param0 ++ (param1 ++ param2)))
 
 abbrev pub metadataBytes : ℕ → ℕ → List ℕ → List ℕ
-metadataBytes v count rows = spell (pick (since 23 v) 1 2) (pick (since 28 v) 2 1) ++ listBytes count rows
+metadataBytes v count rows = spell (cond (since 23 v) 1 2) (cond (since 28 v) 2 1) ++ listBytes count rows
 
 abbrev pub earlyBytes : ℕ → ℕ → ℕ → List ℕ → List ℕ
 earlyBytes v timer count rows =
-    pick (eqb v 24) (spell 1 timer ++ pick (eqb timer 1) (listBytes count rows) [])
-    (pick (eqb v 23) (spell 1 0) [])
+    cond (eqb v 24) (spell 1 timer ++ cond (eqb timer 1) (listBytes count rows) [])
+    (cond (eqb v 23) (spell 1 0) [])
 
 abbrev pub objectsBytes : ℕ → List ℕ → List ℕ
 objectsBytes count rows = spell 1 0 ++ listBytes count rows
 
 abbrev pub lateBytes : ℕ → ℕ → List ℕ → List ℕ
-lateBytes v count rows = pick (since 25 v) (spell 1 10 ++ listBytes count rows) []
+lateBytes v count rows = cond (since 25 v) (spell 1 10 ++ listBytes count rows) []
 
 -- steps 1 to 4; names stand in front in version 29
 abbrev pub frontBytes : Head → ℕ → List ℕ → List ℕ → List ℕ → List ℕ → List ℕ
 frontBytes h count names param0 param1 param2 =
     openingBytes h
-    ++ (pick (since 29 (h .version)) (savedBytes (h .timestamp) count names) []
+    ++ (cond (since 29 (h .version)) (savedBytes (h .timestamp) count names) []
     ++ nodesBytes (h .version) param0 param1 param2)
 
 -- steps 5 to 8
@@ -55,7 +55,7 @@ restBytes h c names metadata objects timers =
     metadataBytes (h .version) (c .metadata) metadata
     ++ (earlyBytes (h .version) (h .timer) (c .timers) timers
     ++ (objectsBytes (c .objects) objects
-    ++ (pick (before 29 (h .version)) (savedBytes (h .timestamp) (c .names) names) []
+    ++ (cond (before 29 (h .version)) (savedBytes (h .timestamp) (c .names) names) []
     ++ lateBytes (h .version) (c .timers) timers)))
 
 unfoldable pub blockBytes : Head → Counts → List ℕ → List ℕ → List ℕ → List ℕ → List ℕ → List ℕ → List ℕ → List ℕ

@@ -3,9 +3,8 @@ use Prim.Native.Nat.{ℕ, zero, suc, _+_, _*_, _<_, _≤_}
 use mathlib.Core.Path.{_≡_}
 use mathlib.Core.Option.{Option, some, none}
 use mathlib.Core.List.{List}
-use mathlib.Core.Bool.{Bool}
+use mathlib.Core.Bool.{Bool, cond}
 use lib.ListN.{length, getD}
-use Rattle.wire.specs.Choice.{pick}
 use Rattle.wire.specs.Read.{Read, done}
 use Rattle.wire.specs.Formats.{_▹_, only}
 use Rattle.mapblock.specs.Inventory.{Form}
@@ -28,7 +27,7 @@ Small s = length s < 4296212480
 
 -- the bytes of step 1, and of the param lists
 abbrev pub openingLength : ℕ → ℕ
-openingLength v = pick (since 27 v) 4 2
+openingLength v = cond (since 27 v) 4 2
 
 abbrev pub listsLength : ℕ → ℕ
 listsLength v = 4096 * width v + 8192
@@ -41,19 +40,19 @@ abbrev pub savedOn : Head → List NameRow → Saved
 savedOn h l = record { timestamp = h .timestamp; names = l }
 
 abbrev pub savedFront : Head → List NameRow → Saved
-savedFront h l = pick (since 29 (h .version)) (savedOn h l) unsaved
+savedFront h l = cond (since 29 (h .version)) (savedOn h l) unsaved
 
 abbrev pub savedBehind : Head → List NameRow → Saved
-savedBehind h l = pick (since 29 (h .version)) unsaved (savedOn h l)
+savedBehind h l = cond (since 29 (h .version)) unsaved (savedOn h l)
 
 abbrev pub timersOn : Head → List TimerRow → Timers
 timersOn h l = record { byte = h .timer; rows = l }
 
 abbrev pub timersEarly : Head → List TimerRow → Timers
-timersEarly h l = pick (since 25 (h .version)) untimed (timersOn h l)
+timersEarly h l = cond (since 25 (h .version)) untimed (timersOn h l)
 
 abbrev pub timersLate : Head → List TimerRow → Timers
-timersLate h l = pick (since 25 (h .version)) (timersOn h l) untimed
+timersLate h l = cond (since 25 (h .version)) (timersOn h l) untimed
 
 -- ---- names; the table t tells which ids are free, and u is the table after
 pub record SavedSaid (t u : List ℕ) (x : Saved) (r : Read Fault (Unit {0})) : Type 0 where
@@ -86,4 +85,4 @@ pub record RestSaid (t u : List ℕ) (h : Head) (l : List NameRow) (m : List Met
 -- of so many nodes from an index on, the first whose id has no mark in the table
 unfoldable pub strayAmong : ℕ → List ℕ → List ℕ → List ℕ → ℕ → ℕ → Option ℕ
 strayAmong v param0 param2 t zero i = none
-strayAmong v param0 param2 t (suc n) i = pick (freeIn t (contentId v (getD param0 i 0) (getD param2 i 0))) (some i) (strayAmong v param0 param2 t n (suc i))
+strayAmong v param0 param2 t (suc n) i = cond (freeIn t (contentId v (getD param0 i 0) (getD param2 i 0))) (some i) (strayAmong v param0 param2 t n (suc i))

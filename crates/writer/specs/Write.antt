@@ -1,10 +1,10 @@
 -- The writer: document 01, 'Order': "Writer: 2, 12, then what the reader would say of the bytes, then 11."
 use Prim.Native.Nat.{ℕ}
+use mathlib.Core.Bool.{cond}
 use mathlib.Core.Option.{Option, some, none}
 use mathlib.Core.List.{List}
 use lib.Dec.{leb}
 use lib.ListN.{length}
-use Rattle.wire.specs.Choice.{pick}
 use Rattle.wire.specs.Read.{Read, done, refused}
 use Rattle.wire.specs.Answer.{Answer, good, refusal, plain, versionOutside, noRoom, partsMisfit}
 use Rattle.mapblock.specs.Data.{Block}
@@ -19,7 +19,7 @@ use Rattle.writer.specs.declared.write.WriteAnswer.the-variants as answe
 -- what the reader says of the bytes, then 11
 abbrev pub judgedBytes : ℕ → List ℕ → Read Fault Block → Answer (List ℕ)
 judgedBytes room bytes (refused f p) = refusal (number f) 0 p
-judgedBytes room bytes (done b n) = pick (leb (length bytes) room) (good bytes) (plain noRoom)
+judgedBytes room bytes (done b n) = cond (leb (length bytes) room) (good bytes) (plain noRoom)
 
 -- 12, then the reader's verdict on the bytes of the block
 abbrev pub writtenBlock : ℕ → Option Block → Answer (List ℕ)
@@ -28,7 +28,7 @@ writtenBlock room (some b) = judgedBytes room (block all .encode b) (verdict all
 
 -- the bytes written into a room, or the refusal
 unfoldable pub writeOf : Parts → ℕ → Answer (List ℕ)
-writeOf p room = pick (isVersion (p .head .version)) (writtenBlock room (blockMade p)) (plain versionOutside)
+writeOf p room = cond (isVersion (p .head .version)) (writtenBlock room (blockMade p)) (plain versionOutside)
 
 -- what the code's answer says: the length of what was written
 abbrev pub toldWrite : WriteAnswer → Answer ℕ

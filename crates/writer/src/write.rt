@@ -10,11 +10,11 @@ use wire::store::put_u8;
 use wire::store::put_u16;
 use wire::store::put_u32;
 ghost use mathlib.Core.Path.{_≡_};
+ghost use mathlib.Core.Bool.{cond};
 ghost use mathlib.Core.List.{[], _++_};
 ghost use Prim.Native.Nat.{_+_, _≤_};
 ghost use lib.ListN.{length};
 ghost use Rattle.wire.specs.Answer.{lent, mapAnswer};
-ghost use Rattle.wire.specs.Choice.{pick};
 ghost use Rattle.wire.specs.Bytes.{spell};
 ghost use Rattle.wire.specs.Store.{laid, PutAt};
 ghost use Rattle.mapblock.specs.Layout.{width};
@@ -182,8 +182,8 @@ fn put_saved_if(
     count: u16,
     rows: &[u8],
 ) -> usize
-    requires { ⌜ at + length (pick here (savedBytes timestamp count (now rows)) []) ≤ length (now out) ⌝ }
-    ensures { λ r. ⌜ PutAt at (pick here (savedBytes timestamp count (now (rows .entry))) []) (now (out .entry)) (now (out .exit)) r ⌝ }
+    requires { ⌜ at + length (cond here (savedBytes timestamp count (now rows)) []) ≤ length (now out) ⌝ }
+    ensures { λ r. ⌜ PutAt at (cond here (savedBytes timestamp count (now (rows .entry))) []) (now (out .entry)) (now (out .exit)) r ⌝ }
 {
     if here {
         return put_saved(out, at, timestamp, count, rows);

@@ -1,6 +1,5 @@
 -- The invariant: clearing the ids of the rows that are left gives the answer.
 use borrow.Author.Needs.{needs}
-use Prim.Native.Nat.{_≤_}
 use mathlib.Core.Path.{_≡_, ap, sym, _∙_}
 use mathlib.Core.List.{[]}
 use native.Mathlib.Omega.{arith}
@@ -11,7 +10,8 @@ use Rattle.wire.specs.Read.{done, mapRead}
 use Rattle.mapblock.specs.Layout.{all, nameRow}
 use Rattle.mapblock.specs.Rows.{nameFields}
 use Rattle.mapblock.specs.Told.{toldName}
-use Rattle.counters.proofs.Cleared.{Clearing, clearing-start, clearing-end, clearing-refused, clearing-size, clearing-on}
+use Rattle.mapblock.proofs.NameWalks.{row-size, row-inside, all-none, all-refused}
+use Rattle.counters.proofs.Cleared.{Clearing, clearing-start, clearing-none, clearing-on}
 use Rattle.counters.proofs.clear.clear.Statement.{statement}
 use Rattle.counters.proofs.clear.clear.Tie as tie
 
@@ -25,9 +25,6 @@ abbrev μ-loop : tie.MeasureT-loop
 row-is : (c : tie.After-row Inv-loop μ-loop) → done (c .row .given .0 .0) (c .row .given .0 .1 .0) ≡ mapRead nameFields (nameRow all [] .read (now (c .before .before .before .before .loop .rest)))
 row-is c = sym (ap toldName (c .row .given .1)) ∙ c .before .before .name-row .ensures
 
-size : (c : tie.After-row Inv-loop μ-loop) → let n = c .row .given .0 .1 .0 in (4 ≤ n) × (n ≤ length (now (c .before .before .before .before .loop .rest)))
-size c = clearing-size (c .before .before .before .before .loop .inv) (row-is c)
-
 loop-holds : tie.Need-loop-holds Inv-loop μ-loop
 loop-holds c = clearing-start _ _ (λ i. c .shared-slice-known .given i .fits)
 
@@ -38,7 +35,7 @@ enum-told : tie.Need-enum-told Inv-loop μ-loop
 enum-told c = search needs
 
 returns : tie.Need-returns Inv-loop μ-loop
-returns c = clearing-refused (c .before .before .before .before .loop .inv) (c .before .before .before .loop-test .taken) (sym (ap toldName (c .enum-told .given .1)) ∙ c .before .before .name-row .ensures)
+returns c = clearing-none (c .before .before .before .before .loop .inv) (all-refused _ (sym (ap toldName (c .enum-told .given .1)) ∙ c .before .before .name-row .ensures))
 
 enum-known-row : tie.Need-enum-known-row Inv-loop μ-loop
 enum-known-row c = search needs
@@ -53,10 +50,10 @@ element-write-counts : tie.Need-element-write-counts Inv-loop μ-loop
 element-write-counts c = search needs
 
 sub-rest : tie.Need-sub-rest Inv-loop μ-loop
-sub-rest c = size (c .before .before) .1
+sub-rest c = row-inside _ (row-is (c .before .before))
 
 part-rest-start : tie.Need-part-rest-start Inv-loop μ-loop
-part-rest-start c = size (c .before .before) .1
+part-rest-start c = row-inside _ (row-is (c .before .before))
 
 part-rest-end : tie.Need-part-rest-end Inv-loop μ-loop
 part-rest-end c = search needs
@@ -64,13 +61,13 @@ part-rest-end c = search needs
 loop-less : tie.Need-loop-less Inv-loop μ-loop
 loop-less c =
     let k = c .before .before .before in
-    rw (rest-is (k .row .given .0 .1 .0) (now (k .before .before .before .before .loop .rest)), length-drop) (omega (arith, size k))
+    rw (rest-is (k .row .given .0 .1 .0) (now (k .before .before .before .before .loop .rest)), length-drop) (omega (arith, row-inside _ (row-is k), row-size _ (row-is k) (k .before .before .before .before .loop .inv .bytes)))
 
 loop-again : tie.Need-loop-again Inv-loop μ-loop
 loop-again c = let k = c .before .before .before in clearing-on (k .before .before .before .before .loop .inv) (row-is k)
 
 returns-2 : tie.Need-returns-2 Inv-loop μ-loop
-returns-2 c = clearing-end (c .before .loop .inv) (omega arith)
+returns-2 c = clearing-none (c .before .loop .inv) (all-none (now (c .before .loop .rest)) (omega arith))
 
 pub clear-spec : {M : Type 1} → statement M
 clear-spec =

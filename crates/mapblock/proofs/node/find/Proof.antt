@@ -10,7 +10,8 @@ use Rattle.wire.specs.Read.{done, mapRead}
 use Rattle.mapblock.specs.Layout.{all, nameRow}
 use Rattle.mapblock.specs.Rows.{nameFields}
 use Rattle.mapblock.specs.Told.{toldName}
-use Rattle.mapblock.proofs.NodeNames.{Finding, finding-start, finding-end, finding-refused, row-start, row-size, row-inside, finding-here, finding-on}
+use Rattle.mapblock.proofs.NameWalks.{row-start, row-size, row-inside, all-none, all-refused}
+use Rattle.mapblock.proofs.NodeNames.{Finding, finding-start, finding-none, finding-here, finding-on}
 use Rattle.mapblock.proofs.node.find.Statement.{statement}
 use Rattle.mapblock.proofs.node.find.Tie as tie
 
@@ -34,7 +35,7 @@ enum-told : tie.Need-enum-told Inv-loop μ-loop
 enum-told c = search needs
 
 returns : tie.Need-returns Inv-loop μ-loop
-returns c = finding-refused (c .before .before .before .before .loop .inv) (c .before .before .before .loop-test .taken) (sym (ap toldName (c .enum-told .given .1)) ∙ c .before .before .name-row .ensures)
+returns c = finding-none (c .before .before .before .before .loop .inv) (all-refused _ (sym (ap toldName (c .enum-told .given .1)) ∙ c .before .before .name-row .ensures))
 
 enum-known-row : tie.Need-enum-known-row Inv-loop μ-loop
 enum-known-row c = search needs
@@ -46,16 +47,16 @@ add-t14 : tie.Need-add-t14 Inv-loop μ-loop
 add-t14 c =
     let k = c .before .before .before .before .before in
     let f = k .before .before .before .before .loop .inv in
-    omega (arith, f .size, row-start f (row-is k), row-size f (row-is k), row-inside f (row-is k))
+    omega (arith, f .size, row-start _ (row-is k), row-size _ (row-is k) (f .bytes), row-inside _ (row-is k))
 
 returns-2 : tie.Need-returns-2 Inv-loop μ-loop
 returns-2 c = let k = c .before .before .before .before .before in finding-here (k .before .before .before .before .loop .inv) (row-is k) (c .before .before .if1 .taken)
 
 sub-rest : tie.Need-sub-rest Inv-loop μ-loop
-sub-rest c = let k = c .before .before .before in row-inside (k .before .before .before .before .loop .inv) (row-is k)
+sub-rest c = row-inside _ (row-is (c .before .before .before))
 
 part-rest-start : tie.Need-part-rest-start Inv-loop μ-loop
-part-rest-start c = let k = c .before .before .before in row-inside (k .before .before .before .before .loop .inv) (row-is k)
+part-rest-start c = row-inside _ (row-is (c .before .before .before))
 
 part-rest-end : tie.Need-part-rest-end Inv-loop μ-loop
 part-rest-end c = search needs
@@ -64,19 +65,19 @@ add-at : tie.Need-add-at Inv-loop μ-loop
 add-at c =
     let k = c .before .before .before .before in
     let f = k .before .before .before .before .loop .inv in
-    omega (arith, f .size, row-inside f (row-is k))
+    omega (arith, f .size, row-inside _ (row-is k))
 
 loop-less : tie.Need-loop-less Inv-loop μ-loop
 loop-less c =
     let k = c .before .before .before .before in
     let f = k .before .before .before .before .loop .inv in
-    rw (rest-is (k .row .given .0 .1 .0) (now (k .before .before .before .before .loop .rest)), length-drop) (omega (arith, row-size f (row-is k), row-inside f (row-is k)))
+    rw (rest-is (k .row .given .0 .1 .0) (now (k .before .before .before .before .loop .rest)), length-drop) (omega (arith, row-size _ (row-is k) (f .bytes), row-inside _ (row-is k)))
 
 loop-again : tie.Need-loop-again Inv-loop μ-loop
 loop-again c = let k = c .before .before .before .before in finding-on (k .before .before .before .before .loop .inv) (row-is k) (c .before .if1 .left)
 
 returns-3 : tie.Need-returns-3 Inv-loop μ-loop
-returns-3 c = finding-end (c .before .loop .inv) (omega arith)
+returns-3 c = finding-none (c .before .loop .inv) (all-none (now (c .before .loop .rest)) (omega arith))
 
 pub find-spec : {M : Type 1} → statement M
 find-spec =

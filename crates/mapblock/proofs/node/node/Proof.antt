@@ -1,5 +1,5 @@
 use borrow.Author.Needs.{needs}
-use mathlib.Core.Path.{ap, sym, subst, _∙_}
+use mathlib.Core.Path.{ap, sym, _∙_}
 use mathlib.Core.List.{List}
 use native.Mathlib.Omega.{arith}
 use Prim.Native.Nat.{ℕ, _+_, _-_, _*_, _≤_}
@@ -7,12 +7,12 @@ use lib.ListN.{length, take, drop, length-drop}
 use denote.Ref.{now}
 use Rattle.wire.specs.Lists.{rest-is}
 use Rattle.wire.specs.Bytes.{Bytes}
-use Rattle.mapblock.specs.Questions.{partsOf, nodeOn, NameRun}
+use Rattle.mapblock.specs.Questions.{partsOf, nodeOn}
 use Rattle.mapblock.specs.Scan.{toldScan}
 use Rattle.mapblock.proofs.BlockAnswers.{TakenAs, taken-as, block-refused, sections-told, AllInside, parts-inside}
 use Rattle.mapblock.specs.Layout.{width}
 use Rattle.mapblock.proofs.Entries.{id-there}
-use Rattle.mapblock.proofs.NodeNames.{within-length, names-run, node-none, node-told}
+use Rattle.mapblock.proofs.NodeNames.{within-length, spot-in, node-none, node-told}
 use Rattle.mapblock.proofs.node.node.Statement.{statement}
 use Rattle.mapblock.proofs.node.node.Tie as tie
 
@@ -70,7 +70,7 @@ returns-2 c =
 returns-3 : tie.Need-returns-3
 returns-3 c =
     let k = c .before .before .before .before .before .before .before .before .before in
-    node-told (block-is k) (bytes k) (k .before .before .before .before .args .index) (omega arith) (c .before .before .id-of .ensures ∙ id-there (k .found .given .0 .0 .head .version) _ (k .before .before .before .before .args .index) (omega arith) (lists-long k)) (c .find .ensures _ (subst (λ (l : List ℕ). NameRun l (block-is k .b .names)) (sym (c .before .cut .ensures)) (names-run (block-is k) (bytes k))))
+    node-told (block-is k) (bytes k) (k .before .before .before .before .args .index) (omega arith) (c .before .before .id-of .ensures ∙ id-there (k .found .given .0 .0 .head .version) _ (k .before .before .before .before .args .index) (omega arith) (lists-long k)) (spot-in (block-is k) (bytes k) _ _ (c .before .cut .ensures) (c .find .ensures))
 
 pub node-spec : {M : Type 1} → statement M
 node-spec =

@@ -45,7 +45,7 @@ same-length-3 : tie.Need-same-length-3
 same-length-3 c = search needs
 
 returns : tie.Need-returns
-returns c = (c .before .before .absorb .ensures .0, λ R may. used-added _ (front (c .before .before .before .before .before .before .before .before .before)) (c .before .before .before .before .before .before .before .before .before .sort .ensures .1 (omega (arith, length-take-le _ (now (c .before .before .before .before .before .before .before .before .before .before .before .before .before .before .before .before .args .places)) (c .before .before .before .before .before .before .before .before .before .before .before .before .before .before .before .before .pre .0)))) may (c .before .before .absorb .ensures .1 R))
+returns c = (c .before .before .absorb .ensures .0, λ R may. used-added _ (front (c .before .before .before .before .before .before .before .before .before)) (c .before .before .before .before .before .before .before .before .before .sort .ensures .1 .0 (omega (arith, length-take-le _ (now (c .before .before .before .before .before .before .before .before .before .before .before .before .before .before .before .before .args .places)) (c .before .before .before .before .before .before .before .before .before .before .before .before .before .before .before .before .pre .0)))) may (c .before .before .absorb .ensures .1 R))
 
 pub add-used-spec : {M : Type 1} → statement M
 add-used-spec =

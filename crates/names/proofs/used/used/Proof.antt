@@ -11,12 +11,13 @@ use Rattle.wire.specs.Read.{done, mapRead}
 use Rattle.mapblock.specs.Layout.{all, nameRow}
 use Rattle.mapblock.specs.Rows.{nameFields}
 use Rattle.mapblock.specs.Told.{toldName}
-use Rattle.names.proofs.UsedWalk.{Using, using-start, using-full, using-refused, using-size, using-inside, using-over, using-store}
+use Rattle.mapblock.proofs.NameWalks.{row-size, row-inside, all-refused}
+use Rattle.names.proofs.UsedWalk.{Using, using-start, using-full, using-none, using-over, using-store}
 use Rattle.names.proofs.used.used.Statement.{statement}
 use Rattle.names.proofs.used.used.Tie as tie
 
 abbrev Inv-loop : tie.InvT-loop
-Inv-loop s counts places₀ rest₀ at₀ n₀ places rest at n = Using s counts rest at places n
+Inv-loop s counts places₀ rest₀ at₀ n₀ places rest at n = Using s counts rest at places₀ places n
 
 abbrev μ-loop : tie.MeasureT-loop
 μ-loop s counts places₀ rest₀ at₀ n₀ places rest at n = length rest
@@ -38,7 +39,7 @@ enum-told : tie.Need-enum-told Inv-loop μ-loop
 enum-told c = search needs
 
 returns : tie.Need-returns Inv-loop μ-loop
-returns c = let l = c .before .before .before .before .loop in (l .inv .few, using-refused (l .inv) (sym (ap toldName (c .enum-told .given .1)) ∙ c .before .before .name-row .ensures))
+returns c = let l = c .before .before .before .before .loop in (l .inv .few, using-none (l .inv) (all-refused _ (sym (ap toldName (c .enum-told .given .1)) ∙ c .before .before .name-row .ensures)))
 
 enum-known-row : tie.Need-enum-known-row Inv-loop μ-loop
 enum-known-row c = search needs
@@ -62,19 +63,19 @@ add-n : tie.Need-add-n Inv-loop μ-loop
 add-n c = search needs
 
 sub-rest : tie.Need-sub-rest Inv-loop μ-loop
-sub-rest c = let k = c .before .before .before .before in using-inside (k .before .before .before .before .loop .inv) (row-is k)
+sub-rest c = row-inside _ (row-is (c .before .before .before .before))
 
 part-rest-start : tie.Need-part-rest-start Inv-loop μ-loop
-part-rest-start c = let k = c .before .before .before .before in using-inside (k .before .before .before .before .loop .inv) (row-is k)
+part-rest-start c = row-inside _ (row-is (c .before .before .before .before))
 
 part-rest-end : tie.Need-part-rest-end Inv-loop μ-loop
 part-rest-end c = search needs
 
 add-at : tie.Need-add-at Inv-loop μ-loop
-add-at c = let k = c .before .before .before .before .before in let f = k .before .before .before .before .loop .inv in omega (arith, f .size, using-inside f (row-is k))
+add-at c = let k = c .before .before .before .before .before in let f = k .before .before .before .before .loop .inv in omega (arith, f .size, row-inside _ (row-is k))
 
 loop-less : tie.Need-loop-less Inv-loop μ-loop
-loop-less c = let k = c .before .before .before .before .before in let f = k .before .before .before .before .loop .inv in rw (rest-is (k .row .given .0 .1 .0) (now (k .before .before .before .before .loop .rest)), length-drop) (omega (arith, using-size f (row-is k), using-inside f (row-is k)))
+loop-less c = let k = c .before .before .before .before .before in let f = k .before .before .before .before .loop .inv in rw (rest-is (k .row .given .0 .1 .0) (now (k .before .before .before .before .loop .rest)), length-drop) (omega (arith, row-size _ (row-is k) (f .bytes), row-inside _ (row-is k)))
 
 loop-again : tie.Need-loop-again Inv-loop μ-loop
 loop-again c =

@@ -1,15 +1,14 @@
 use mathlib.Core.Path.{_≡_}
 use mathlib.Core.Logic.{⊎-elim}
-use mathlib.Core.Bool.{true}
+use mathlib.Core.Bool.{true, cond}
 use lib.Dec.{eqb}
 use borrow.Author.Tests.{le-leb, lt-leb, eq-eqb, ne-eqb}
-use Rattle.wire.specs.Choice.{pick}
 use Rattle.mapblock.specs.Layout.{since}
 use Rattle.writer.proofs.fit.carries.Statement.{statement}
 use Rattle.writer.proofs.fit.carries.Tie as tie
 
 -- the version carries the lighting, or it is 65,535
-lit : (c : tie.Joined1) → let h = c .before .before .args .head in pick (since 27 (h .version)) true (eqb (h .lighting) 65535) ≡ true
+lit : (c : tie.Joined1) → let h = c .before .before .args .head in cond (since 27 (h .version)) true (eqb (h .lighting) 65535) ≡ true
 lit c = ⊎-elim (λ w. rw (lt-leb 27 _ (w .0 .taken), eq-eqb _ 65535 (w .2 .left))) (λ w. rw (le-leb 27 _ (w .left))) (c .if1 .came)
 
 returns : tie.Need-returns

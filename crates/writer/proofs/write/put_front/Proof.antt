@@ -1,11 +1,11 @@
 use borrow.Author.Needs.{needs}
+use mathlib.Core.Bool.{cond}
 use Prim.Native.Nat.{ℕ, _+_, _≤_}
 use mathlib.Core.List.{List, [], _++_}
 use native.Mathlib.Nat.{zero-add}
 use native.Mathlib.Omega.{arith}
 use denote.Ref.{now}
 use lib.ListN.{length, length-append}
-use Rattle.wire.specs.Choice.{pick}
 use Rattle.mapblock.specs.Layout.{since}
 use Rattle.writer.specs.Pieces.{openingBytes, savedBytes, nodesBytes}
 use Rattle.wire.proofs.Puts.{front-room, put-room, put-two}
@@ -14,7 +14,7 @@ use Rattle.writer.proofs.write.put_front.Tie as tie
 
 -- the pieces behind the opening, and the room that is left for them
 abbrev second : tie.Start → List ℕ
-second s = let a = s .args in pick (since 29 (a .head .version)) (savedBytes (a .head .timestamp) (a .count) (now (a .names))) []
+second s = let a = s .args in cond (since 29 (a .head .version)) (savedBytes (a .head .timestamp) (a .count) (now (a .names))) []
 
 abbrev third : tie.Start → List ℕ
 third s = let a = s .args in nodesBytes (a .head .version) (now (a .param0)) (now (a .param1)) (now (a .param2))

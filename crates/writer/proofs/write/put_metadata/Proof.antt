@@ -1,6 +1,7 @@
 use borrow.Author.Needs.{needs}
 use Prim.Native.Nat.{ℕ, _+_, _≤_}
 use mathlib.Core.Path.{_≡_}
+use mathlib.Core.Bool.{cond}
 use mathlib.Core.List.{List, _++_}
 use mathlib.Core.Logic.{⊎-elim}
 use native.Mathlib.Omega.{arith}
@@ -8,7 +9,6 @@ use denote.Ref.{now}
 use lib.Dec.{leb}
 use lib.ListN.{length}
 use borrow.Author.Tests.{le-leb, lt-leb}
-use Rattle.wire.specs.Choice.{pick}
 use Rattle.wire.specs.Bytes.{spell}
 use Rattle.wire.specs.Store.{PutAt}
 use Rattle.writer.specs.Pieces.{listBytes, metadataBytes}
@@ -31,10 +31,10 @@ version-put : (c : tie.After-put-u16) → (let a = c .before .before .before .be
 version-put c = put-number (c .before .before .before .before .before .args .at) 2 1 (omega (arith, room-22 (c .before .before))) (c .put-u16 .ensures)
 
 -- later versions
-of-23 : (c : tie.Else1) → (let a = c .before .before .before .args in metadataBytes (a .version) (a .count) (now (a .rows)) ≡ spell 1 (pick (leb 28 (a .version)) 2 1) ++ list (c .before .before .before))
+of-23 : (c : tie.Else1) → (let a = c .before .before .before .args in metadataBytes (a .version) (a .count) (now (a .rows)) ≡ spell 1 (cond (leb 28 (a .version)) 2 1) ++ list (c .before .before .before))
 of-23 c = let a = c .before .before .before .args in metadata-23 (a .version) (a .count) (now (a .rows)) (c .if1 .left)
 
-version-is : (c : tie.Joined2) → c .if2 .list-version ≡ pick (leb 28 (c .before .before .before .before .args .version)) 2 1
+version-is : (c : tie.Joined2) → c .if2 .list-version ≡ cond (leb 28 (c .before .before .before .before .args .version)) 2 1
 version-is c = ⊎-elim (λ w. rw (lt-leb 28 _ (w .0 .taken)) (w .1)) (λ w. rw (le-leb 28 _ (w .0 .left)) (w .1)) (c .if2 .came)
 
 put-u16-requires : tie.Need-put-u16-requires

@@ -1,9 +1,9 @@
 use borrow.Author.Needs.{needs}
+use mathlib.Core.Bool.{cond}
 use Prim.Native.Nat.{ℕ, _+_, _≤_}
 use mathlib.Core.List.{List, [], _++_}
 use denote.Ref.{now}
 use lib.ListN.{length}
-use Rattle.wire.specs.Choice.{pick}
 use Rattle.mapblock.specs.Layout.{before}
 use Rattle.wire.specs.Store.{PutAt}
 use Rattle.writer.specs.Pieces.{savedBytes, metadataBytes, earlyBytes, objectsBytes, lateBytes}
@@ -23,7 +23,7 @@ abbrev third : tie.Start → List ℕ
 third s = let a = s .args in objectsBytes (a .c .objects) (now (a .objects))
 
 abbrev fourth : tie.Start → List ℕ
-fourth s = let a = s .args in pick (before 29 (a .head .version)) (savedBytes (a .head .timestamp) (a .c .names) (now (a .names))) []
+fourth s = let a = s .args in cond (before 29 (a .head .version)) (savedBytes (a .head .timestamp) (a .c .names) (now (a .names))) []
 
 abbrev fifth : tie.Start → List ℕ
 fifth s = let a = s .args in lateBytes (a .head .version) (a .c .timers) (now (a .timers))
