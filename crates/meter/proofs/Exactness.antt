@@ -117,22 +117,20 @@ module _ (m : Measure) where
       let few = and-yes (limited (m .kind) (held m p (c .blocks))) (leb (length (held m p (c .blocks))) mostRows) (c .fits .0) in
       rw (c .good-part, le-leb _ _ (c .spare), c .taken, le-leb _ _ (c .fits .1), few .1)
 
-  -- ---- by an output
-  pub gives-told : (x : Source) (p : Part) (room : ℕ) (t : List ℕ) → Gives (tallied m) room x p t → tallyFrom m x p room ≡ good t
-  gives-told x p room t g =
-      let y = map-good (length {A = ℕ}) (tallyFrom m x p (length (g .out))) (g .told) (g .done) in
-      let e : t ≡ y .0 = g .bytes ∙ ap (λ (a : Answer (List ℕ)). take (g .told) (lent a (g .out))) (y .1) ∙ ap (λ (n : ℕ). take n (y .0 ++ drop (length (y .0)) (g .out))) (sym (y .2)) ∙ take-append-seam (y .0) (drop (length (y .0)) (g .out)) in
+  -- ---- in an output
+  pub gives-told : (x : Source) (p : Part) (room : ℕ) (out t : List ℕ) → Gives (tallied m) room x p out t → tallyFrom m x p room ≡ good t
+  gives-told x p room out t g =
+      let y = map-good (length {A = ℕ}) (tallyFrom m x p (length out)) (g .told) (g .done) in
+      let e : t ≡ y .0 = g .bytes ∙ ap (λ (a : Answer (List ℕ)). take (g .told) (lent a out)) (y .1) ∙ ap (λ (n : ℕ). take n (y .0 ++ drop (length (y .0)) out)) (sym (y .2)) ∙ take-append-seam (y .0) (drop (length (y .0)) out) in
       ap (tallyFrom m x p) (sym (g .size)) ∙ y .1 ∙ ap good (sym e)
 
-  pub told-gives : (x : Source) (p : Part) (room : ℕ) (t : List ℕ) → tallyFrom m x p room ≡ good t → Gives (tallied m) room x p t
-  told-gives x p room t h =
-      let out : List ℕ = replicate room 0 in
-      let size : length out ≡ room = length-replicate {A = ℕ} room 0 in
+  pub told-gives : (x : Source) (p : Part) (room : ℕ) (out t : List ℕ) → length out ≡ room → tallyFrom m x p room ≡ good t → Gives (tallied m) room x p out t
+  told-gives x p room out t size h =
       let e : tallyFrom m x p (length out) ≡ good t = ap (tallyFrom m x p) size ∙ h in
-      record { out = out; size = size; told = length t; done = rw e; bytes = sym (rw (e, take-append-seam)) }
+      record { size = size; told = length t; done = rw e; bytes = sym (rw (e, take-append-seam)) }
 
-  pub gives-tallied : (x : Source) (p : Part) (room : ℕ) (t : List ℕ) → IsBytes x → Gives (tallied m) room x p t → TalliedAs room x p t
-  gives-tallied x p room t b g = told-tallied x p room t b (gives-told x p room t g)
+  pub gives-tallied : (x : Source) (p : Part) (room : ℕ) (out t : List ℕ) → IsBytes x → Gives (tallied m) room x p out t → TalliedAs room x p t
+  gives-tallied x p room out t b g = told-tallied x p room t b (gives-told x p room out t g)
 
   -- ---- a tally of rows, read back
   module _ {x : Source} {p : Part} {room : ℕ} {t : List ℕ} (b : IsBytes x) (y : TalliedAs room x p t) where
@@ -142,7 +140,7 @@ module _ (m : Measure) where
     tallied-canonical : Canonical (m .kind .counts) (held m p (y .can .blocks))
     tallied-canonical = rows-canonical m p (y .can .blocks) valid
 
-    tallied-rows : rowsOf (m .kind) t ≡ some (held m p (y .can .blocks))
+    pub tallied-rows : rowsOf (m .kind) t ≡ some (held m p (y .can .blocks))
     tallied-rows = ap (rowsOf (m .kind)) (y .bytes) ∙ rows-of-tally (m .kind) (held m p (y .can .blocks)) tallied-canonical (y .can .fits .0)
 
     pub rows-read : rowsIn (m .kind) t ≡ held m p (y .can .blocks)
@@ -156,12 +154,12 @@ module _ (m : Measure) where
 
   pub exact : Exact m (tallied m)
   exact = record {
-    tallied-where = λ room x p b. (
-      λ h. gives-tallied x p room (h .0) b (h .1) .can,
-      λ c. (tally (m .kind) .encode (held m p (c .blocks)), told-gives x p room _ (tallied-told x p room c)),
+    tallied-where = λ x p out b. (
+      λ h. gives-tallied x p (length out) out (h .0) b (h .1) .can,
+      λ c. (tally (m .kind) .encode (held m p (c .blocks)), told-gives x p (length out) out _ refl (tallied-told x p (length out) c)),
     );
-    counts = λ room x p t b g.
-        let y = gives-tallied x p room t b g in
+    counts = λ room x p out t b g.
+        let y = gives-tallied x p room out t b g in
         let l = y .can .blocks in
-        (l, y .can .taken, λ n. ap (λ (r : MeasureRows m). countIn (m .kind .counts) r n) (rows-read b y) ∙ count-tally m (nodesIn p l) n);
+        (l, held m p l, y .can .taken, tallied-rows b y, count-tally m (nodesIn p l));
   }

@@ -17,7 +17,7 @@ use Rattle.tally.proofs.MergeLaw.{merge-law, empty-changes-nothing}
 use Rattle.meter.specs.Standing.{Part, goodPart, Placed, Node, inPart, those, standing, nodesIn}
 use Rattle.meter.specs.Counting.{Measure, MeasureRows, amountOf}
 use Rattle.meter.specs.Cuts.{Cuts, uncut, cut, lower, upper, once, shares, allGood, Partition}
-use Rattle.meter.specs.Theorems.{Source, blocksOf, SpareFits, IsBytes, Gives, tallied, Talliable, AllGive, CutLaw, PartitionLaw, Demand3}
+use Rattle.meter.specs.Theorems.{Source, blocksOf, SpareFits, IsBytes, Gives, tallied, Talliable, AllGive, Outputs, EveryCut, PartitionLaw, Demand3}
 use Rattle.meter.proofs.Amounts.{first-amount, count-tally}
 use Rattle.meter.proofs.Blocks.{AllValid, held, rows-canonical}
 use Rattle.meter.proofs.Cuts.{partition}
@@ -127,14 +127,15 @@ module _ (m : Measure) where
   -- ---- the parts' tallies
   module _ (room : ℕ) (x : Source) (b : IsBytes x) where
     -- each part can be tallied where their sum fits
-    all-give : (l : List Placed) (v : AllValid l) → SpareFits x room → blocksOf x ≡ good l → (ps : List Part) → allGood ps ≡ true → Fits (m .kind) room (sumRows l v ps)
-        → (ts : List (List ℕ)) × AllGive m (tallied m) room x ps ts
-    all-give l v s e [] g f = ([], tt)
-    all-give l v s e (p ∷ ps) g f =
+    all-give : (l : List Placed) (v : AllValid l) → SpareFits x room → blocksOf x ≡ good l → (ps : List Part) (outs : List (List ℕ)) → Outputs m room ps outs → allGood ps ≡ true → Fits (m .kind) room (sumRows l v ps)
+        → (ts : List (List ℕ)) × AllGive m (tallied m) room x ps outs ts
+    all-give l v s e [] outs o g f = ([], tt)
+    all-give l v s e (p ∷ ps) [] o g f = absurd o
+    all-give l v s e (p ∷ ps) (out ∷ outs) o g f =
         let k = and-yes (goodPart p) (allGood ps) g in
         let c : Talliable m room x p = record { good-part = k .0; spare = s; blocks = l; taken = e; fits = fits-left (m .kind) room (held m p l) (sumRows l v ps) (rows-canonical m p l v) (sum-canonical l v ps) f } in
-        let r = all-give l v s e ps (k .1) (fits-right (m .kind) room (held m p l) (sumRows l v ps) f) in
-        (tally (m .kind) .encode (held m p l) ∷ r .0, (told-gives m x p room _ (tallied-told m x p room c), r .1))
+        let r = all-give l v s e ps outs (o .1) (k .1) (fits-right (m .kind) room (held m p l) (sumRows l v ps) f) in
+        (tally (m .kind) .encode (held m p l) ∷ r .0, (told-gives m x p room out _ (o .0) (tallied-told m x p room c), r .1))
 
     -- those that were given are well-formed tallies, of good parts, and their sum is that of the rows
     record GivenBy (l : List Placed) (v : AllValid l) (ps : List Part) (ts : List (List ℕ)) : Type 0 where
@@ -142,13 +143,14 @@ module _ (m : Measure) where
       sum : sumOf (m .kind) ts ≡ sumRows l v ps
       tallies : AllTallies (m .kind) ts
 
-    given-by : (l : List Placed) (v : AllValid l) → blocksOf x ≡ good l → (ps : List Part) (ts : List (List ℕ)) → AllGive m (tallied m) room x ps ts → GivenBy l v ps ts
-    given-by l v e [] [] h = record { goods = refl; sum = refl; tallies = tt }
-    given-by l v e [] (t ∷ ts) h = absurd h
-    given-by l v e (p ∷ ps) [] h = absurd h
-    given-by l v e (p ∷ ps) (t ∷ ts) h =
-        let y = gives-tallied m x p room t b (h .0) in
-        let r = given-by l v e ps ts (h .1) in
+    given-by : (l : List Placed) (v : AllValid l) → blocksOf x ≡ good l → (ps : List Part) (outs ts : List (List ℕ)) → AllGive m (tallied m) room x ps outs ts → GivenBy l v ps ts
+    given-by l v e [] outs [] h = record { goods = refl; sum = refl; tallies = tt }
+    given-by l v e [] outs (t ∷ ts) h = absurd h
+    given-by l v e (p ∷ ps) outs [] h = absurd h
+    given-by l v e (p ∷ ps) [] (t ∷ ts) h = absurd h
+    given-by l v e (p ∷ ps) (out ∷ outs) (t ∷ ts) h =
+        let y = gives-tallied m x p room out t b (h .0) in
+        let r = given-by l v e ps outs ts (h .1) in
         let same : y .can .blocks ≡ l = cc (y .can .taken, e) in
         record {
           goods = yes-and (y .can .good-part) (r .goods);
@@ -156,32 +158,40 @@ module _ (m : Measure) where
           tallies = (is-tally m b y, r .tallies);
         }
 
-    module _ (whole p : Part) (ps : List Part) (h : Partition whole (p ∷ ps)) where
+    module _ (whole p : Part) (ps : List Part) (out : List ℕ) (outs : List (List ℕ)) (h : Partition whole (p ∷ ps)) where
       -- the whole's tally is the sum of the parts'
-      sum-is : (t : List ℕ) (ts : List (List ℕ)) → Gives (tallied m) room x whole t → AllGive m (tallied m) room x (p ∷ ps) ts
+      sum-is : (t : List ℕ) (ts : List (List ℕ)) → Gives (tallied m) room x whole out t → AllGive m (tallied m) room x (p ∷ ps) outs ts
           → Fits (m .kind) room (sumOf (m .kind) ts) × (t ≡ tally (m .kind) .encode (sumOf (m .kind) ts))
       sum-is t ts g a =
-          let y = gives-tallied m x whole room t b g in
+          let y = gives-tallied m x whole room out t b g in
           let l = y .can .blocks in
           let v = blocks-valid x b l (y .can .taken) .0 in
-          let e : sumOf (m .kind) ts ≡ held m whole l = given-by l v (y .can .taken) (p ∷ ps) ts a .sum ∙ sum-whole l v whole (p ∷ ps) h in
+          let e : sumOf (m .kind) ts ≡ held m whole l = given-by l v (y .can .taken) (p ∷ ps) outs ts a .sum ∙ sum-whole l v whole (p ∷ ps) h in
           (subst (Fits (m .kind) room) (sym e) (y .can .fits), y .bytes ∙ ap (tally (m .kind) .encode) (sym e))
 
-      parts-tallied : (t : List ℕ) × Gives (tallied m) room x whole t → (ts : List (List ℕ)) × AllGive m (tallied m) room x (p ∷ ps) ts × Fits (m .kind) room (sumOf (m .kind) ts)
-      parts-tallied (t, g) =
-          let y = gives-tallied m x whole room t b g in
+      parts-tallied : Outputs m room (p ∷ ps) outs → (t : List ℕ) × Gives (tallied m) room x whole out t
+          → (ts : List (List ℕ)) × AllGive m (tallied m) room x (p ∷ ps) outs ts × Fits (m .kind) room (sumOf (m .kind) ts)
+      parts-tallied o (t, g) =
+          let y = gives-tallied m x whole room out t b g in
           let l = y .can .blocks in
           let v = blocks-valid x b l (y .can .taken) .0 in
-          let a = all-give l v (y .can .spare) (y .can .taken) (p ∷ ps) (h .good ∙ y .can .good-part) (subst (Fits (m .kind) room) (sym (sum-whole l v whole (p ∷ ps) h)) (y .can .fits)) in
+          let a = all-give l v (y .can .spare) (y .can .taken) (p ∷ ps) outs o (h .good ∙ y .can .good-part) (subst (Fits (m .kind) room) (sym (sum-whole l v whole (p ∷ ps) h)) (y .can .fits)) in
           (a .0, a .1, sum-is t (a .0) g (a .1) .0)
 
-      whole-tallied : (ts : List (List ℕ)) × AllGive m (tallied m) room x (p ∷ ps) ts × Fits (m .kind) room (sumOf (m .kind) ts) → (t : List ℕ) × Gives (tallied m) room x whole t
-      whole-tallied ([], a, f) = absurd a
-      whole-tallied (t ∷ ts, a, f) =
-          let y = gives-tallied m x p room t b (a .0) in
+      -- the first part's own
+      first-given : (o : List (List ℕ)) (t : List ℕ) (ts : List (List ℕ)) → AllGive m (tallied m) room x (p ∷ ps) o (t ∷ ts) → (u : List ℕ) × Gives (tallied m) room x p u t
+      first-given [] t ts a = absurd a
+      first-given (u ∷ o) t ts a = (u, a .0)
+
+      whole-tallied : length out ≡ room → (ts : List (List ℕ)) × AllGive m (tallied m) room x (p ∷ ps) outs ts × Fits (m .kind) room (sumOf (m .kind) ts)
+          → (t : List ℕ) × Gives (tallied m) room x whole out t
+      whole-tallied size ([], a, f) = absurd a
+      whole-tallied size (t ∷ ts, a, f) =
+          let w = first-given outs t ts a in
+          let y = gives-tallied m x p room (w .0) t b (w .1) in
           let l = y .can .blocks in
           let v = blocks-valid x b l (y .can .taken) .0 in
-          let g = given-by l v (y .can .taken) (p ∷ ps) (t ∷ ts) a in
+          let g = given-by l v (y .can .taken) (p ∷ ps) outs (t ∷ ts) a in
           let c : Talliable m room x whole = record {
             good-part = sym (h .good) ∙ g .goods;
             spare = y .can .spare;
@@ -189,23 +199,24 @@ module _ (m : Measure) where
             taken = y .can .taken;
             fits = subst (Fits (m .kind) room) (g .sum ∙ sum-whole l v whole (p ∷ ps) h) f;
           } in
-          (tally (m .kind) .encode (held m whole l), told-gives m x whole room _ (tallied-told m x whole room c))
+          (tally (m .kind) .encode (held m whole l), told-gives m x whole room out _ size (tallied-told m x whole room c))
 
       -- one part's tally is its own sum
-      only-part : (t u : List ℕ) → Gives (tallied m) room x whole t → AllGive m (tallied m) room x (p ∷ ps) (u ∷ []) → u ≡ t
+      only-part : (t u : List ℕ) → Gives (tallied m) room x whole out t → AllGive m (tallied m) room x (p ∷ ps) outs (u ∷ []) → u ≡ t
       only-part t u g a =
-          let y = gives-tallied m x p room u b (a .0) in
+          let w = first-given outs u [] a in
+          let y = gives-tallied m x p room (w .0) u b (w .1) in
           let e : sumOf (m .kind) (u ∷ []) ≡ held m p (y .can .blocks) = ap (λ (r : MeasureRows m). plus (m .kind .counts) r []) (rows-read m b y) ∙ plus-unit (m .kind .counts) (held m p (y .can .blocks)) (rows-canonical m p (y .can .blocks) (blocks-valid x b (y .can .blocks) (y .can .taken) .0)) in
           y .bytes ∙ ap (tally (m .kind) .encode) (sym e) ∙ sym (sum-is t (u ∷ []) g a .1)
 
       all-merges : (t a c : List ℕ) (more : List (List ℕ)) (made : ℕ) (log : List ℕ) (left : List (List ℕ))
-          → Gives (tallied m) room x whole t → AllGive m (tallied m) room x (p ∷ ps) (a ∷ c ∷ more) → Merges (merged (m .kind)) room (a ∷ c ∷ more) made log left
+          → Gives (tallied m) room x whole out t → AllGive m (tallied m) room x (p ∷ ps) outs (a ∷ c ∷ more) → Merges (merged (m .kind)) room (a ∷ c ∷ more) made log left
           → (log ≡ []) × (suc made ≡ length (a ∷ c ∷ more) → left ≡ t ∷ [])
       all-merges t a c more made log left g k r =
           let s = sum-is t (a ∷ c ∷ more) g k in
-          let y = gives-tallied m x whole room t b g in
+          let y = gives-tallied m x whole room out t b g in
           let v = blocks-valid x b (y .can .blocks) (y .can .taken) .0 in
-          let ts = given-by (y .can .blocks) v (y .can .taken) (p ∷ ps) (a ∷ c ∷ more) k .tallies in
+          let ts = given-by (y .can .blocks) v (y .can .taken) (p ∷ ps) outs (a ∷ c ∷ more) k .tallies in
           let law = merge-law (m .kind) room a c more made log left ts r in
           (law .none-refused (s .0), λ e. last left (omega (arith, law .fewer)) (λ u w. law .one-left u w .1 ∙ sym (s .1)))
         where
@@ -215,11 +226,11 @@ module _ (m : Measure) where
           last (u ∷ w ∷ left) e f = absurd (omega arith)
 
   pub partition-law : PartitionLaw m (tallied m) (merged (m .kind))
-  partition-law room x whole p ps b h = record {
-    exactly = (parts-tallied room x b whole p ps h, whole-tallied room x b whole p ps h);
-    counts = λ q t g. exact m .counts room x q t b g;
-    one-part = only-part room x b whole p ps h;
-    merges = all-merges room x b whole p ps h;
+  partition-law room x whole p ps out outs b h size o = record {
+    exactly = (parts-tallied room x b whole p ps out outs h o, whole-tallied room x b whole p ps out outs h size);
+    counts = λ q u t g. exact m .counts room x q u t b g;
+    one-part = only-part room x b whole p ps out outs h;
+    merges = all-merges room x b whole p ps out outs h;
   }
 
   -- ---- a list of cuts leaves at least one part
@@ -231,9 +242,9 @@ module _ (m : Measure) where
   some-part uncut e = let z : _≡_ {A = ℕ} 0 1 = cc in omega arith
   some-part (cut front p back c k h) e = no-parts front back (lower c p) (upper c p) e
 
-  cut-law : (room : ℕ) (x : Source) (whole : Part) (parts : List Part) → IsBytes x → Cuts whole parts → CutLaw m (tallied m) (merged (m .kind)) room x whole parts
-  cut-law room x whole [] b k = absurd (some-part k refl)
-  cut-law room x whole (p ∷ ps) b k = partition-law room x whole p ps b (partition k)
+  cut-law : EveryCut m (tallied m) (merged (m .kind))
+  cut-law room x whole [] out outs b k size o = absurd (some-part k refl)
+  cut-law room x whole (p ∷ ps) out outs b k size o = partition-law room x whole p ps out outs b (partition k) size o
 
   pub demand-3 : Demand3 m
-  demand-3 = record { merges = merge-law (m .kind); empty = empty-changes-nothing (m .kind); cuts = cut-law }
+  demand-3 = record { exact = exact m; merges = merge-law (m .kind); empty = empty-changes-nothing (m .kind); cuts = cut-law }

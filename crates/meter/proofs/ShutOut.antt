@@ -1,10 +1,10 @@
 -- Tallying that is exact is neither always empty nor always refused, and invents nothing; and where the cut law holds over it, merging neither
 -- does nothing nor refuses all. Shown by the shortest block of air at key 0.
 use Prim.Native.Nat.{ℕ, _<_, _≤_}
-use mathlib.Core.Path.{_≡_, refl, ap}
+use mathlib.Core.Path.{_≡_, refl, ap, sym, subst, _∙_}
 use mathlib.Core.Bool.{true, false}
 use mathlib.Core.List.{List, [], _∷_}
-use mathlib.Core.Option.{Option, Option·getD}
+use mathlib.Core.Option.{some, Option·none-ne-some}
 use native.Mathlib.Omega.{arith}
 use lib.Dec.{lit<, lit≤}
 use lib.IntN.{pos}
@@ -26,16 +26,16 @@ use Rattle.mapblock.proofs.ValidOk.{valid-is-ok}
 use Rattle.mapblock.proofs.Taken.{airAt, air-valid}
 use Rattle.wire.specs.Order.{order, order-refl}
 use Rattle.tally.specs.Rows.{choose, countIn}
-use Rattle.tally.specs.Tally.{tally}
-use Rattle.tally.specs.Theorems.{Merger, here as front, stop, done, refused, rowsIn}
+use Rattle.tally.specs.Tally.{tally, rowsOf}
+use Rattle.tally.specs.Theorems.{Merger, here as front, stop, done, refused}
 use Rattle.tally.specs.Theorems as merging
 use Rattle.tally.proofs.Held.{rows-of-tally}
 use Rattle.tally.proofs.MergeLaw.{zeros, zeros-none}
 use Rattle.meter.specs.Standing.{Part, Placed, Node, inPart, nodeOf, nodesFrom, those, nodesIn}
-use Rattle.meter.specs.Counting.{amountOf, byOne}
+use Rattle.meter.specs.Counting.{MeasureRows, amountOf, byOne}
 use Rattle.meter.specs.Tallying.{placed, placedAt}
 use Rattle.meter.specs.Cuts.{at-second, lower, upper, Cuts, uncut, cut}
-use Rattle.meter.specs.Theorems.{Source, one-block, blocksOf, Tallier, Gives, Talliable, Exact, AllGive, EveryCut, ShutOut, MergeShutOut}
+use Rattle.meter.specs.Theorems.{Source, one-block, blocksOf, Tallier, Gives, Talliable, CountsOf, Exact, AllGive, CutLaw, EveryCut, ShutOut, MergeShutOut}
 use Rattle.meter.proofs.Blocks.{valid-block, held}
 use Rattle.meter.proofs.Exactness.{fits-in-own}
 use Rattle.meter.proofs.NamesAlone.{standing-one}
@@ -113,23 +113,33 @@ unfolding nodesFrom
 counted = rw (standing-one here) (some-there (nodesFrom here 4095 1) (nodeOf here 0) everywhere first-in)
 
 -- ---- what exact tallying shuts out
-no-rows : rowsIn (byOne .kind) (tally (byOne .kind) .encode []) ≡ []
-no-rows = ap (λ (o : Option _). Option·getD o []) (rows-of-tally (byOne .kind) [] tt refl)
+out-long : length (zeros room) ≡ room
+out-long = length-replicate room 0
+
+can-out : Talliable byOne (length (zeros room)) source everywhere
+can-out = subst (λ (r : ℕ). Talliable byOne r source everywhere) (sym out-long) can
+
+-- what is told of the block is told of its first node too
+count-there : (t : List ℕ) (r : MeasureRows byOne) → CountsOf byOne source everywhere t → rowsOf (byOne .kind) t ≡ some r → 1 ≤ countIn (byOne .kind .counts) r first-name
+count-there t r c h =
+    let l : c .0 ≡ here ∷ [] = cc (c .2, taken) in
+    let q : c .1 ≡ r = cc (c .3, h) in
+    rw (← q) (rw (c .4 first-name, l) counted)
 
 pub shut-out : ShutOut byOne
 shut-out f e =
-    let g = e .tallied-where room source everywhere are-bytes .1 can in (
+    let g = e .tallied-where source everywhere (zeros room) are-bytes .1 can-out in (
       λ empty.
-          let c = e .counts room source everywhere (g .0) are-bytes (g .1) in
-          let same : c .0 ≡ here ∷ [] = cc (c .1, taken) in
-          let none : countIn (byOne .kind .counts) (rowsIn (byOne .kind) (g .0)) first-name ≡ 0 = rw (empty room source everywhere (g .0) are-bytes (g .1), no-rows) in
-          let some : 1 ≤ countIn (byOne .kind .counts) (rowsIn (byOne .kind) (g .0)) first-name = rw (c .2 first-name, same) counted in
+          let c = e .counts (length (zeros room)) source everywhere (zeros room) (g .0) are-bytes (g .1) in
+          let none : rowsOf (byOne .kind) (g .0) ≡ some [] = ap (rowsOf (byOne .kind)) (empty _ source everywhere (zeros room) (g .0) are-bytes (g .1)) ∙ rows-of-tally (byOne .kind) [] tt refl in
+          let k = count-there (g .0) [] c none in
           omega arith,
-      λ refuses. refuses room source everywhere (g .0) (g .1),
+      λ refuses. refuses _ source everywhere (zeros room) (g .0) (g .1),
       λ h.
-          let c = e .counts (h .room) (h .x) (h .p) (h .t) (h .bytes) (h .gives) in
-          let same : c .0 ≡ h .l = cc (c .1, h .taken) in
-          h .differs (rw (← same) (c .2 (h .name))),
+          let c = e .counts (h .room) (h .x) (h .p) (h .out) (h .t) (h .bytes) (h .gives) in
+          let same : c .0 ≡ h .l = cc (c .2, h .taken) in
+          let rows : c .1 ≡ h .r = cc (c .3, h .rows) in
+          h .differs (rw (← same, ← rows) (c .4 (h .name))),
     )
 
 -- ---- what the cut law shuts out: all time cut at second 0 leaves two parts, and their merge must be the whole's tally
@@ -142,35 +152,36 @@ late = upper (at-second 0) everywhere
 in-two : Cuts everywhere (early ∷ late ∷ [])
 in-two = cut [] everywhere [] (at-second 0) uncut refl
 
+abbrev outs : List (List ℕ)
+outs = zeros room ∷ zeros room ∷ []
+
 -- a merge of the two parts' tallies, into zeros
 module _ (f : Tallier) (g : Merger) (t a b : List ℕ) (e : Exact byOne f) (law : EveryCut byOne f g)
-    (whole : Gives f room source everywhere t) (parts : AllGive byOne f room source (early ∷ late ∷ []) (a ∷ b ∷ [])) where
-  out-long : length (zeros room) ≡ room
-  out-long = length-replicate room 0
+    (whole : Gives f room source everywhere (zeros room) t) (parts : AllGive byOne f room source (early ∷ late ∷ []) outs (a ∷ b ∷ [])) where
+  cut-law : CutLaw byOne f g room source everywhere (early ∷ late ∷ []) (zeros room) outs
+  cut-law = law room source everywhere (early ∷ late ∷ []) (zeros room) outs are-bytes in-two out-long (out-long, (out-long, tt))
 
   not-refused : {n r o : ℕ} → g a b (zeros room) .0 ≡ refusal n r o → ⊥
   not-refused {n} h =
-      let x = law room source everywhere (early ∷ late ∷ []) are-bytes in-two .merges t a b [] 0 (n ∷ []) _ whole parts (refused front front out-long h stop) .0 in
+      let x = cut-law .merges t a b [] 0 (n ∷ []) _ whole parts (refused front front out-long h stop) .0 in
       let z : _≡_ {A = ℕ} 0 1 = cc in omega arith
 
   not-idle : (r : Answer ℕ) → g a b (zeros room) .0 ≡ r → g a b (zeros room) .1 ≡ zeros room → ⊥
   not-idle (refusal n r o) h k = not-refused h
   not-idle (good n) h k =
-      let x = law room source everywhere (early ∷ late ∷ []) are-bytes in-two .merges t a b [] 1 [] _ whole parts (done front front out-long h stop) .1 refl in
+      let x = cut-law .merges t a b [] 1 [] _ whole parts (done front front out-long h stop) .1 refl in
       let same : t ≡ take n (zeros room) = cc in
-      let c = e .counts room source everywhere t are-bytes whole in
-      let l : c .0 ≡ here ∷ [] = cc (c .1, taken) in
-      let none : countIn (byOne .kind .counts) (rowsIn (byOne .kind) t) first-name ≡ 0 = rw (same, zeros-none (byOne .kind) room n) in
-      let some : 1 ≤ countIn (byOne .kind .counts) (rowsIn (byOne .kind) t) first-name = rw (c .2 first-name, l) counted in
-      omega arith
+      let c = e .counts room source everywhere (zeros room) t are-bytes whole in
+      Option·none-ne-some _ (sym (zeros-none (byOne .kind) room n) ∙ ap (rowsOf (byOne .kind)) (sym same) ∙ c .3)
 
 pub merge-shut-out : MergeShutOut byOne
 merge-shut-out f g e law =
-    let w = e .tallied-where room source everywhere are-bytes .1 can in
-    let p = law room source everywhere (early ∷ late ∷ []) are-bytes in-two .exactly .0 w in
-    go (w .0) (w .1) (p .0) (p .1)
+    let w = e .tallied-where source everywhere (zeros room) are-bytes .1 can-out in
+    let u : Gives f room source everywhere (zeros room) (w .0) = subst (λ (r : ℕ). Gives f r source everywhere (zeros room) (w .0)) out-long (w .1) in
+    let p = law room source everywhere (early ∷ late ∷ []) (zeros room) outs are-bytes in-two out-long (out-long, (out-long, tt)) .exactly .0 (w .0, u) in
+    go (w .0) u (p .0) (p .1)
   where
-    go : (t : List ℕ) → Gives f room source everywhere t → (ts : List (List ℕ)) → AllGive byOne f room source (early ∷ late ∷ []) ts
+    go : (t : List ℕ) → Gives f room source everywhere (zeros room) t → (ts : List (List ℕ)) → AllGive byOne f room source (early ∷ late ∷ []) outs ts
         → (merging.DoesNothing (byOne .kind) g → ⊥) × (merging.RefusesAll (byOne .kind) g → ⊥)
     go t w [] p = absurd p
     go t w (a ∷ []) p = absurd (p .1)

@@ -1,9 +1,12 @@
--- What holds of tallying: the counts of demand 2, and demand 3, whole. All of it is over the definitions that the contracts cite.
+-- What holds of tallying: the counts of demand 2, and demand 3, whole (document 01, 'Cuts and merges' and 'What may not slip through'). All of it is
+-- over the definitions that the contracts cite. Sheets are proved in proofs/SheetTaken.antt and proofs/Streaming.antt, demand 2 in
+-- proofs/Exactness.antt and proofs/Positions.antt, demand 3 in proofs/Partitions.antt, the rest in proofs/ShutOut.antt and proofs/NamesAlone.antt.
 use Prim.Native.Nat.{ℕ, suc, _+_, _<_, _≤_, _^_}
 use mathlib.Core.Path.{_≡_}
 use mathlib.Core.Logic.{_↔_}
 use mathlib.Core.Bool.{true}
 use mathlib.Core.List.{List, [], _∷_, _++_}
+use mathlib.Core.Option.{some}
 use lib.IntN.{ℤ}
 use lib.ListN.{length, take}
 use Rattle.wire.specs.Bytes.{Bytes}
@@ -18,11 +21,11 @@ use Rattle.mapblock.specs.Block.{block}
 use Rattle.mapblock.specs.Questions.{blockOf, nameAt}
 use Rattle.mapblock.specs.Valid.{Valid}
 use Rattle.tally.specs.Rows.{countIn}
-use Rattle.tally.specs.Tally.{tally}
-use Rattle.tally.specs.Theorems.{Merger, merged, Merges, MergeLaw, EmptyChangesNothing, rowsIn, sumOf, Fits}
+use Rattle.tally.specs.Tally.{tally, rowsOf}
+use Rattle.tally.specs.Theorems.{Merger, merged, Merges, MergeLaw, EmptyChangesNothing, sumOf, Fits}
 use Rattle.tally.specs.Theorems as merging
 use Rattle.meter.specs.Standing.{Part, goodPart, Placed, Node, nodesIn}
-use Rattle.meter.specs.Counting.{Measure, tallyOf, amountOf, byOne}
+use Rattle.meter.specs.Counting.{Measure, MeasureRows, tallyOf, amountOf, byOne}
 use Rattle.meter.specs.Tallying.{thenAnswer, placedAt, tallyBlockOf}
 use Rattle.meter.specs.Sheet.{Misframed, SheetRecord, frame, sheetHead, sheet, sheetOf, tallySheetOf}
 use Rattle.meter.specs.Streaming.{State, startOf, stepsOf, finishOf}
@@ -109,9 +112,8 @@ PositionsApart = (x : Source) (p : Part) (l : List Placed) → blocksOf x ≡ go
 abbrev pub Tallier : Type 0
 Tallier = Source → Part → List ℕ → Answer ℕ × List ℕ
 
--- the part's tally, by an output as long as the room and read at the length told
-pub record Gives (f : Tallier) (room : ℕ) (x : Source) (p : Part) (t : List ℕ) : Type 0 where
-  pub out : List ℕ
+-- the part's tally, in an output as long as the room, whatever it held, read at the length told
+pub record Gives (f : Tallier) (room : ℕ) (x : Source) (p : Part) (out t : List ℕ) : Type 0 where
   pub size : length out ≡ room
   pub told : ℕ
   pub done : f x p out .0 ≡ good told
@@ -137,67 +139,84 @@ module _ (m : Measure) where
 
   -- for every name the tally counts the positions in the part that bear it
   abbrev pub CountsOf : Source → Part → List ℕ → Type 0
-  CountsOf x p t = (l : List Placed) × (blocksOf x ≡ good l) × ((n : List ℕ) → countIn (m .kind .counts) (rowsIn (m .kind) t) n ≡ amountOf m n (nodesIn p l))
+  CountsOf x p t =
+      (l : List Placed) × (r : MeasureRows m) × (blocksOf x ≡ good l) × (rowsOf (m .kind) t ≡ some r) × ((n : List ℕ) → countIn (m .kind .counts) r n ≡ amountOf m n (nodesIn p l))
 
   pub record Exact (f : Tallier) : Type 0 where
     -- "Tallying is refused only where document 01 says so"
-    pub tallied-where : (room : ℕ) (x : Source) (p : Part) → IsBytes x → ((t : List ℕ) × Gives f room x p t) ↔ Talliable room x p
+    pub tallied-where : (x : Source) (p : Part) (out : List ℕ) → IsBytes x → ((t : List ℕ) × Gives f (length out) x p out t) ↔ Talliable (length out) x p
     -- "and gives each name the exact number of node positions"
-    pub counts : (room : ℕ) (x : Source) (p : Part) (t : List ℕ) → IsBytes x → Gives f room x p t → CountsOf x p t
+    pub counts : (room : ℕ) (x : Source) (p : Part) (out t : List ℕ) → IsBytes x → Gives f room x p out t → CountsOf x p t
 
   -- ---- demand 3: cuts
-  -- the tallies of all the parts
-  abbrev pub AllGive : Tallier → ℕ → Source → List Part → List (List ℕ) → Type 0
-  AllGive f room x [] [] = Unit {0}
-  AllGive f room x [] (t ∷ ts) = ⊥
-  AllGive f room x (p ∷ ps) [] = ⊥
-  AllGive f room x (p ∷ ps) (t ∷ ts) = Gives f room x p t × AllGive f room x ps ts
+  -- an output for each part, as long as the room
+  abbrev pub Outputs : ℕ → List Part → List (List ℕ) → Type 0
+  Outputs room [] [] = Unit {0}
+  Outputs room [] (out ∷ outs) = ⊥
+  Outputs room (p ∷ ps) [] = ⊥
+  Outputs room (p ∷ ps) (out ∷ outs) = (length out ≡ room) × Outputs room ps outs
 
-  pub record CutLaw (f : Tallier) (g : Merger) (room : ℕ) (x : Source) (whole : Part) (parts : List Part) : Type 0 where
+  -- the tallies of all the parts, each in its output
+  abbrev pub AllGive : Tallier → ℕ → Source → List Part → List (List ℕ) → List (List ℕ) → Type 0
+  AllGive f room x [] outs [] = Unit {0}
+  AllGive f room x [] outs (t ∷ ts) = ⊥
+  AllGive f room x (p ∷ ps) outs [] = ⊥
+  AllGive f room x (p ∷ ps) [] (t ∷ ts) = ⊥
+  AllGive f room x (p ∷ ps) (out ∷ outs) (t ∷ ts) = Gives f room x p out t × AllGive f room x ps outs ts
+
+  pub record CutLaw (f : Tallier) (g : Merger) (room : ℕ) (x : Source) (whole : Part) (parts : List Part) (out : List ℕ) (outs : List (List ℕ)) : Type 0 where
     -- the whole is tallied exactly when every part is and the parts' sum fits
-    pub exactly : ((t : List ℕ) × Gives f room x whole t) ↔ ((ts : List (List ℕ)) × AllGive f room x parts ts × Fits (m .kind) room (sumOf (m .kind) ts))
+    pub exactly : ((t : List ℕ) × Gives f room x whole out t) ↔ ((ts : List (List ℕ)) × AllGive f room x parts outs ts × Fits (m .kind) room (sumOf (m .kind) ts))
     -- each counts the positions, the whole and every part alike
-    pub counts : (p : Part) (t : List ℕ) → Gives f room x p t → CountsOf x p t
+    pub counts : (p : Part) (out t : List ℕ) → Gives f room x p out t → CountsOf x p t
     -- one part has the whole's bytes
-    pub one-part : (t u : List ℕ) → Gives f room x whole t → AllGive f room x parts (u ∷ []) → u ≡ t
+    pub one-part : (t u : List ℕ) → Gives f room x whole out t → AllGive f room x parts outs (u ∷ []) → u ≡ t
     -- of two parts or more no merge is refused, and as many merges as leave one leave the whole's bytes
     pub merges : (t a b : List ℕ) (more : List (List ℕ)) (made : ℕ) (log : List ℕ) (left : List (List ℕ))
-        → Gives f room x whole t → AllGive f room x parts (a ∷ b ∷ more) → Merges g room (a ∷ b ∷ more) made log left
+        → Gives f room x whole out t → AllGive f room x parts outs (a ∷ b ∷ more) → Merges g room (a ∷ b ∷ more) made log left
         → (log ≡ []) × (suc made ≡ length (a ∷ b ∷ more) → left ≡ t ∷ [])
 
-  -- for every block or sheet and every list of cuts
+  -- for every block or sheet and every list of cuts, whatever the outputs held
   abbrev pub EveryCut : Tallier → Merger → Type 0
-  EveryCut f g = (room : ℕ) (x : Source) (whole : Part) (parts : List Part) → IsBytes x → Cuts whole parts → CutLaw f g room x whole parts
+  EveryCut f g =
+      (room : ℕ) (x : Source) (whole : Part) (parts : List Part) (out : List ℕ) (outs : List (List ℕ)) → IsBytes x → Cuts whole parts
+      → length out ≡ room → Outputs room parts outs → CutLaw f g room x whole parts out outs
 
   -- of any list of parts in which each node of the whole lies in exactly one
   abbrev pub PartitionLaw : Tallier → Merger → Type 0
-  PartitionLaw f g = (room : ℕ) (x : Source) (whole p : Part) (ps : List Part) → IsBytes x → Partition whole (p ∷ ps) → CutLaw f g room x whole (p ∷ ps)
+  PartitionLaw f g =
+      (room : ℕ) (x : Source) (whole p : Part) (ps : List Part) (out : List ℕ) (outs : List (List ℕ)) → IsBytes x → Partition whole (p ∷ ps)
+      → length out ≡ room → Outputs room (p ∷ ps) outs → CutLaw f g room x whole (p ∷ ps) out outs
 
-  -- Demand 3: the merge law, that the empty tally changes nothing, and the cut law.
+  -- Demand 3, over demand 2's counts: the merge law, that the empty tally changes nothing, and the cut law.
   pub record Demand3 : Type 0 where
+    pub exact : Exact tallied
     pub merges : MergeLaw (m .kind)
     pub empty : EmptyChangesNothing (m .kind)
     pub cuts : EveryCut tallied (merged (m .kind))
 
   -- ---- what may not slip through: document 01, the section of that name
   abbrev pub AlwaysEmpty : Tallier → Type 0
-  AlwaysEmpty f = (room : ℕ) (x : Source) (p : Part) (t : List ℕ) → IsBytes x → Gives f room x p t → t ≡ tally (m .kind) .encode []
+  AlwaysEmpty f = (room : ℕ) (x : Source) (p : Part) (out t : List ℕ) → IsBytes x → Gives f room x p out t → t ≡ tally (m .kind) .encode []
 
   abbrev pub RefusesAll : Tallier → Type 0
-  RefusesAll f = (room : ℕ) (x : Source) (p : Part) (t : List ℕ) → Gives f room x p t → ⊥
+  RefusesAll f = (room : ℕ) (x : Source) (p : Part) (out t : List ℕ) → Gives f room x p out t → ⊥
 
   -- a tally that counts of some name what does not stand there
   pub record Invents (f : Tallier) : Type 0 where
     pub room : ℕ
     pub x : Source
     pub p : Part
+    pub out : List ℕ
     pub t : List ℕ
     pub bytes : IsBytes x
-    pub gives : Gives f room x p t
+    pub gives : Gives f room x p out t
     pub l : List Placed
     pub taken : blocksOf x ≡ good l
+    pub r : MeasureRows m
+    pub rows : rowsOf (m .kind) t ≡ some r
     pub name : List ℕ
-    pub differs : countIn (m .kind .counts) (rowsIn (m .kind) t) name ≡ amountOf m name (nodesIn p l) → ⊥
+    pub differs : countIn (m .kind .counts) r name ≡ amountOf m name (nodesIn p l) → ⊥
 
   -- tallying that is exact does none of this
   abbrev pub ShutOut : Type 0

@@ -181,6 +181,7 @@ merge-law k room a b more made log left h m =
     let i = kept k m h in
     let r = i .ready (λ t e. absurd (two t e)) in
     record {
+      tallies = i .all;
       same = λ n. sym (sum-counts k left n) ∙ ap (λ (l : KindRows k). countIn (k .counts) l n) (i .adds) ∙ sum-counts k (a ∷ b ∷ more) n;
       fewer = i .fewer;
       overfull = i .full;

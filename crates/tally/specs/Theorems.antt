@@ -85,7 +85,8 @@ module _ (k : Kind) where
   Overfull (n ∷ log) = ((n ≡ tooMany) ⊎ (n ≡ noRoom)) × Overfull log
 
   pub record AddsUp (room : ℕ) (start : List (List ℕ)) (made : ℕ) (log : List ℕ) (left : List (List ℕ)) : Type 0 where
-    -- what is left adds up, name by name, to the start
+    -- what is left are well-formed tallies, and they add up, name by name, to the start
+    pub tallies : AllTallies left
     pub same : (n : List ℕ) → countAcross left n ≡ countAcross start n
     -- each merge that is done takes one away
     pub fewer : made + length left ≡ length start
