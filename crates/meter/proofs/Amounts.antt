@@ -135,7 +135,7 @@ module _ (m : Measure) where
   tally-fewer (x ∷ l) = omega (arith, add-fewer (rowOf m x) (tallyOf m l), tally-fewer l)
 
   -- ---- two lists of nodes
-  amount-append : (n : List ℕ) (l k : List Node) → amountOf m n (l ++ k) ≡ m .kind .counts .add (amountOf m n l) (amountOf m n k)
+  pub amount-append : (n : List ℕ) (l k : List Node) → amountOf m n (l ++ k) ≡ m .kind .counts .add (amountOf m n l) (amountOf m n k)
   amount-append n l k = ap (m .total) (those-append (bears n) l k) ∙ total-append (bearing n l) (bearing n k)
     where
       total-append : (a b : List Node) → m .total (a ++ b) ≡ m .kind .counts .add (m .total a) (m .total b)

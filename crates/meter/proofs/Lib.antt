@@ -19,6 +19,7 @@ pub mod SheetPuts
 pub mod Exactness
 pub mod Positions
 pub mod NamesAlone
+pub mod AirBlocks
 pub mod ShutOut
 -- The program.
 pub mod Sheetcount

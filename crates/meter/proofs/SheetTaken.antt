@@ -30,7 +30,7 @@ item-ok : (seen : List SheetRecord) (r : SheetRecord) → item seen .Ok r → fr
 unfolding such
 item-ok seen r h = (h .0 .0, h .0 .1, h .1)
 
-ok-item : (seen : List SheetRecord) (r : SheetRecord) → frame .Ok r → isKey (r .key) ≡ true → rises (lastKey seen) (r .key) ≡ true → item seen .Ok r
+pub ok-item : (seen : List SheetRecord) (r : SheetRecord) → frame .Ok r → isKey (r .key) ≡ true → rises (lastKey seen) (r .key) ≡ true → item seen .Ok r
 unfolding such
 ok-item seen r f k u = ((f, k), u)
 
@@ -112,7 +112,7 @@ sheet-ok : (rs : List SheetRecord) → sheet .Ok rs → (length rs < 256 ^ 4) ×
 unfolding sheet behind along listed items
 sheet-ok rs h = h .1 .1
 
-ok-sheet : (rs : List SheetRecord) → length rs < 256 ^ 4 → OkItems item (length rs) [] rs → sheet .Ok rs
+pub ok-sheet : (rs : List SheetRecord) → length rs < 256 ^ 4 → OkItems item (length rs) [] rs → sheet .Ok rs
 unfolding sheet behind along such number run listed items
 ok-sheet rs h k = (((refl, mark-bytes), refl), ((lit< tt, refl), (h, k)))
 

@@ -218,9 +218,14 @@ module _ (m : Measure) where
     pub name : List ℕ
     pub differs : countIn (m .kind .counts) r name ≡ amountOf m name (nodesIn p l) → ⊥
 
+  -- a sheet's tally that works on the first record and nods at the rest
+  abbrev pub FirstAlone : Tallier → Type 0
+  FirstAlone f = (room spare : ℕ) (s : List ℕ) (p : Part) (out t : List ℕ) (x : Placed) (l : List Placed) (r : MeasureRows m) → sheetOf s ≡ good (x ∷ l)
+      → Gives f room (whole-sheet s spare) p out t → rowsOf (m .kind) t ≡ some r → (n : List ℕ) → countIn (m .kind .counts) r n ≡ amountOf m n (nodesIn p (x ∷ []))
+
   -- tallying that is exact does none of this
   abbrev pub ShutOut : Type 0
-  ShutOut = (f : Tallier) → Exact f → (AlwaysEmpty f → ⊥) × (RefusesAll f → ⊥) × (Invents f → ⊥)
+  ShutOut = (f : Tallier) → Exact f → (AlwaysEmpty f → ⊥) × (RefusesAll f → ⊥) × (Invents f → ⊥) × (FirstAlone f → ⊥)
 
   -- and with the cut law over it, the merge neither does nothing nor refuses all
   abbrev pub MergeShutOut : Type 0
