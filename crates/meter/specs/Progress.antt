@@ -61,5 +61,10 @@ toldFinish (finishes.Tallied n) = good n
 toldFinish (finishes.NoRoom i) = refusal noRoom i 0
 toldFinish (finishes.TooMany i) = refusal tooMany i 0
 
+-- on a refusal a lent buffer is as it was
+abbrev pub Untouched : {A : Type 0} → Answer A → List ℕ → List ℕ → Type 0
+Untouched (good a) before after = Unit {0}
+Untouched (refusal n r o) before after = after ≡ before
+
 abbrev pub FinishTold : List ℕ → List ℕ → FinishAnswer → Answer (List ℕ) → Type 0
 FinishTold before after r a = Answered (toldFinish r) before after a

@@ -18,7 +18,7 @@ ghost use lib.ListN.{length};
 ghost use Rattle.tally.specs.Walks.{Answered};
 ghost use Rattle.meter.specs.Counting.{byOne};
 ghost use Rattle.meter.specs.Streaming.{State};
-ghost use Rattle.meter.specs.Progress.{Carries, Steps};
+ghost use Rattle.meter.specs.Progress.{Carries, Steps, Untouched};
 ghost use Rattle.meter.specs.SheetTold.{toldSheet};
 ghost use Rattle.meter.specs.Program.{mostTally, blockLengthOf, toldLength, countedFrom, NextTold};
 
@@ -57,8 +57,7 @@ pub enum Next {
     Stop(SheetAnswer),
 }
 
-// Takes the record at the front of some bytes, unless its block is too long. What the spare, `places` and `room` hold afterwards is open, as
-// of a step.
+// Takes the record at the front of some bytes, unless its block is too long. The spare, `places` and `room` are as after a step.
 pub fn take_next(
     p: Progress,
     s: &[u8],
@@ -94,10 +93,11 @@ pub fn take_next(
     }
 }
 
-// Behind the last record: no byte more, and then the tally.
+// Behind the last record: no byte more, and then the tally. A refusal leaves the output as it was.
 pub fn end_sheet(p: Progress, rest: &[u8], spare: &[u8], out: &mut [u8]) -> SheetAnswer
     ensures { λ r. ⌜ ((w : State byOne) → Carries (now (spare .entry)) p w → length (now (out .entry)) ≡ mostTally → mostTally ≤ length (now (spare .entry))
         → Answered (toldSheet r) (now (out .entry)) (now (out .exit)) (countedFrom 0 w (now (rest .entry)))) ⌝ }
+    ensures { λ r. ⌜ Untouched (toldSheet r) (now (out .entry)) (now (out .exit)) ⌝ }
 {
     if 0 < rest.len() {
         return SheetAnswer::Malformed(p.records);

@@ -87,7 +87,7 @@ same-length-4 : tie.Need-same-length-4
 same-length-4 c = search needs
 
 returns-4 : tie.Need-returns-4
-returns-4 c = (c .before .before .before .before .before .before .before .before .before .before .before .take-records .ensures .0, λ i d k f. let x = walked (c .before .before .before .before .before .before .before .before .before .before .before) i d k (c .before .before .before .before .before .before .before .q .given .1) in put-finished (part (c .before .before .before .before .before .before .before .before .before .before .before .before .before .before .before .before .before .before .before .before .before .before .before .before .before .args .lot) (c .before .before .before .before .before .before .before .before .before .before .before .before .before .before .before .before .before .before .before .before .before .before .before .before .before .args .span)) _ (now (c .before .before .before .before .before .before .before .before .before .before .before .before .before .before .before .before .before .before .before .before .before .before .before .before .before .args .out)) (λ i. c .before .before .before .before .before .before .before .before .before .before .before .before .before .before .before .before .before .before .before .before .before .before .before .before .shared-slice-known .given i .fits) (headed (c .before .before .before .before .before .before .before .before .before .before .before .before .before .before .before .before .before .before)) (x .0) (c .finished .result) (c .before .before .before .finish .result) (x .2) (c .before .before .before .finish .ensures (x .0) (x .1) (omega (arith, c .before .before .before .before .before .before .before .before .before .before .before .take-records .ensures .0, f))) (c .finished .ensures))
+returns-4 c = (c .before .before .before .before .before .before .before .before .before .before .before .take-records .ensures .0, λ i d k f. let x = walked (c .before .before .before .before .before .before .before .before .before .before .before) i d k (c .before .before .before .before .before .before .before .q .given .1) in put-finished (part (c .before .before .before .before .before .before .before .before .before .before .before .before .before .before .before .before .before .before .before .before .before .before .before .before .before .args .lot) (c .before .before .before .before .before .before .before .before .before .before .before .before .before .before .before .before .before .before .before .before .before .before .before .before .before .args .span)) _ (now (c .before .before .before .before .before .before .before .before .before .before .before .before .before .before .before .before .before .before .before .before .before .before .before .before .before .args .out)) (λ i. c .before .before .before .before .before .before .before .before .before .before .before .before .before .before .before .before .before .before .before .before .before .before .before .before .shared-slice-known .given i .fits) (headed (c .before .before .before .before .before .before .before .before .before .before .before .before .before .before .before .before .before .before)) (x .0) (c .finished .result) (c .before .before .before .finish .result) (x .2) (c .before .before .before .finish .ensures .0 (x .0) (x .1) (omega (arith, c .before .before .before .before .before .before .before .before .before .before .before .take-records .ensures .0, f))) (c .finished .ensures))
 
 pub from-start-spec : {M : Type 1} → statement M
 from-start-spec =

@@ -139,7 +139,7 @@ returns-3 c =
     let y = r .before .before .before .before .before .before .before .before .before in
     let s = begun (headed y) in
     let b = r .read-full2 .last .1 .0 ++ drop 1 (y .take-all .last .1 .1 .0) in
-    counted-ended (count y) (fits y) (now (s .args .out)) (e .end-sheet .last .1 .1 .1 .0) (take (r .read-full2 .result) b) (e .end-sheet .result) (bytes-take (r .read-full2 .result) b (λ j. k .slice-known7 .given j .fits)) (subst (AllTold (count y) (y .take-all .last .1 .1 .1 .0)) (r .before .before .before .q .given .1) (y .take-all .ensures .1)) (λ w h. e .end-sheet .ensures w h (s .pre .0 .out-long) (omega (arith, y .take-all .ensures .0 ∙ s .pre .0 .spare-long)))
+    counted-ended (count y) (fits y) (now (s .args .out)) (e .end-sheet .last .1 .1 .1 .0) (take (r .read-full2 .result) b) (e .end-sheet .result) (bytes-take (r .read-full2 .result) b (λ j. k .slice-known7 .given j .fits)) (subst (AllTold (count y) (y .take-all .last .1 .1 .1 .0)) (r .before .before .before .q .given .1) (y .take-all .ensures .1)) (λ w h. e .end-sheet .ensures .0 w h (s .pre .0 .out-long) (omega (arith, y .take-all .ensures .0 ∙ s .pre .0 .spare-long)))
 
 pub read-sheet-spec : {M : Type 1} → statement M
 read-sheet-spec =
