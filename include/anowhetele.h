@@ -13,7 +13,8 @@
 extern "C" {
 #endif
 
-/* The numbers that a call comes back with. Every function refuses bad input with one of them; on a refusal all other values are 0. */
+/* The numbers that a call comes back with. A function that can refuse answers bad input with one of them, its record and its offset; all other
+ * values are then 0. */
 /* numbers: made by bindings/make from bindings/numbers.txt */
 enum {
     ANOW_DONE = 0, /* done */

@@ -1,3 +1,4 @@
+-- What a host is handed: document 01, 'The numbers a call comes back with'.
 pub mod Answers
 pub mod Blocks
 pub mod Places

@@ -1,4 +1,4 @@
--- A lot clipped to a block: from which of the sixteen steps on each axis up to which it goes.
+-- A lot clipped to a block, for document 01's "six inclusive node coordinates": from which of the sixteen steps on each axis up to which it goes.
 use Prim.Native.Nat.{ℕ, _/_, _%_, _≤_, min}
 use mathlib.Core.Bool.{Bool, _&&_}
 use lib.Dec.{leb, ltb}

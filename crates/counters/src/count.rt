@@ -1,4 +1,5 @@
-// Counting by content id: each node that lies in the lot raises the counter of its id by one.
+// Counting by content id: each node that lies in the lot raises the counter of its id by one. Counters wrap, and the promise says so; clear ones
+// never do, since a block has 4,096 nodes.
 use crate::clip::Clip;
 use crate::clip::clip_to;
 use mapblock::nodes::NODES;

@@ -1,4 +1,4 @@
--- What adding a block to a running tally promises.
+-- What adding a block to a running tally promises: the rows with what stands of the block in the part, by the definitions of Counting.
 use Prim.Native.Nat.{ℕ, _+_, _<_}
 use mathlib.Core.Path.{_≡_}
 use mathlib.Core.List.{List, [], _∷_}

@@ -1,4 +1,4 @@
--- What the code knows of a sheet between its records, and what its answers say.
+-- What the code knows of a sheet between its records, and what its answers say: document 01, 'The numbers a call comes back with'.
 use Prim.Native.Nat.{ℕ, _*_, _≤_, _<_}
 use mathlib.Core.Path.{_≡_}
 use mathlib.Core.List.{List}

@@ -1,4 +1,4 @@
--- What the answers of tallying a sheet say.
+-- What the answers of tallying a sheet say: document 01, 'The numbers a call comes back with'.
 use Prim.Native.Nat.{ℕ, _+_, _<_}
 use mathlib.Core.Path.{_≡_}
 use mathlib.Core.List.{List}

@@ -1,4 +1,4 @@
--- A sheet tallied a record at a time: start, step and finish.
+-- A sheet tallied a record at a time, in the order of document 01, 'Order': start, step and finish.
 use Prim.Native.Nat.{ℕ, suc}
 use mathlib.Core.Bool.{cond}
 use mathlib.Core.List.{List, [], _∷_}

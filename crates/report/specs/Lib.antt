@@ -1,4 +1,4 @@
--- What is printed.
+-- What is printed, and what the answers of putting it say.
 pub mod Text
 -- What the functions of this crate promise each other.
 pub mod Told

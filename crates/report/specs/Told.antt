@@ -1,4 +1,4 @@
--- What the answers of putting text say.
+-- What the answers of putting text say: document 01, 'The numbers a call comes back with'; and what its passes tell each other.
 use Prim.Native.Nat.{ℕ, _+_, _≤_}
 use mathlib.Core.Path.{_≡_}
 use mathlib.Core.Bool.{Bool}

@@ -1,5 +1,6 @@
 // The counted names at places, which are in the order of their names, added to a running tally: one pass adds to the counts of names that
-// have a row, and where names are new a second one puts their rows, so that no row moves more than twice.
+// have a row, and where names are new a second one puts their rows, so that no row moves more than twice. Sums wrap where the
+// rows are not those of a running tally, of which alone something is promised: no caller has to bound a count.
 use crate::running::Running;
 use names::places::count_at;
 use names::places::name_at;

@@ -1,4 +1,4 @@
--- What is printed.
+-- What the program prints of its input: document 01, 'Program'.
 use Prim.Native.Nat.{ℕ, _≤_}
 use mathlib.Core.Path.{_≡_}
 use mathlib.Core.List.{List}

@@ -1,4 +1,4 @@
--- A name sought among rows, and a row added there.
+-- A name sought among rows, and a row added there, as the functions of this crate tell each other: document 01, "a new row opens its place".
 use Prim.Native.Nat.{ℕ, _+_, _≤_, _<_}
 use mathlib.Core.Path.{_≡_}
 use mathlib.Core.List.{List, [], _∷_, _++_}

@@ -1,4 +1,5 @@
--- What holds of tallies. proofs/WellFormed.antt, proofs/Canon.antt and proofs/MergeLaw.antt prove it.
+-- What holds of tallies: document 01, 'Tallies, lots, spans, sheets', 'Cuts and merges' and 'What may not slip through'. proofs/WellFormed.antt,
+-- proofs/Canon.antt and proofs/MergeLaw.antt prove it.
 use Prim.Native.Nat.{ℕ, suc, _+_, _≤_}
 use mathlib.Core.Path.{_≡_}
 use mathlib.Core.Logic.{_↔_, _⊎_}

@@ -1,4 +1,4 @@
--- What the code's answers say, as document 01 numbers them.
+-- What the code's answers say: document 01, 'The numbers a call comes back with'.
 use Prim.Native.Nat.{ℕ, _+_}
 use mathlib.Core.List.{List}
 use mathlib.Core.Option.{Option, some, none}
