@@ -1,5 +1,5 @@
 -- When a part is tallied, and what its tally counts: demand 2's counts.
-use Prim.Native.Nat.{ℕ, _+_, _*_, _<_, _≤_}
+use Prim.Native.Nat.{ℕ, _*_, _<_, _≤_}
 use mathlib.Core.Path.{_≡_, refl, sym, ap, subst, _∙_}
 use mathlib.Core.Bool.{Bool, true, false, cond}
 use mathlib.Core.List.{List, [], _∷_, _++_}
@@ -7,13 +7,13 @@ use mathlib.Core.Option.{Option, some, Option·getD}
 use native.Mathlib.Nat.{le-refl}
 use native.Mathlib.Omega.{arith}
 use lib.Dec.{leb, lit<}
-use lib.ListN.{length, take, drop, replicate, length-replicate}
+use lib.ListN.{length, take, drop}
 use lib.Seq.{take-append-seam}
 use borrow.Author.Tests.{leb-true, le-leb}
 use Rattle.wire.specs.Bytes.{Bytes}
 use Rattle.wire.specs.Choice.{and-yes, yes-and}
 use Rattle.wire.specs.Answer.{Answer, good, refusal, plain, mapAnswer, lent, no-good, badPart, partsMisfit, noRoom, tooMany}
-use Rattle.tally.specs.Rows.{countIn, Canonical}
+use Rattle.tally.specs.Rows.{Canonical}
 use Rattle.tally.specs.Tally.{tally, rowsOf, limited, mostRows}
 use Rattle.tally.specs.Theorems.{IsTally, rowsIn, Fits}
 use Rattle.tally.proofs.Held.{rows-of-tally, tally-bytewise}

@@ -9,11 +9,11 @@ use lib.IntN.{ℤ}
 use lib.Signed.{leZ}
 use lib.ListN.{drop}
 use Rattle.wire.specs.Ints.{ints}
-use Rattle.wire.specs.Answer.{Answer, good, mapAnswer}
+use Rattle.wire.specs.Answer.{good}
 use Rattle.position.specs.Keys.{splitOf}
 use Rattle.position.specs.declared.key.Coordinates.{Coordinates}
 use Rattle.position.proofs.Theorems.{inverse, nodes-apart}
-use Rattle.meter.specs.Standing.{Part, Placed, Node, inPart, nodeOf, nodesFrom, standing, those}
+use Rattle.meter.specs.Standing.{Placed, Node, inPart, nodeOf, nodesFrom, standing, those}
 use Rattle.meter.specs.Sheet.{rises, recordsFrom}
 use Rattle.meter.specs.Tallying.{placedAt}
 use Rattle.meter.specs.Theorems.{one-block, whole-sheet, Elsewhere, Apart, PositionsApart}

@@ -11,11 +11,10 @@ use lib.Seq.{drop-append-seam}
 use borrow.Author.Tests.{le-leb, lt-leb, leb-true, leb-false, eqb-true, eqb-false, eq-eqb, ne-eqb}
 use Rattle.wire.specs.Bytes.{Bytes, bytes-drop}
 use Rattle.wire.specs.Read.{Read, done, refused}
-use Rattle.wire.specs.Format.{_⨾_, along, run, pair, ends-in}
-use Rattle.wire.specs.Formats.{u32, s64, half64, number, signed, counted}
+use Rattle.wire.specs.Format.{_⨾_, along, run, pair}
+use Rattle.wire.specs.Formats.{u32, s64, half64, number, counted}
 use Rattle.wire.specs.Answer.{Answer, good, refusal, noRoom, sheetMalformed, no-good}
 use Rattle.wire.specs.Told.{Short, short}
-use Rattle.wire.proofs.EveryFormat.{every-format}
 use Rattle.wire.proofs.Steps.{number-told, signed-told}
 use Rattle.position.specs.Keys.{between}
 use Rattle.position.specs.Lots.{axis}
@@ -69,10 +68,6 @@ head-bytes : (r : SheetRecord) → frame .encode r ≡ recordHead .encode (r .ke
 unfolding frame recordHead along _⨾_ counted run
 head-bytes r = sym (append-assoc (s64 {ends = misframed} .encode (r .key)) (u32 {ends = misframed} .encode (length (r .block))) (r .block))
 
-head-size : (h : ℤ × ℕ) → length (recordHead .encode h) ≡ 12
-unfolding recordHead along _⨾_ number signed run
-head-size h = refl
-
 head-ok : (r : SheetRecord) → frame .Ok r → recordHead .Ok (r .key, length (r .block))
 unfolding frame recordHead along _⨾_ counted number
 head-ok r h = (h .0, h .1 .0)
@@ -103,16 +98,6 @@ module _ (i n : ℕ) (s : List ℕ) (b : Bytes s) (h : blockLengthOf i s ≡ goo
 
   pub length-most : n ≤ mostBlock
   length-most = length-read (recordHead .read s) refl .4
-
-  pub length-twelve : 12 ≤ length s
-  length-twelve =
-      let x = length-read (recordHead .read s) refl in
-      omega (arith, head-size (x .0), recordHead .backward s (x .0) (x .1) b (x .2) .ends, ends-in recordHead (x .2))
-
-  pub length-local : (t : List ℕ) → blockLengthOf i (s ++ t) ≡ good n
-  length-local t =
-      let x = length-read (recordHead .read s) refl in
-      wanted i (s ++ t) (every-format recordHead .local s t (x .0) (x .1) b (x .2)) (omega (arith, x .3, x .4)) ∙ ap good (x .3)
 
 -- the length of a record's block is the one that it states
 stated-length : (i : ℕ) (s : List ℕ) (m : ℕ) (r : SheetRecord) (n : ℕ) → Bytes s → frame .read s ≡ done r n → blockLengthOf i s ≡ good m → length (r .block) ≡ m

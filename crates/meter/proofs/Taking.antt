@@ -115,9 +115,6 @@ module _ (p : Part) (w : State byOne) (s : List ℕ) where
       framed (done r m) f = stepped r m f (stepOf byOne p w r) refl
 
   module _ {v : State byOne} {n : ℕ} (h : takeOf byOne p w s ≡ good (v, n)) where
-    pub take-inside : n ≤ length s
-    take-inside = ends-in frame (took h .reads)
-
     pub take-number : v .records ≡ suc (w .records)
     take-number = sym (ap (λ (u : State byOne). u .records) (took h .state))
 

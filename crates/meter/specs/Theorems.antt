@@ -1,7 +1,7 @@
 -- What holds of tallying: the counts of demand 2, and demand 3, whole (document 01, 'Cuts and merges' and 'What may not slip through'). All of it is
 -- over the definitions that the contracts cite. Sheets are proved in proofs/SheetTaken.antt and proofs/Streaming.antt, demand 2 in
 -- proofs/Exactness.antt and proofs/Positions.antt, demand 3 in proofs/Partitions.antt, the rest in proofs/ShutOut.antt and proofs/NamesAlone.antt.
-use Prim.Native.Nat.{ℕ, suc, _+_, _<_, _≤_, _^_}
+use Prim.Native.Nat.{ℕ, suc, _<_, _≤_, _^_}
 use mathlib.Core.Path.{_≡_}
 use mathlib.Core.Logic.{_↔_}
 use mathlib.Core.Bool.{true}
