@@ -26,6 +26,7 @@ use Rattle.mapblock.specs.declared.head.Head.{Head}
 use Rattle.mapblock.specs.declared.head.Part.{Part}
 use Rattle.mapblock.specs.declared.head.Sections.{Sections}
 use Rattle.mapblock.specs.declared.scan.Found.{Found}
+use Rattle.mapblock.proofs.Taken.{taken-read}
 use Rattle.mapblock.proofs.SectionsThere.{lists-inside, lists-there, sections-are-rows}
 
 -- ---- what the scan told
@@ -59,14 +60,15 @@ pub taken-as : (s : List ℕ) {w : Found} {n : ℕ} → Bytes s → done w n ≡
 unfolding blockOf
 taken-as s {w} {n} y h =
     let x = map-done found (verdict all s) w n (sym h) in
+    let r = taken-read s (x .0) n y (x .1) in
     subst (TakenAs s) (x .2) record {
       b = x .0;
       n = n;
       reads = x .1;
       answer = ap blockAnswer (x .1);
       shows = refl;
-      inside = lists-inside s (x .0) n y (x .1);
-      nodes = lists-there s (x .0) n y (x .1);
+      inside = lists-inside s (x .0) n y r;
+      nodes = lists-there s (x .0) n y r;
     }
 
 -- ---- the sections

@@ -30,6 +30,8 @@ pub mod Taken
 -- Sections, rows and names.
 pub mod NameWalks
 pub mod SectionsThere
+pub mod RunsThere
+pub mod RowsAlone
 pub mod BlockAnswers
 pub mod NodeNames
 pub mod AskedParts

@@ -6,16 +6,15 @@ use mathlib.Core.Bool.{Bool, true, false, cond}
 use native.Mathlib.Omega.{arith}
 use lib.Dec.{eqb}
 use lib.ListN.{length, take, drop, length-append, length-drop, take-append-drop}
-use lib.Seq.{drop-append-seam, length-take-le}
+use lib.Seq.{length-take-le}
 use borrow.Author.Tests.{eq-eqb, ne-eqb, le-leb, lt-leb}
 use Rattle.wire.specs.Lists.{rest-is}
 use Rattle.wire.specs.Bytes.{Bytes, bytes-drop}
-use Rattle.wire.specs.Read.{done, refused, mapRead, never, map-done}
+use Rattle.wire.specs.Read.{done, mapRead}
 use Rattle.wire.specs.Answer.{good, plain, noSuch}
-use Rattle.wire.specs.Format.{run, such, _⨾_, along, encodeItems, ends-in}
-use Rattle.wire.specs.Formats.{counted}
+use Rattle.wire.specs.Format.{encodeItems}
 use Rattle.mapblock.specs.Data.{NameRow}
-use Rattle.mapblock.specs.Layout.{all, unused, nameRow}
+use Rattle.mapblock.specs.Layout.{all, nameRow}
 use Rattle.mapblock.specs.Block.{idAt}
 use Rattle.mapblock.specs.Params.{idIn}
 use Rattle.mapblock.specs.Table.{allRows}
@@ -23,15 +22,11 @@ use Rattle.mapblock.specs.Rows.{part, nameFields}
 use Rattle.mapblock.specs.Sections.{sections, within}
 use Rattle.mapblock.specs.Questions.{nameOf, spotOf, nameSpot, nodeOf, NameRun}
 use Rattle.mapblock.specs.Theorems.{Holds, VeryBytes}
-use Rattle.mapblock.specs.declared.fault.Fault.{Fault}
 use Rattle.mapblock.specs.declared.head.Part.{Part}
 use Rattle.mapblock.specs.declared.names.NameFields.{NameFields}
 use Rattle.mapblock.specs.declared.scan.Found.{Found}
-use Rattle.mapblock.proofs.Readings.{num}
 use Rattle.mapblock.proofs.Entries.{id-same}
-use Rattle.mapblock.proofs.ListLengths.{num-length}
-use Rattle.mapblock.proofs.GoodRows.{name-ok}
-use Rattle.mapblock.proofs.NameWalks.{seen-same, row-bytes, row-length, head-length, rowHead, row-inside, first-row, all-run}
+use Rattle.mapblock.proofs.NameWalks.{row-bytes, row-length, head-length, rowHead, row-inside, first-row, all-run}
 use Rattle.mapblock.proofs.Taken.{taken}
 use Rattle.mapblock.proofs.SectionsThere.{part-holds, sections-are-rows}
 use Rattle.mapblock.proofs.BlockAnswers.{TakenAs}

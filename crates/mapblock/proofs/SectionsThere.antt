@@ -1,28 +1,30 @@
--- A block that is taken: its param lists and its sections lie in the bytes, and the sections hold their rows.
-use Prim.Native.Nat.{ℕ, _+_, _-_, _*_, _≤_}
+-- A block that was read has its param lists in the bytes; one that is taken has its sections there, and they hold their rows.
+use Prim.Native.Nat.{ℕ, suc, _+_, _-_, _*_, _≤_}
 use mathlib.Core.Path.{_≡_, refl, ap, sym, subst⁻¹, _∙_}
 use mathlib.Core.List.{List, [], _++_, append-assoc, append-nil}
 use mathlib.Core.Bool.{Bool, true, false, cond, not}
+use native.Mathlib.Nat.{suc-mul, mul-comm, mul-le-mul-right}
 use native.Mathlib.Omega.{arith}
 use lib.Dec.{eqb}
-use lib.ListN.{length, drop, length-append, length-drop}
+use lib.ListN.{length, getD, take, drop, length-append, length-drop}
 use lib.Seq.{drop-at, take-append-seam, drop-drop}
-use Rattle.wire.specs.Bytes.{Bytes}
+use Rattle.wire.specs.Bytes.{Bytes, spelt}
 use Rattle.wire.specs.Read.{done}
-use Rattle.wire.specs.Format.{nothing, such, _⨾_, along, items, encodeItems}
+use Rattle.wire.specs.Format.{Took, nothing, such, _⨾_, along, items, encodeItems}
 use Rattle.wire.specs.Formats.{behind, fixed, listed, only}
 use Rattle.mapblock.specs.Inventory.{Form}
-use Rattle.mapblock.specs.Data.{Block, Saved, Timers, MetadataRow, ObjectRow, unsaved, untimed}
+use Rattle.mapblock.specs.Data.{Block, Saved, Timers, Nodes, MetadataRow, ObjectRow, unsaved, untimed}
 use Rattle.mapblock.specs.Layout.{since, before, all, width, nameRow, metadataRow, objectRow, timerRow, opening, saved, nodes, metadata, earlyTimers, objects, lateTimers, front, rest, steps}
-use Rattle.mapblock.specs.Block.{block, openingOf, savedOf, timersOf, listsAt, frontNamesEnd, verdict}
+use Rattle.mapblock.specs.Block.{block, openingOf, savedOf, timersOf, listsAt, frontNamesEnd, param0At, verdict}
 use Rattle.mapblock.specs.Params.{listsOf}
 use Rattle.mapblock.specs.Rows.{part}
 use Rattle.mapblock.specs.Sections.{rowsTo, sections}
-use Rattle.mapblock.specs.Theorems.{Holds, RowsIn, SectionsAreRows}
+use Rattle.mapblock.specs.Theorems.{Holds, RowsIn, SectionsAreRows, Param0There}
 use Rattle.mapblock.specs.declared.fault.Fault.{Fault}
 use Rattle.mapblock.specs.declared.fault.Fault.the-variants as fault
+use Rattle.wire.proofs.Steps.{number-done}
 use Rattle.mapblock.proofs.Readings.{num}
-use Rattle.mapblock.proofs.Entries.{nodes-done}
+use Rattle.mapblock.proofs.Entries.{entries-at, nodes-done}
 use Rattle.mapblock.proofs.ListLengths.{timersOf24, earlyBy}
 use Rattle.mapblock.proofs.ValidOk.{valid-is-ok}
 use Rattle.mapblock.proofs.Taken.{taken}
@@ -165,10 +167,12 @@ module _ (x : Pieces) where
   nodes-size : length toNodes ≡ frontEnd + length (x .nodes)
   nodes-size = rw (length-append, length-append, first-length (x .inFront) (x .saved)) (omega arith)
 
-  nodes-lie : drop frontEnd whole ≡ x .nodes ++ (x .metadata ++ behindMetadata)
-  nodes-lie =
+  -- whatever follows
+  nodes-lie : (t : List ℕ) → drop frontEnd (whole ++ t) ≡ x .nodes ++ ((x .metadata ++ behindMetadata) ++ t)
+  nodes-lie t =
       let size : length (x .opening ++ names₁) ≡ frontEnd = rw (length-append, first-length (x .inFront) (x .saved)) in
-      ap (drop frontEnd) (simp append-assoc) ∙ drop-at (x .opening ++ names₁) (x .nodes ++ (x .metadata ++ behindMetadata)) frontEnd size
+      let apart : whole ++ t ≡ (x .opening ++ names₁) ++ (x .nodes ++ ((x .metadata ++ behindMetadata) ++ t)) = simp append-assoc in
+      ap (drop frontEnd) apart ∙ drop-at (x .opening ++ names₁) (x .nodes ++ ((x .metadata ++ behindMetadata) ++ t)) frontEnd size
 
   -- up to a piece behind the metadata
   to-size : (p : List ℕ) → length (toNodes ++ (x .metadata ++ p)) ≡ metadataEnd + length p
@@ -262,21 +266,20 @@ module _ (b : Block) where
   unfolding block along steps rest _⨾_
   early-ok h z = rw z at (h .1 .1 .0)
 
--- ---- a block that is taken
-module _ (s : List ℕ) (b : Block) (n : ℕ) (w : Bytes s) (h : verdict all s ≡ done b n) where
+-- ---- a block that was read
+module _ (s : List ℕ) (b : Block) (n : ℕ) (w : Bytes s) (h : block all .read s ≡ done b n) where
   abbrev version : ℕ
   version = b .head .version
 
-  ok : block all .Ok b
-  ok = valid-is-ok b .0 (taken s b n w .0 h .0) .0
-
-  bytes-laid : s ≡ whole (pieces b)
-  bytes-laid = taken s b n w .0 h .1 ∙ block-laid b
+  took : Took (block all .Ok) (block all .encode) s b n
+  took = block all .backward s b n w h
 
   nodes-read : nodes version .read (drop (frontNamesEnd b) s) ≡ done (b .nodes) (length (nodes version .encode (b .nodes)))
-  nodes-read = ap (λ (x : List ℕ). nodes version .read (drop (frontNamesEnd b) x)) bytes-laid
-      ∙ ap (nodes version .read) (nodes-lie (pieces b))
-      ∙ nodes version .forward (b .nodes) (nodes-ok b ok) (metadata version .encode (b .metadata) ++ behindMetadata (pieces b))
+  nodes-read =
+      let behind = metadata version .encode (b .metadata) ++ behindMetadata (pieces b) in
+      ap (λ (x : List ℕ). nodes version .read (drop (frontNamesEnd b) x)) (took .front ∙ ap (λ (x : List ℕ). x ++ drop n s) (block-laid b))
+      ∙ ap (nodes version .read) (nodes-lie (pieces b) (drop n s))
+      ∙ nodes version .forward (b .nodes) (nodes-ok b (took .ok)) (behind ++ drop n s)
 
   -- the param lists lie in the bytes, and are the block's nodes
   pub lists-inside : listsAt b + (4096 * width version + 8192) ≤ length s
@@ -287,14 +290,33 @@ module _ (s : List ℕ) (b : Block) (n : ℕ) (w : Bytes s) (h : verdict all s �
   pub lists-there : b .nodes ≡ listsOf (width version) (drop (listsAt b) s)
   lists-there = nodes-done version (drop (frontNamesEnd b) s) nodes-read .2 ∙ ap (listsOf (width version)) (drop-drop 2 (frontNamesEnd b) s)
 
+pub param0-there : Param0There
+param0-there s b n w h i k =
+    let v = b .head .version in
+    let at : drop (width v * i) (drop (listsAt b) s) ≡ drop (param0At b i) s = drop-drop (width v * i) (listsAt b) s in
+    let end : suc i * width v ≤ 4096 * width v = mul-le-mul-right (width v) k in
+    let room : width v ≤ length (drop (param0At b i) s) = rw length-drop (omega (arith, lists-inside s b n w h, suc-mul i (width v), mul-comm i (width v))) in
+    number-done fault.Ends (width v) (drop (param0At b i) s) room
+    ∙ ap (λ (x : List ℕ). done (spelt 0 (take (width v) x)) (width v)) (sym at)
+    ∙ ap (λ (x : ℕ). done x (width v)) (sym (ap (λ (x : Nodes). getD (x .param0) i 0) (lists-there s b n w h) ∙ entries-at (width v) 4096 (drop (listsAt b) s) i k))
+
+-- ---- a block that is taken
+module _ (s : List ℕ) (b : Block) (n : ℕ) (w : Bytes s) (h : verdict all s ≡ done b n) where
+  ok : block all .Ok b
+  ok = valid-is-ok b .0 (taken s b n w .0 h .0) .0
+
+  bytes-laid : s ≡ whole (pieces b)
+  bytes-laid = taken s b n w .0 h .1 ∙ block-laid b
+
   rows-in : RowsIn (whole (pieces b)) b
   unfolding sections
-  rows-in = record {
-    names = names-hold (pieces b) (names-ending (savedOf b));
-    metadata = metadata-holds (pieces b) (metadata-ending version (b .metadata));
-    objects = objects-hold (pieces b) (objects-ending (b .objects));
-    timers = timers-hold (pieces b) (λ z. early-ending version (timersOf b) (early-ok b ok z)) (late-ending version (timersOf b));
-  }
+  rows-in =
+      let v = b .head .version in record {
+        names = names-hold (pieces b) (names-ending (savedOf b));
+        metadata = metadata-holds (pieces b) (metadata-ending v (b .metadata));
+        objects = objects-hold (pieces b) (objects-ending (b .objects));
+        timers = timers-hold (pieces b) (λ z. early-ending v (timersOf b) (early-ok b ok z)) (late-ending v (timersOf b));
+      }
 
 pub sections-are-rows : SectionsAreRows
 sections-are-rows s b n w h = subst⁻¹ (λ (x : List ℕ). RowsIn x b) (bytes-laid s b n w h) (rows-in s b n w h)

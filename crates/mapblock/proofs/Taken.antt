@@ -45,6 +45,12 @@ taken s b n w = (there, back)
         let r : block all .read s ≡ done b (length s) = every-format (block all) .accepted s b w .1 (ok .0, e) in
         rw (r, eq-eqb (length s) (length s) refl, ok .1, size)
 
+-- what is taken was read to its end
+pub taken-read : (s : List ℕ) (b : Block) (n : ℕ) → Bytes s → verdict all s ≡ done b n → block all .read s ≡ done b n
+taken-read s b n w h =
+    let x = taken s b n w .0 h in
+    every-format (block all) .accepted s b w .1 (valid-is-ok b .0 (x .0) .0, x .1) ∙ ap (done b) (sym (x .2))
+
 pub writes-back : WritesBack
 writes-back s b n w h = sym (taken s b n w .0 h .1)
 

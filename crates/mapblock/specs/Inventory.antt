@@ -1,5 +1,5 @@
 -- An inventory: document 01, 'Block layout'. It runs through the first line that is exactly `EndInventory` with its newline, and is one field.
-use Prim.Native.Nat.{ℕ, suc, zero-le, _+_, _≤_}
+use Prim.Native.Nat.{ℕ, suc, zero-le, _≤_}
 use mathlib.Core.Path.{_≡_, refl, ap, sym, _∙_}
 use mathlib.Core.Logic.{inl}
 use mathlib.Core.Option.{Option, some, none, Option·none-ne-some}

@@ -1,21 +1,27 @@
--- What the definitions promise together. proofs/ValidOk.antt proves the first; `SectionsAreRows` and `VeryBytes` are proved in
--- proofs/SectionsThere.antt and proofs/NodeNames.antt, the others in proofs/Taken.antt.
-use Prim.Native.Nat.{ℕ, _+_, _≤_}
+-- What the definitions promise together, for document 01's 'Reading, looking, writing' and 'What may not slip through'. Proved in proofs/:
+-- `ValidIsOk` in ValidOk.antt, `SectionsAreRows` and `Param0There` in SectionsThere.antt, `VeryBytes` in NodeNames.antt, `RunsAreThere` in
+-- RunsThere.antt, `NeverTwice` in RowsAlone.antt, the others in Taken.antt.
+use Prim.Native.Nat.{ℕ, _+_, _<_, _≤_}
 use mathlib.Core.Path.{_≡_}
 use mathlib.Core.Logic.{_↔_}
 use mathlib.Core.Option.{none}
 use mathlib.Core.List.{List, []}
-use lib.ListN.{length}
+use lib.ListN.{length, getD, drop}
 use Rattle.wire.specs.Bytes.{Bytes}
 use Rattle.wire.specs.Read.{Read, done, refused}
 use Rattle.wire.specs.Format.{encodeItems}
-use Rattle.mapblock.specs.Data.{Block}
-use Rattle.mapblock.specs.Layout.{all, nameRow, metadataRow, objectRow, timerRow}
-use Rattle.mapblock.specs.Block.{block, stray, verdict}
+use Rattle.wire.specs.Formats.{number}
+use Rattle.wire.specs.Answer.{Answer, good, refusal, positionTwice, idTwice, idUnmapped}
+use Rattle.mapblock.specs.Data.{NameRow, MetadataRow, ObjectRow, Block}
+use Rattle.mapblock.specs.Layout.{all, width, nameRow, variable, metadataRow, objectRow, timerRow}
+use Rattle.mapblock.specs.Block.{block, stray, param0At, verdict}
 use Rattle.mapblock.specs.Valid.{Valid}
+use Rattle.mapblock.specs.Rows.{nameFields, metadataFields, objectFields}
 use Rattle.mapblock.specs.Sections.{sections, within}
 use Rattle.mapblock.specs.Questions.{nameAt, nameSpot}
+use Rattle.mapblock.specs.RowQuestions.{nameRowOf, metadataRowOf, objectRowOf, timerRowOf}
 use Rattle.mapblock.specs.declared.fault.Fault.{Fault}
+use Rattle.mapblock.specs.declared.fault.Fault.the-variants as fault
 use Rattle.mapblock.specs.declared.head.Part.{Part}
 
 -- ---- well formed
@@ -91,3 +97,34 @@ SectionsAreRows = (s : List ℕ) (b : Block) (n : ℕ) → Bytes s → verdict a
 -- "The name of a node comes back as the very bytes in the caller's block"
 abbrev pub VeryBytes : Type 0
 VeryBytes = (s : List ℕ) (b : Block) (n : ℕ) → Bytes s → verdict all s ≡ done b n → (i : ℕ) → i ≤ 4095 → Holds s (nameSpot b i) (nameAt b i)
+
+-- ---- rows: document 01, 'Reading, looking, writing'
+-- the runs of a row of metadata; in version 22 its variables and its inventory are empty, from 23 its content
+pub record MetadataRunsIn (v : ℕ) (s : List ℕ) (r : MetadataRow) : Type 0 where
+  pub content : Holds s (metadataFields v r .content) (r .content)
+  pub variables : Holds s (metadataFields v r .rows) (encodeItems (λ _. variable v) [] (r .variables))
+  pub inventory : Holds s (metadataFields v r .inventory) (r .inventory)
+
+-- The runs that a row question tells hold the row's bytes.
+pub record RunsAreThere : Type 0 where
+  pub name : (s : List ℕ) (r : NameRow) (n : ℕ) → Bytes s → nameRow all [] .read s ≡ done r n → Holds s (nameFields r .name) (r .name)
+  pub metadata : (v : ℕ) (s : List ℕ) (r : MetadataRow) (n : ℕ) → Bytes s → metadataRow v [] .read s ≡ done r n → MetadataRunsIn v s r
+  pub object : (s : List ℕ) (r : ObjectRow) (n : ℕ) → Bytes s → objectRow .read s ≡ done r n → Holds s (objectFields r .content) (r .content)
+
+-- an answer without the numbers 5, 6 and 8
+abbrev pub Alone : {A : Type 0} → Answer A → Type 0
+Alone (good a) = Unit {0}
+Alone (refusal n r o) = (n ≡ positionTwice → ⊥) × (n ≡ idTwice → ⊥) × (n ≡ idUnmapped → ⊥)
+
+-- "it judges the front row alone (so never 5, 6 or 8)"
+pub record NeverTwice : Type 0 where
+  pub name : (s : List ℕ) → Alone (nameRowOf s)
+  pub metadata : (v : ℕ) (s : List ℕ) → Alone (metadataRowOf v s)
+  pub object : (s : List ℕ) → Alone (objectRowOf s)
+  pub timer : (s : List ℕ) → Alone (timerRowOf s)
+
+-- ---- number 8's place: document 01, 'The numbers a call comes back with'
+-- "place of the first such node's param0": where the verdict puts it, the node's param0 is read.
+abbrev pub Param0There : Type 0
+Param0There = (s : List ℕ) (b : Block) (n : ℕ) → Bytes s → block all .read s ≡ done b n → (i : ℕ) → i < 4096
+    → number {ends = fault.Ends} (width (b .head .version)) .read (drop (param0At b i) s) ≡ done (getD (b .nodes .param0) i 0) (width (b .head .version))

@@ -17,7 +17,6 @@ use crate::timers::TimerFields;
 use crate::timers::TimerRead;
 use crate::timers::timer_row;
 ghost use mathlib.Core.Path.{_≡_};
-ghost use lib.ListN.{length};
 ghost use Rattle.mapblock.specs.RowQuestions.{nameRowOf, metadataRowOf, objectRowOf, timerRowOf, runOf, rowsBehind};
 ghost use Rattle.mapblock.specs.AskedRows.{toldNameRow, toldMetadataRow, toldObjectRow, toldTimerRow};
 

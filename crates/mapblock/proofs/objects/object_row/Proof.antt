@@ -2,7 +2,6 @@ use borrow.Author.Needs.{needs}
 use Rattle.mapblock.proofs.Leaves.{by-number, by-signed, by-counted, told-behind, read-behind}
 use lib.Dec.{lit<}
 use Rattle.mapblock.proofs.OtherRows.{object-no-kind, object-no-x, object-no-y, object-no-z, object-no-content, object-done}
-use Rattle.mapblock.proofs.Leaves.{by-number, by-signed, by-counted, told-behind}
 use Rattle.mapblock.specs.declared.fault.Fault.the-variants as fault
 use Rattle.wire.specs.Formats.{u8, s32, half32, counted}
 use Rattle.wire.specs.Read.{done}

@@ -10,7 +10,6 @@ use Rattle.mapblock.proofs.Readings.{within-ended}
 use Rattle.mapblock.specs.Told.{ended, toldReach, toldStray}
 use Rattle.mapblock.specs.Layout.{lateTimers}
 use Rattle.wire.specs.Read.{done}
-use Rattle.wire.specs.Bytes.{bytes-drop}
 use Rattle.wire.specs.Lists.{rest-is}
 use lib.ListN.{drop, length-drop}
 use denote.Ref.{now}
