@@ -1,5 +1,6 @@
 -- The promises of specs/Theorems.antt, proved.
-use mathlib.Core.Path.{_≡_, refl, ap, subst}
+use Prim.Native.Nat.{_+_, _*_, _/_, _%_}
+use mathlib.Core.Path.{_≡_, refl, ap, sym, subst, _∙_}
 use mathlib.Core.Bool.{Bool, true, false, cond}
 use mathlib.Core.Logic.{inr}
 use native.Mathlib.Omega.{arith}
@@ -11,11 +12,14 @@ use Rattle.wire.specs.Choice.{yes-and, yes-three, and-no, same-test}
 use Rattle.wire.specs.Answer.{good, outOfRange, answered}
 use Rattle.wire.specs.Ints.{ints}
 use Rattle.position.specs.Keys.{between, allInside, keyOf, joinOf, moved, isKey, fields, splitOf}
+use Rattle.position.specs.Nodes.{nodeOn}
 use Rattle.position.specs.Lots.{axis}
-use Rattle.position.specs.Theorems.{Inverse, TriplesHaveKeys, KeysHaveTriples, byFirst, KeyOrder, NodeInWorld, NodesApart, WholeWorld, AllTime, NeverInSpan}
+use Rattle.position.specs.Python.{getIntegerAsBlock}
+use Rattle.position.specs.Theorems.{Inverse, TriplesHaveKeys, KeysHaveTriples, PythonAgrees, byFirst, KeyOrder, NodeIndex, NodeInWorld, NodesApart, WholeWorld, AllTime, NeverInSpan}
 use Rattle.position.specs.declared.key.Coordinates.{Coordinates}
 use Rattle.position.proofs.Ranges.{insides, all-inside}
 use Rattle.position.proofs.Keys.{key-is, key-valid, same-place, splits, fields-inside, joins}
+use Rattle.position.proofs.Python.{python-splits}
 use Rattle.position.proofs.Nodes.{index-is, node-in-world, node-apart}
 
 -- ---- keys
@@ -43,6 +47,12 @@ unfolding splitOf
 keys-have-triples k =
     ((λ e. (fields (natAbs (moved k)), fields-inside k e, rw e)), (λ h. answered (isKey k) outOfRange (fields (natAbs (moved k))) (h .0) (h .2) .0))
 
+pub python-agrees : PythonAgrees
+unfolding splitOf
+python-agrees k e =
+    let c = fields (natAbs (moved k)) in
+    rw e (ap good (sym (ap getIntegerAsBlock (sym (joins k e)) ∙ python-splits (c .x) (c .y) (c .z) (fields-inside k e))))
+
 -- by what holds where the first is less, greater and equal
 by-first : (a b : ℤ) (t rest : Bool) → (ltZ a b ≡ true → t ≡ true) → (ltZ b a ≡ true → t ≡ false) → (a ≡ b → t ≡ rest) → t ≡ byFirst a b rest
 by-first a b t rest f g h = go (ltZ a b) (ltZ b a) refl refl
@@ -62,6 +72,15 @@ key-order a b ia ib =
     (λ e. by-first (a .y) (b .y) _ _ (λ d. omega ints) (λ d. omega ints) (λ d. same-test _ (λ t. omega ints) (λ t. omega ints)))
 
 -- ---- nodes
+pub node-index : NodeIndex
+node-index b x y z hx hy hz =
+    let i = 256 * z + 16 * y + x in
+    let p : i % 16 ≡ x = omega arith in
+    let m : i / 16 ≡ 16 * z + y = omega arith in
+    let q : i / 16 % 16 ≡ y = rw m (omega arith) in
+    let r : i / 256 ≡ z = omega arith in
+    same-place (ap (nodeOn (b .x)) p) (ap (nodeOn (b .y)) q) (ap (nodeOn (b .z)) r)
+
 pub node-in-the-world : NodeInWorld
 node-in-the-world b i e h =
     let v = insides (b .x) (b .y) (b .z) e in

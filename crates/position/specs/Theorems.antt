@@ -1,5 +1,5 @@
--- What the definitions promise together; proofs/Theorems.antt proves each.
-use Prim.Native.Nat.{ℕ, _≤_, _<_}
+-- What the definitions of document 01's 'Position keys' and 'Tallies, lots, spans, sheets' promise together; proofs/Theorems.antt proves each.
+use Prim.Native.Nat.{ℕ, _+_, _*_, _≤_, _<_}
 use mathlib.Core.Path.{_≡_}
 use mathlib.Core.Logic.{_↔_}
 use mathlib.Core.Bool.{Bool, true, false, cond, _&&_}
@@ -7,9 +7,10 @@ use lib.IntN.{ℤ, pos, negsuc}
 use lib.Signed.{leZ, ltZ}
 use Rattle.wire.specs.Answer.{good}
 use Rattle.position.specs.Keys.{allInside, keyOf, joinOf, isKey, splitOf}
-use Rattle.position.specs.Nodes.{isBlock, nodeAt}
+use Rattle.position.specs.Nodes.{isBlock, nodeOn, nodeAt}
 use Rattle.position.specs.Lots.{inLot, goodLot, world}
 use Rattle.position.specs.Spans.{inSpan, goodSpan, allTime}
+use Rattle.position.specs.Python.{getIntegerAsBlock}
 use Rattle.position.specs.declared.key.Coordinates.{Coordinates}
 use Rattle.position.specs.declared.span.Span.{Span}
 
@@ -26,6 +27,10 @@ TriplesHaveKeys = (x y z : ℤ) → (allInside x y z ≡ true) ↔ ((k : ℤ) ×
 abbrev pub KeysHaveTriples : Type 0
 KeysHaveTriples = (k : ℤ) → (isKey k ≡ true) ↔ ((c : Coordinates) × (isBlock c ≡ true) × (splitOf k ≡ good c))
 
+-- "The Python of 000 agrees on these keys": it gives the same coordinates. Of other keys nothing is said, since they are refused here.
+abbrev pub PythonAgrees : Type 0
+PythonAgrees = (k : ℤ) → isKey k ≡ true → splitOf k ≡ good (getIntegerAsBlock k)
+
 -- by two numbers, and where they are equal by the rest
 abbrev pub byFirst : ℤ → ℤ → Bool → Bool
 byFirst a b rest = cond (ltZ a b) true (cond (ltZ b a) false rest)
@@ -39,6 +44,11 @@ abbrev pub KeyOrder : Type 0
 KeyOrder = (a b : Coordinates) → isBlock a ≡ true → isBlock b ≡ true → ltZ (keyOf (a .x) (a .y) (a .z)) (keyOf (b .x) (b .y) (b .z)) ≡ before a b
 
 -- ---- nodes
+-- "Node index in a block = 256·z + 16·y + x": the node there stands x, y and z steps from the block's first.
+abbrev pub NodeIndex : Type 0
+NodeIndex = (b : Coordinates) (x y z : ℕ) → x < 16 → y < 16 → z < 16
+    → nodeAt b (256 * z + 16 * y + x) ≡ record { x = nodeOn (b .x) x; y = nodeOn (b .y) y; z = nodeOn (b .z) z }
+
 -- A node of a block in range lies in the world.
 abbrev pub NodeInWorld : Type 0
 NodeInWorld = (b : Coordinates) (i : ℕ) → isBlock b ≡ true → i < 4096 → let n = nodeAt b i in inLot world (n .x) (n .y) (n .z) ≡ true
