@@ -1,5 +1,5 @@
 -- The lists of a block: how long they are, and where their rows stand.
-use Prim.Native.Nat.{ℕ, zero, suc, _+_, _-_, _<_, _≤_}
+use Prim.Native.Nat.{ℕ, zero, suc, _+_, _-_, _≤_}
 use mathlib.Core.Path.{_≡_, refl, ap, sym, subst, subst⁻¹, _∙_}
 use mathlib.Core.List.{List, [], _∷_, _++_}
 use mathlib.Core.Bool.{Bool, true, false, cond}
@@ -7,7 +7,7 @@ use native.Mathlib.Omega.{arith}
 use lib.Dec.{leb, eqb}
 use lib.ListN.{length, take, drop, length-append}
 use lib.Seq.{drop-drop}
-use borrow.Author.Tests.{le-leb, lt-leb}
+use borrow.Author.Tests.{le-leb}
 use Rattle.wire.specs.Bytes.{Bytes, spelt, spell-length}
 use Rattle.wire.specs.Read.{Read, done, refused, mapRead, onward, never, map-done, bind-done, onward-done}
 use Rattle.wire.specs.Format.{run, nothing, such, _⨾_, along, items, encodeItems, readItems, pair, next}
@@ -168,10 +168,6 @@ module _ (v : ℕ) where
   pub late-rows-length : (k : Timers) → 25 ≤ v → length (lateTimers v .encode k) ≡ 3 + length (encodeItems timerRow [] (k .rows))
   unfolding lateTimers along _⨾_ nothing
   late-rows-length k h = rw (le-leb 25 v h) (fixed-length 2 timerRow 1 10 fault.TimerRowLength (k .rows) ∙ omega arith)
-
-  pub late-none : (s : List ℕ) → v < 25 → lateTimers v .read s ≡ done untimed 0
-  unfolding lateTimers nothing
-  late-none s h = rw (lt-leb 25 v h)
 
   pub late-byte : (s : List ℕ) {k : Timers} {n : ℕ} → 25 ≤ v → lateTimers v .read s ≡ done k n → k .byte ≡ 0
   unfolding lateTimers along _⨾_ nothing

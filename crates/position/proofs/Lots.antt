@@ -5,11 +5,10 @@ use mathlib.Core.Bool.{true}
 use native.Mathlib.Omega.{arith}
 use lib.IntN.{ℤ, pos, negsuc}
 use lib.Signed.{leZ}
-use Rattle.wire.specs.Choice.{and-yes, yes-and, three-yes}
+use Rattle.wire.specs.Choice.{and-yes, yes-and}
 use Rattle.wire.specs.Ints.{up, down, le-yes, yes-le}
 use Rattle.position.specs.Keys.{between}
-use Rattle.position.specs.Lots.{axis, goodLot, inLot}
-use Rattle.position.specs.declared.lot.Lot.{Lot}
+use Rattle.position.specs.Lots.{axis}
 use Rattle.position.proofs.Ranges.{between-yes, yes-between}
 
 -- -32768 ≤ a ≤ b ≤ 32767
@@ -27,12 +26,3 @@ axis-yes a b e =
 pub yes-axis : (a b : ℤ) → Axis a b → axis a b ≡ true
 unfolding axis
 yes-axis a b h = yes-and (yes-le (negsuc 32767) a (omega arith)) (yes-between a b (pos 32767) (h .1) (omega arith))
-
-pub lot-yes : (l : Lot) → goodLot l ≡ true → Axis (l .x0) (l .x1) × Axis (l .y0) (l .y1) × Axis (l .z0) (l .z1)
-lot-yes l e =
-    let h = three-yes (axis (l .x0) (l .x1)) (axis (l .y0) (l .y1)) (axis (l .z0) (l .z1)) e in
-    (axis-yes _ _ (h .0), axis-yes _ _ (h .1), axis-yes _ _ (h .2))
-
--- a place in a lot is between its ends on each axis
-pub in-lot-yes : (l : Lot) (x y z : ℤ) → inLot l x y z ≡ true → (between (l .x0) x (l .x1) ≡ true) × (between (l .y0) y (l .y1) ≡ true) × (between (l .z0) z (l .z1) ≡ true)
-in-lot-yes l x y z = three-yes (between (l .x0) x (l .x1)) (between (l .y0) y (l .y1)) (between (l .z0) z (l .z1))

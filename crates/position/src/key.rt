@@ -22,19 +22,19 @@ pub enum SplitAnswer {
 }
 
 // `&` and not `&&`, here and below: no test can trap, and without a branch there is one return to prove.
-pub fn is_between(a: i32, c: i32, b: i32) -> bool
+pub(crate) fn is_between(a: i32, c: i32, b: i32) -> bool
     ensures { λ r. ⌜ r ≡ between a c b ⌝ }
 {
     (a <= c) & (c <= b)
 }
 
-pub fn is_inside(c: i32) -> bool
+pub(crate) fn is_inside(c: i32) -> bool
     ensures { λ r. ⌜ r ≡ inside c ⌝ }
 {
     is_between(-2048, c, 2047)
 }
 
-pub fn are_inside(x: i32, y: i32, z: i32) -> bool
+pub(crate) fn are_inside(x: i32, y: i32, z: i32) -> bool
     ensures { λ r. ⌜ r ≡ allInside x y z ⌝ }
 {
     is_inside(x) & (is_inside(y) & is_inside(z))
@@ -58,7 +58,7 @@ pub fn join(x: i32, y: i32, z: i32) -> JoinAnswer
 }
 
 // The range is tested on the key itself: the shifted number of a key near 2^63 would not fit.
-pub fn is_key(key: i64) -> bool
+pub(crate) fn is_key(key: i64) -> bool
     ensures { λ r. ⌜ r ≡ isKey key ⌝ }
 {
     (-34_368_129_024 <= key) & (key <= 34_351_347_711)

@@ -1,10 +1,10 @@
 -- What a call comes back with: document 01, 'The numbers a call comes back with'.
-use Prim.Native.Nat.{ℕ, _+_, _≤_}
+use Prim.Native.Nat.{ℕ}
 use mathlib.Core.Path.{_≡_, refl}
 use mathlib.Core.List.{List, _++_}
 use mathlib.Core.Bool.{Bool, true, false, cond}
 use native.Mathlib.Omega.{arith}
-use lib.ListN.{length, drop, length-append, length-drop}
+use lib.ListN.{length, drop}
 
 -- Done, with what the call gives; or refused, with the number, the record and the offset. The record is 0 but for sheets, and the offset
 -- is 0 but for 1 to 8.
@@ -82,7 +82,3 @@ no-good h = let z : _≡_ {A = ℕ} 0 1 = cc in absurd (omega arith)
 pub answered : {A : Type 0} (t : Bool) (n : ℕ) (a d : A) → cond t (good a) (plain n) ≡ good d → (t ≡ true) × (a ≡ d)
 answered true n a d e = (refl, cc)
 answered false n a d e = no-good e
-
--- a buffer keeps its length
-pub lent-length : {A : Type 0} (r before : List A) → length r ≤ length before → length (lent (good r) before) ≡ length before
-lent-length r before h = rw (length-append, length-drop) (omega arith)

@@ -1,6 +1,6 @@
 -- The language of formats. A format says which values can be written, their bytes, and what reading the front of a list finds, with the
 -- laws that tie the three. `E` is the type of faults, and `ends` is the fault of bytes that end inside a field.
-use Prim.Native.Nat.{ℕ, zero, suc, zero-le, _+_, _-_, _≤_}
+use Prim.Native.Nat.{ℕ, zero, suc, zero-le, _+_, _≤_}
 use mathlib.Core.Path.{_≡_, refl, ap, sym, subst₂, _∙_}
 use mathlib.Core.Logic.{_⊎_, inl, inr}
 use mathlib.Core.List.{List, [], _∷_, _++_, append-assoc}

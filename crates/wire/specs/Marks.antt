@@ -6,7 +6,7 @@ use mathlib.Core.Bool.{Bool, true, false, cond}
 use native.Mathlib.Omega.{arith}
 use lib.Dec.{eqb}
 use lib.ListN.{length, take}
-use borrow.Author.Tests.{eqb-true, eq-eqb}
+use borrow.Author.Tests.{eqb-true}
 use Rattle.wire.specs.Choice.{cond-yes, no-true}
 
 -- the list begins with the mark
@@ -14,10 +14,6 @@ abbrev pub starts : List ℕ → List ℕ → Bool
 starts [] l = true
 starts (m ∷ ms) [] = false
 starts (m ∷ ms) (x ∷ xs) = cond (eqb m x) (starts ms xs) false
-
-pub starts-self : (m : List ℕ) → starts m m ≡ true
-starts-self [] = refl
-starts-self (m ∷ ms) = rw (eq-eqb m m refl) (starts-self ms)
 
 pub starts-long : (m l : List ℕ) → starts m l ≡ true → length m ≤ length l
 starts-long [] l e = zero-le

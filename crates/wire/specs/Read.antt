@@ -1,5 +1,5 @@
 -- What reading from the front of a list finds: a value and how many bytes it took, or a fault and its place.
-use Prim.Native.Nat.{ℕ, zero-le, _+_, _-_, _≤_}
+use Prim.Native.Nat.{ℕ, zero-le, _+_, _≤_}
 use mathlib.Core.Path.{_≡_, refl, sym}
 use mathlib.Core.List.{List}
 use mathlib.Core.Bool.{Bool, true, false, cond}

@@ -6,9 +6,9 @@ ghost use Rattle.wire.specs.Formats.{u8, u16, u32, u64, s32, s64, counte
 ghost use Rattle.wire.specs.Told.{short, toldU8, toldU16, toldU32, toldU64, toldS32, toldS64, toldCounted, NumberAt};
 
 // Half of what 32 and 64 bits hold: from here on a number stands for a negative one.
-pub const HALF_32: u64 = 2147483648;
+const HALF_32: u64 = 2147483648;
 
-pub const HALF_64: u64 = 9223372036854775808;
+pub(crate) const HALF_64: u64 = 9223372036854775808;
 
 // A field's value, or that the bytes end inside it.
 pub enum U8 {

@@ -1,11 +1,10 @@
 // Bytes and numbers stored at a place of a lent buffer, where they fit; where they do not, nothing changes.
-use crate::fields::HALF_32;
 use crate::fields::HALF_64;
 ghost use mathlib.Core.Path.{_≡_};
 ghost use Prim.Native.Nat.{_≤_, _<_, _^_};
 ghost use lib.Signed.{mag};
 ghost use Rattle.wire.specs.Bytes.{spell};
-ghost use Rattle.wire.specs.Formats.{u8, u16, u32, u64, s32, s64, unsignedOf};
+ghost use Rattle.wire.specs.Formats.{u8, u16, u32, u64, s64, unsignedOf};
 ghost use Rattle.wire.specs.Store.{stored, movedBack};
 ghost use Rattle.wire.specs.Told.{short};
 
@@ -62,12 +61,6 @@ fn unsigned(z: i64, half: u64) -> u64
     }
     let m = (-1 - z) as u64;
     half - 1 - m + half
-}
-
-pub fn put_s32(out: &mut [u8], at: usize, z: i32)
-    ensures { λ _. ⌜ now (out .exit) ≡ stored at (s32 {ends = short} .encode z) (now (out .entry)) ⌝ }
-{
-    put_number(out, at, 4, unsigned(z as i64, HALF_32));
 }
 
 pub fn put_s64(out: &mut [u8], at: usize, z: i64)

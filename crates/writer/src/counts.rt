@@ -18,7 +18,7 @@ pub enum Counted {
 }
 
 // Counts the rows of the four sections.
-pub fn count_all(
+pub(crate) fn count_all(
     version: u8,
     names: &[u8],
     metadata: &[u8],

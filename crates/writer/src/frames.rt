@@ -148,7 +148,7 @@ pub enum RowCount {
 }
 
 // Counts the rows of a section to its end.
-pub fn row_count(section: Section, version: u8, s: &[u8]) -> RowCount
+pub(crate) fn row_count(section: Section, version: u8, s: &[u8]) -> RowCount
     ensures { λ r. ⌜ toldRows r ≡ Option·map length (sectionRows (frameOf section version) (now (s .entry))) ⌝ }
 {
     let mut rest = s;

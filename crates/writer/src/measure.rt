@@ -247,7 +247,7 @@ pub enum Measured {
 }
 
 // Measures the block that head, lists and sections make.
-pub fn measure(
+pub(crate) fn measure(
     head: Head,
     param0: &[u16],
     param1: &[u8],
