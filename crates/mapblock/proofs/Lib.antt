@@ -3,6 +3,7 @@ pub mod Leaves
 pub mod Readings
 -- Rows, lists and node data.
 pub mod Lines
+pub mod EndLines
 pub mod Entries
 pub mod Bounds
 pub mod Strays

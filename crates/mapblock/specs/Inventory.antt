@@ -39,7 +39,7 @@ sized s none = refused fault.Ends 0
 sized s (some n) = done (take n s) n
 
 -- ---- laws
-after-some : (o : Option ℕ) (n : ℕ) → after o ≡ some n → (m : ℕ) × (o ≡ some m) × (suc m ≡ n)
+pub after-some : (o : Option ℕ) (n : ℕ) → after o ≡ some n → (m : ℕ) × (o ≡ some m) × (suc m ≡ n)
 after-some none n h = absurd (Option·none-ne-some n h)
 after-some (some m) n h = (m, refl, (cc))
 

@@ -1,18 +1,22 @@
 -- What the definitions promise together, for document 01's 'Reading, looking, writing' and 'What may not slip through'. Proved in proofs/:
 -- `ValidIsOk` in ValidOk.antt, `SectionsAreRows` and `Param0There` in SectionsThere.antt, `VeryBytes` in NodeNames.antt, `RunsAreThere` in
--- RunsThere.antt, `NeverTwice` in RowsAlone.antt, the others in Taken.antt.
-use Prim.Native.Nat.{ℕ, _+_, _<_, _≤_}
+-- RunsThere.antt, `NeverTwice` in RowsAlone.antt, `FirstEndLine` in EndLines.antt, the others in Taken.antt.
+use Prim.Native.Nat.{ℕ, zero, suc, _+_, _<_, _≤_}
 use mathlib.Core.Path.{_≡_}
 use mathlib.Core.Logic.{_↔_}
-use mathlib.Core.Option.{none}
+use mathlib.Core.Bool.{Bool, true, false, _&&_}
+use mathlib.Core.Option.{some, none}
 use mathlib.Core.List.{List, []}
+use lib.Dec.{eqb}
 use lib.ListN.{length, getD, drop}
 use Rattle.wire.specs.Bytes.{Bytes}
+use Rattle.wire.specs.Marks.{starts}
 use Rattle.wire.specs.Read.{Read, done, refused}
 use Rattle.wire.specs.Format.{encodeItems}
 use Rattle.wire.specs.Formats.{number}
 use Rattle.wire.specs.Answer.{Answer, good, refusal, positionTwice, idTwice, idUnmapped}
 use Rattle.mapblock.specs.Data.{NameRow, MetadataRow, ObjectRow, Block}
+use Rattle.mapblock.specs.Inventory.{endLine, through}
 use Rattle.mapblock.specs.Layout.{all, width, nameRow, variable, metadataRow, objectRow, timerRow}
 use Rattle.mapblock.specs.Block.{block, stray, param0At, verdict}
 use Rattle.mapblock.specs.Valid.{Valid}
@@ -76,6 +80,20 @@ pub record TakesTwo (v : ℕ) (r : Reader) : Type 0 where
 -- A reader that `TakenBy` holds of is neither of the first two; it takes blocks of every version, and not one alone.
 abbrev pub ShutOut : Type 0
 ShutOut = (r : Reader) → TakenBy r → (RefusesAll r → ⊥) × (GivesOne r → ⊥) × ((v : ℕ) → 22 ≤ v → v ≤ 29 → TakesTwo v r)
+
+-- ---- inventories: document 01, 'Block layout'
+-- "A line starts at the inventory's first byte or after a newline."
+abbrev pub lineStart : List ℕ → ℕ → Bool
+lineStart l zero = true
+lineStart l (suc i) = eqb (getD l i 0) 10
+
+-- a line starts there, and is exactly `EndInventory` with its newline
+abbrev pub endLineAt : List ℕ → ℕ → Bool
+endLineAt l i = lineStart l i && starts endLine (drop i l)
+
+-- "An inventory runs through the first line that is exactly `EndInventory` with its newline": it stands at k, and at no place before.
+abbrev pub FirstEndLine : Type 0
+FirstEndLine = (l : List ℕ) (n : ℕ) → (through true l ≡ some n) ↔ ((k : ℕ) × (n ≡ k + 13) × (endLineAt l k ≡ true) × ((i : ℕ) → i < k → endLineAt l i ≡ false))
 
 -- ---- parts of the caller's block: document 01, 'Reading, looking, writing'
 -- the part p lies in s, and holds the bytes r

@@ -24,9 +24,10 @@ same-length c = search needs
 returns-2 : tie.Need-returns-2
 returns-2 c =
     let f = c .before .before .before in
-    let s = f .before .before .before .before .before .before in
-    (λ w k l m. ended w (now (s .args .rest)) (now (s .args .out)) (f .finish .last .1 .1 .0) (c .finished .result) (f .finish .result) (f .before .before .if1 .left) l (c .finished .ensures) (f .finish .ensures .0 w k (omega (arith, l, m))),
-     subst⁻¹ (λ (a : Answer ℕ). Untouched a (now (s .args .out)) (f .finish .last .1 .1 .0)) (c .finished .ensures) (f .finish .ensures .1))
+    let s = f .before .before .before .before .before .before in (
+      λ w k l m. ended w (now (s .args .rest)) (now (s .args .out)) (f .finish .last .1 .1 .0) (c .finished .result) (f .finish .result) (f .before .before .if1 .left) l (c .finished .ensures) (f .finish .ensures .0 w k (omega (arith, l, m))),
+      subst⁻¹ (λ (a : Answer ℕ). Untouched a (now (s .args .out)) (f .finish .last .1 .1 .0)) (c .finished .ensures) (f .finish .ensures .1),
+    )
 
 pub end-sheet-spec : {M : Type 1} → statement M
 end-sheet-spec =
