@@ -9,7 +9,7 @@ use lib.Dec.{leb, lit<, lit≤}
 use lib.ListN.{length, getD, take, drop, length-append}
 use lib.Seq.{take-append-seam, drop-append-seam}
 use borrow.Author.Tests.{le-leb, leb-true}
-use Rattle.wire.specs.Choice.{yes-and}
+use Rattle.wire.specs.Choice.{no-true, yes-and}
 use Rattle.wire.specs.Bytes.{Bytes}
 use Rattle.wire.specs.Read.{Read, done, refused}
 use Rattle.wire.specs.Answer.{Answer, good, refusal, plain, no-good, answered, mapAnswer, lent, noRoom, versionOutside}
@@ -139,15 +139,27 @@ by-version : {A : Type 0} (c : Bool) (x : Answer A) {a : A} → cond c x (plain 
 by-version true x h = (refl, h)
 by-version false x h = no-good h
 
+abbrev isGood : {A : Type 0} → Answer A → Bool
+isGood (good a) = true
+isGood (refusal n r o) = false
+
 module _ (room : ℕ) where
   by-block : (o : Option Block) {s : List ℕ} → writtenBlock room o ≡ good s
       → (b : Block) × (o ≡ some b) × (judgedBytes room (block all .encode b) (verdict all (block all .encode b)) ≡ good s)
   by-block none h = no-good h
   by-block (some b) h = (b, refl, h)
 
+  -- a refusal is no good answer; by the room, so that it holds wherever 11 stands in the order
+  never-good : (t : List ℕ) (f : Fault) (p : ℕ) → isGood (judgedBytes room t (refused f p)) ≡ false
+  never-good t f p = go (leb (length t) room) refl
+    where
+      go : (b : Bool) → leb (length t) room ≡ b → isGood (judgedBytes room t (refused f p)) ≡ false
+      go true e = cc
+      go false e = cc
+
   by-verdict : (t : List ℕ) (r : Read Fault Block) {s : List ℕ} → judgedBytes room t r ≡ good s → (c : Block) × (n : ℕ) × (r ≡ done c n) × (length t ≤ room) × (t ≡ s)
   by-verdict t (done c n) {s} h = let x = answered (leb (length t) room) noRoom t s h in (c, n, refl, leb-true (length t) room (x .0), x .1)
-  by-verdict t (refused f p) h = no-good h
+  by-verdict t (refused f p) h = no-true (sym (never-good t f p) ∙ ap isGood h)
 
 written-as : (p : Parts) (room : ℕ) {s : List ℕ} → writeOf p room ≡ good s → (b : Block) × (block all .encode b ≡ s) × WrittenAs p room b
 unfolding writeOf
