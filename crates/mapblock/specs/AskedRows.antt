@@ -1,4 +1,4 @@
--- What the answers to row questions say.
+-- What the code's answers to row questions say: document 01, 'Order', "Row question: 2, then 16 for an empty part, then the reader's 1, 3 or 4".
 use Prim.Native.Nat.{ℕ}
 use Rattle.wire.specs.Answer.{Answer, good, refusal, plain, versionOutside, noSuch}
 use Rattle.mapblock.specs.Numbers.{number}

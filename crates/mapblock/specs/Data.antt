@@ -37,7 +37,7 @@ pub record TimerRow : Type 0 where
   pub timeout : ℤ
   pub elapsed : ℤ
 
--- what a node has beside its name
+-- step 4: the three lists
 pub record Nodes : Type 0 where
   pub param0 : List ℕ
   pub param1 : List ℕ

@@ -1,4 +1,4 @@
--- The block layout of document 01, straight down its eight steps, in the language of wire's Formats.
+-- Document 01, 'Block layout', straight down its eight steps, in the language of wire's Formats.
 -- `free` are the ids that may be mapped: `all` in a block of its own. A caller who lends a table of marks may hold some back.
 use Prim.Native.Nat.{ℕ}
 use mathlib.Core.List.{List, [], _∷_}

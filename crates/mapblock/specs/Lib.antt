@@ -13,7 +13,7 @@ pub mod Rows
 pub mod Questions
 pub mod RowQuestions
 pub mod AskedRows
--- What the functions of this crate promise each other.
+-- What contracts cite beside: the code's answers, its tables, and how far it has come.
 pub mod Table
 pub mod Told
 pub mod Kinds

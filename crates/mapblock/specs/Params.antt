@@ -1,4 +1,4 @@
--- The param lists as bytes: what code that tests the bounds of a run once reads in them.
+-- The param lists of document 01's 'Block layout', step 4, as bytes: what code that tests the bounds of a run once reads in them.
 use Prim.Native.Nat.{ℕ, zero, suc, _+_, _*_, _≤_}
 use mathlib.Core.Path.{_≡_}
 use mathlib.Core.Option.{Option, some, none}

@@ -15,7 +15,7 @@ use Rattle.mapblock.specs.declared.timers.TimerFields.{TimerFields}
 abbrev pub part : ℕ → ℕ → Part
 part start n = record { start = start; length = n }
 
--- of a run that the version does not have
+-- of a run that the version does not have, and of what is asked of a refused block
 abbrev pub nowhere : Part
 nowhere = part 0 0
 

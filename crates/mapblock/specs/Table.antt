@@ -1,4 +1,5 @@
--- Tables of marks: a byte for each number, 0 where it is free.
+-- Tables of marks: a byte for each number, 0 where it is free. They tell which positions and ids are distinct, which document 01's 'Block layout'
+-- asks in its further rules.
 use Prim.Native.Nat.{ℕ, zero, suc, _<_}
 use mathlib.Core.Path.{_≡_}
 use mathlib.Core.List.{List, [], _∷_}

@@ -1,4 +1,4 @@
--- What the code's answers say, as readings.
+-- What the code's answers say, as readings: a value and its length, or the fault and its offset of document 01's 'The numbers a call comes back with'.
 use Prim.Native.Nat.{ℕ}
 use mathlib.Core.Path.{_≡_}
 use mathlib.Core.Option.{Option, some, none}

@@ -7,7 +7,7 @@ pub enum Fault {
     // The bytes end inside a field, or an inventory has no end line.
     Ends,
     Version,
-    // The nine fields with a fixed value.
+    // Nine fields with a fixed value have another.
     ContentWidth,
     ParamsWidth,
     MetadataVersion,
@@ -17,9 +17,11 @@ pub enum Fault {
     ObjectVersion,
     MappingVersion,
     TimerRowLength,
+    // What a row gives, by itself or beside the rows before it.
     PositionAbove,
     PositionTwice,
     IdTwice,
+    // What is wrong with the block as a whole.
     BytesAfter,
     IdUnmapped,
 }

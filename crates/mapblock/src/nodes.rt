@@ -139,7 +139,7 @@ fn holds_lists(version: u8, s: &[u8]) -> bool
     NODES * width(version) + 2 * NODES <= s.len()
 }
 
-// The same of any bytes; their bounds are tested once.
+// The first node whose content id is not marked as mapped, in any bytes: none where they do not hold the lists.
 pub(crate) fn first_stray(version: u8, s: &[u8], ids: &[u8; 65536]) -> Stray
     ensures { λ r. ⌜ toldStray r ≡ strayOf version (now (s .entry)) (now (ids .entry)) ⌝ }
 {

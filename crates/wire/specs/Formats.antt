@@ -1,4 +1,5 @@
--- Formats made of the language's own: what the pages of the other crates are written in.
+-- Formats made of the language's own: what the pages of the other crates are written in. Numbers and s-numbers are as document 01's 'The pieces'
+-- has them.
 --     number k, u8 .. u64, s32, s64     a number of k bytes; the usual widths
 --     f ▹ g, f ⨾ λ a. g                 f, then g; then g, which may look at what f read
 --     such test e f                     f, refused with e where the test fails

@@ -1,4 +1,4 @@
--- Fixed marks at the front of a list: document 01's `EndInventory` line, `TLY` and `WSH`.
+-- Fixed marks at the front of a list: the `EndInventory` line of document 01's 'Block layout', `TLY` and `WSH` of its 'Tallies, lots, spans, sheets'.
 use Prim.Native.Nat.{ℕ, zero-le, suc-le-suc, _≤_}
 use mathlib.Core.Path.{_≡_, refl, ap, ap₂}
 use mathlib.Core.List.{List, [], _∷_, _++_}

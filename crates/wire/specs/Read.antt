@@ -1,4 +1,5 @@
--- What reading from the front of a list finds: a value and how many bytes it took, or a fault and its place.
+-- What reading from the front of a list finds: a value and how many bytes it took, or a fault and its place. Document 01, 'The numbers a call
+-- comes back with': "A refusal says which fault it was, and where".
 use Prim.Native.Nat.{ℕ, zero-le, _+_, _≤_}
 use mathlib.Core.Path.{_≡_, refl, sym}
 use mathlib.Core.List.{List}

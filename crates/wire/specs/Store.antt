@@ -1,4 +1,4 @@
--- What a buffer holds after bytes were stored in it.
+-- What a lent buffer holds after bytes were stored in it, or moved in it.
 use Prim.Native.Nat.{ℕ, _+_}
 use mathlib.Core.Path.{_≡_}
 use mathlib.Core.Bool.{cond}

@@ -1,4 +1,5 @@
--- What the answers of the leaves say, as readings of their formats. A leaf knows one fault: the bytes end.
+-- What the answers of the leaves say, as readings of their formats. A leaf knows one fault, number 1 of document 01's 'The numbers a call comes
+-- back with': the bytes end inside a field.
 use Prim.Native.Nat.{ℕ, _+_, _^_, _<_}
 use mathlib.Core.Path.{_≡_}
 use mathlib.Core.List.{List}

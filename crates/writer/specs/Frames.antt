@@ -1,4 +1,4 @@
--- Rows by their framing alone: document 01, 12, "a section not made of whole rows, over 65,535 rows".
+-- Rows by their framing alone: document 01, 'The numbers a call comes back with', 12: "a section not made of whole rows, over 65,535 rows".
 use Prim.Native.Nat.{ℕ, zero, suc}
 use mathlib.Core.Bool.{cond}
 use mathlib.Core.Option.{Option, some, none, Option·map}

@@ -3,7 +3,7 @@ pub mod Frames
 pub mod Parts
 pub mod Write
 pub mod Theorems
--- What the functions of this crate promise each other.
+-- What the functions of this crate promise each other, and what their answers say.
 pub mod Sections
 pub mod Said
 pub mod Pieces

@@ -1,4 +1,4 @@
--- What the reader says of bytes that are not written yet, list by list.
+-- What the reader says of bytes that are not written yet, list by list: document 01, 'Order', "then what the reader would say of the bytes".
 use Prim.Native.Nat.{ℕ, zero, suc, _+_, _*_, _<_, _≤_}
 use mathlib.Core.Path.{_≡_}
 use mathlib.Core.Option.{Option, some, none}
@@ -21,9 +21,9 @@ use Rattle.mapblock.specs.declared.head.Head.{Head}
 abbrev pub said : {A : Type 0} → Form A → A → Read Fault (Unit {0})
 said f a = ended (f .read (f .encode a))
 
--- a section of 65,535 rows, each shorter than 65,556 bytes: all but the metadata
+-- a section of at most 65,535 rows, each of at most 65,550 bytes: all but the metadata
 abbrev pub Small : List ℕ → Type 0
-Small s = length s < 4296212480
+Small s = length s ≤ 65535 * 65550
 
 -- the bytes of step 1, and of the param lists
 abbrev pub openingLength : ℕ → ℕ

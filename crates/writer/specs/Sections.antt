@@ -1,4 +1,4 @@
--- The four sections, and how the code counts their rows.
+-- The four sections, and how the code counts their rows: document 01, 'Reading, looking, writing', "counts are worked out from the rows".
 use Prim.Native.Nat.{ℕ}
 use mathlib.Core.Path.{_≡_}
 use mathlib.Core.Option.{Option, some, none, Option·map}
