@@ -15,7 +15,7 @@ fn greater(a: u8, b: u8) -> u8
 const COLUMNS: usize = 128;
 
 // Raises each column to the byte that stands in it, in the row of bytes at a place.
-fn raise(columns: &mut [u8; 128], s: &[u8], at: usize)
+fn raise(columns: &mut [u8; COLUMNS], s: &[u8], at: usize)
     requires { ⌜ (length (now columns) ≡ 128) × (at + 128 ≤ length (now s)) ⌝ }
     ensures { λ _. ⌜ Raised (now (s .entry)) at 128 (now (columns .entry)) (now (columns .exit)) ⌝ }
 {
@@ -27,7 +27,7 @@ fn raise(columns: &mut [u8; 128], s: &[u8], at: usize)
 }
 
 // Raises each column to the greatest byte that stands in it, over 4,096 pairs of bytes.
-fn raise_all(columns: &mut [u8; 128], s: &[u8])
+fn raise_all(columns: &mut [u8; COLUMNS], s: &[u8])
     requires { ⌜ (length (now columns) ≡ 128) × (8192 ≤ length (now s)) ⌝ }
     ensures { λ _. ⌜ Reached (now (s .entry)) 8192 (now (columns .exit)) ⌝ }
 {
@@ -39,7 +39,7 @@ fn raise_all(columns: &mut [u8; 128], s: &[u8])
 }
 
 // The greatest of every second column, the first one or the second on.
-fn greatest_of(columns: &[u8; 128], first: usize) -> u8
+fn greatest_of(columns: &[u8; COLUMNS], first: usize) -> u8
     requires { ⌜ first < 2 ⌝ }
     ensures { λ r. ⌜ NoneAbove 64 (now (columns .entry)) first r ⌝ }
 {
@@ -57,7 +57,7 @@ pub(crate) fn id_bound(s: &[u8]) -> usize
     ensures { λ r. ⌜ r < 65536 ⌝ }
     ensures { λ r. ⌜ (8192 ≤ length (now (s .entry)) → IdsWithin (now (s .entry)) r) ⌝ }
 {
-    let mut columns = [0u8; 128];
+    let mut columns = [0u8; COLUMNS];
     if s.len() < 2 * NODES {
         return 0;
     }

@@ -3,11 +3,14 @@ ghost use mathlib.Core.Path.{_≡_};
 ghost use Rattle.mapblock.specs.Layout.{isVersion};
 ghost use Rattle.mapblock.specs.Sections.{within};
 
+// The lighting of a version that carries none.
+pub const NO_LIGHTING: u16 = 65535;
+
 #[repr(C)]
 pub struct Head {
     pub version: u8,
     pub flags: u8,
-    // 65,535 under version 27.
+    // `NO_LIGHTING` under version 27.
     pub lighting: u16,
     pub timestamp: u32,
     // The timer byte: 0 except in version 24.

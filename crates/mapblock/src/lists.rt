@@ -3,6 +3,7 @@ use crate::fault::Fault;
 use crate::fault::Reach;
 use crate::rows::Kind;
 use crate::rows::listed;
+use crate::timers::TIMER_ROW_BYTE;
 use wire::fields::U8;
 use wire::fields::U16;
 use wire::fields::u8_at;
@@ -14,6 +15,9 @@ ghost use Rattle.wire.specs.Formats.{fixed, listed};
 ghost use Rattle.mapblock.specs.Kinds.{rowAfter};
 ghost use Rattle.mapblock.specs.Layout.{metadata, objects, earlyTimers, lateTimers};
 ghost use Rattle.mapblock.specs.Told.{toldReach, ended, toldEarly, timerByte};
+
+// The bytes before the rows of such a list: a byte and a count.
+pub const LIST_HEAD: usize = 3;
 
 // Behind a byte that is fixed, a count and so many rows.
 fn fixed_list(kind: Kind, version: u8, s: &[u8], value: u8, fault: Fault) -> Reach
@@ -131,5 +135,11 @@ pub(crate) fn late_timers(version: u8, s: &[u8]) -> Reach
     if version < 25 {
         return Reach::End(0);
     }
-    fixed_list(Kind::Timers, version, s, 10, Fault::TimerRowLength)
+    fixed_list(
+        Kind::Timers,
+        version,
+        s,
+        TIMER_ROW_BYTE,
+        Fault::TimerRowLength,
+    )
 }

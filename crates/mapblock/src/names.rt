@@ -2,6 +2,7 @@
 use crate::fault::Fault;
 use crate::fault::Reach;
 use crate::head::Part;
+use crate::nodes::IDS;
 use wire::fields::Counted;
 use wire::fields::U8;
 use wire::fields::U16;
@@ -55,7 +56,7 @@ pub fn name_row(s: &[u8]) -> NameRead
 }
 
 // The row at the front of a part, after rows whose ids are marked.
-fn new_name_row(s: &[u8], ids: &[u8; 65536]) -> NameRead
+fn new_name_row(s: &[u8], ids: &[u8; IDS]) -> NameRead
     ensures { λ r. ⌜ ((free : ℕ → Bool) (seen : List NameRow) → Tabled 65536 (unmapped free seen) (now (ids .entry)) → toldName r ≡ mapRead nameFields (nameRow free seen .read (now (s .entry)))) ⌝ }
 {
     match u16_at(s, 0) {
@@ -71,7 +72,7 @@ fn new_name_row(s: &[u8], ids: &[u8; 65536]) -> NameRead
 }
 
 // Takes the marks of so many rows off the table.
-pub(crate) fn unmark(s: &[u8], count: u16, ids: &mut [u8; 65536])
+pub(crate) fn unmark(s: &[u8], count: u16, ids: &mut [u8; IDS])
     ensures { λ _. ⌜ now (ids .exit) ≡ unmarked (now (ids .entry)) (frontRows count (now (s .entry))) ⌝ }
 {
     let mut rest = s;
@@ -91,14 +92,14 @@ pub(crate) fn unmark(s: &[u8], count: u16, ids: &mut [u8; 65536])
 }
 
 // A table has the length that its type says; this says so to proofs, and does nothing.
-pub(crate) fn sized(ids: &[u8; 65536])
+pub(crate) fn sized(ids: &[u8; IDS])
     ensures { λ _. ⌜ length (now (ids .entry)) ≡ 65536 ⌝ }
 {
     let _whole: &[u8] = ids;
 }
 
 // So many rows, whose ids are marked; on a refusal the table is as it was.
-pub fn name_rows(s: &[u8], count: u16, ids: &mut [u8; 65536]) -> Reach
+pub fn name_rows(s: &[u8], count: u16, ids: &mut [u8; IDS]) -> Reach
     ensures { λ r. ⌜ toldReach r ≡ ended (items (nameRow (freeIn (now (ids .entry)))) count .read (now (s .entry))) ⌝ }
     ensures { λ r. ⌜ RowsMarked (now (ids .entry)) (now (ids .exit)) (items (nameRow (freeIn (now (ids .entry)))) count .read (now (s .entry))) ⌝ }
 {
@@ -123,14 +124,17 @@ pub fn name_rows(s: &[u8], count: u16, ids: &mut [u8; 65536]) -> Reach
     Reach::End(at)
 }
 
-// Timestamp, number of rows, which start at 7, and where they end; or the fault and its place.
+// The bytes before the rows: timestamp, list version and count.
+pub const NAMES_HEAD: usize = 7;
+
+// Timestamp, number of rows, and where they end; or the fault and its place.
 pub enum SavedRead {
     Rows(u32, u16, usize),
     Refused(Fault, usize),
 }
 
 // Timestamp and names; the ids are marked, and on a refusal the table is as it was.
-pub(crate) fn saved(s: &[u8], ids: &mut [u8; 65536]) -> SavedRead
+pub(crate) fn saved(s: &[u8], ids: &mut [u8; IDS]) -> SavedRead
     ensures { λ r. ⌜ toldSaved r ≡ mapRead shownSaved (saved (freeIn (now (ids .entry))) .read (now (s .entry))) ⌝ }
     ensures { λ r. ⌜ SavedMarked (now (ids .entry)) (now (ids .exit)) (saved (freeIn (now (ids .entry))) .read (now (s .entry))) ⌝ }
 {
@@ -146,8 +150,8 @@ pub(crate) fn saved(s: &[u8], ids: &mut [u8; 65536]) -> SavedRead
     let U16::Value(count) = u16_at(s, 5) else {
         return SavedRead::Refused(Fault::Ends, 5);
     };
-    match name_rows(&s[7..], count, ids) {
-        Reach::Refused(f, p) => SavedRead::Refused(f, 7 + p),
-        Reach::End(n) => SavedRead::Rows(timestamp, count, 7 + n),
+    match name_rows(&s[NAMES_HEAD..], count, ids) {
+        Reach::Refused(f, p) => SavedRead::Refused(f, NAMES_HEAD + p),
+        Reach::End(n) => SavedRead::Rows(timestamp, count, NAMES_HEAD + n),
     }
 }

@@ -17,6 +17,9 @@ ghost use Rattle.mapblock.specs.Told.{toldReach, ended, toldStray};
 // How many nodes a block has.
 pub const NODES: usize = 4096;
 
+// How many content ids there are, of two bytes each.
+pub const IDS: usize = 65536;
+
 // The bytes of a param0.
 pub fn width(version: u8) -> usize
     ensures { λ r. ⌜ r ≡ width version ⌝ }
@@ -91,7 +94,7 @@ pub enum Stray {
 }
 
 // The first node whose content id is not marked as mapped, in bytes that hold the lists.
-fn stray_in(version: u8, s: &[u8], ids: &[u8; 65536]) -> Stray
+fn stray_in(version: u8, s: &[u8], ids: &[u8; IDS]) -> Stray
     requires { ⌜ 4096 * width version + 8192 ≤ length (now s) ⌝ }
     ensures { λ r. ⌜ toldStray r ≡ strayIn version (now (s .entry)) (now (ids .entry)) 4096 0 ⌝ }
 {
@@ -106,7 +109,7 @@ fn stray_in(version: u8, s: &[u8], ids: &[u8; 65536]) -> Stray
 }
 
 // Whether every id up to a bound is marked as mapped.
-fn marked_upto(ids: &[u8; 65536], bound: usize) -> bool
+fn marked_upto(ids: &[u8; IDS], bound: usize) -> bool
     requires { ⌜ bound < 65536 ⌝ }
     ensures { λ r. ⌜ (r ≡ true → MarkedUpto (now (ids .entry)) bound) ⌝ }
 {
@@ -122,7 +125,7 @@ fn marked_upto(ids: &[u8; 65536], bound: usize) -> bool
 
 // Servers number a block's ids from 0 on, with no gap: where every id up to a bound is mapped there is no stray, and no node is looked up.
 // False says nothing.
-fn all_mapped(version: u8, s: &[u8], ids: &[u8; 65536]) -> bool
+fn all_mapped(version: u8, s: &[u8], ids: &[u8; IDS]) -> bool
     requires { ⌜ 4096 * width version + 8192 ≤ length (now s) ⌝ }
     ensures { λ r. ⌜ (r ≡ true → strayIn version (now (s .entry)) (now (ids .entry)) 4096 0 ≡ none) ⌝ }
 {
@@ -140,7 +143,7 @@ fn holds_lists(version: u8, s: &[u8]) -> bool
 }
 
 // The first node whose content id is not marked as mapped, in any bytes: none where they do not hold the lists.
-pub(crate) fn first_stray(version: u8, s: &[u8], ids: &[u8; 65536]) -> Stray
+pub(crate) fn first_stray(version: u8, s: &[u8], ids: &[u8; IDS]) -> Stray
     ensures { λ r. ⌜ toldStray r ≡ strayOf version (now (s .entry)) (now (ids .entry)) ⌝ }
 {
     if holds_lists(version, s) {

@@ -1,5 +1,6 @@
 // Positions of nodes in rows of metadata and of timers.
 use crate::fault::Fault;
+use crate::nodes::NODES;
 use wire::fields::U16;
 use wire::fields::u16_at;
 ghost use mathlib.Core.Path.{_≡_};
@@ -29,7 +30,7 @@ pub(crate) fn position(s: &[u8]) -> PositionRead
 }
 
 // The same after rows whose positions are marked; this one is marked too.
-pub(crate) fn new_position(s: &[u8], marks: &mut [u8; 4096]) -> PositionRead
+pub(crate) fn new_position(s: &[u8], marks: &mut [u8; NODES]) -> PositionRead
     ensures { λ r. ⌜ PositionMarked (now (s .entry)) (now (marks .entry)) (now (marks .exit)) r ⌝ }
 {
     let r = position(s);

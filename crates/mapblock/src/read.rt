@@ -4,6 +4,7 @@ use crate::head::Head;
 use crate::head::NO_SECTIONS;
 use crate::head::Sections;
 use crate::head::cut;
+use crate::nodes::IDS;
 use crate::nodes::NODES;
 use crate::nodes::width;
 use crate::scan::Judged;
@@ -26,7 +27,7 @@ ghost use Rattle.mapblock.specs.Questions.{shown, areWhole, sectionsOf, 
 pub(crate) fn judge(block: &[u8]) -> Judged
     ensures { λ r. ⌜ toldScan r ≡ mapRead found (verdict all (now (block .entry))) ⌝ }
 {
-    let mut ids = [0u8; 65536];
+    let mut ids = [0u8; IDS];
     scan(block, &mut ids)
 }
 

@@ -13,6 +13,7 @@ use crate::names::name_row;
 use crate::objects::ObjectFields;
 use crate::objects::ObjectRead;
 use crate::objects::object_row;
+use crate::timers::TIMER_ROW;
 use crate::timers::TimerFields;
 use crate::timers::TimerRead;
 use crate::timers::timer_row;
@@ -173,7 +174,7 @@ pub fn timer_row_of(part: &[u8]) -> TimerRowAnswer
         return TimerRowAnswer::NoSuchRow;
     }
     match timer_row(part) {
-        TimerRead::Row(row) => TimerRowAnswer::Row(row, 10),
+        TimerRead::Row(row) => TimerRowAnswer::Row(row, TIMER_ROW),
         TimerRead::Refused(f, p) => TimerRowAnswer::Refused(f, p),
     }
 }

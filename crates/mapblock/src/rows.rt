@@ -3,10 +3,12 @@ use crate::fault::Fault;
 use crate::fault::Reach;
 use crate::metadata::MetadataRead;
 use crate::metadata::metadata_row;
+use crate::nodes::NODES;
 use crate::objects::ObjectRead;
 use crate::objects::object_row;
 use crate::positions::PositionRead;
 use crate::positions::new_position;
+use crate::timers::TIMER_ROW;
 use crate::timers::TimerRead;
 use crate::timers::timer_row;
 use wire::fields::U16;
@@ -38,14 +40,14 @@ fn row_alone(kind: Kind, version: u8, s: &[u8]) -> Reach
             ObjectRead::Refused(f, p) => Reach::Refused(f, p),
         },
         Kind::Timers => match timer_row(s) {
-            TimerRead::Row(_) => Reach::End(10),
+            TimerRead::Row(_) => Reach::End(TIMER_ROW),
             TimerRead::Refused(f, p) => Reach::Refused(f, p),
         },
     }
 }
 
 // The same after rows whose positions are marked; its own position is marked too.
-fn row_after(kind: Kind, version: u8, s: &[u8], marks: &mut [u8; 4096]) -> Reach
+fn row_after(kind: Kind, version: u8, s: &[u8], marks: &mut [u8; NODES]) -> Reach
     ensures { λ r. ⌜ RowMarked kind version (now (s .entry)) (now (marks .entry)) (now (marks .exit)) r ⌝ }
 {
     match kind {
@@ -61,7 +63,7 @@ fn row_after(kind: Kind, version: u8, s: &[u8], marks: &mut [u8; 4096]) -> Reach
 pub fn rows(kind: Kind, version: u8, s: &[u8], count: u16) -> Reach
     ensures { λ r. ⌜ toldReach r ≡ ended (items (rowAfter kind version) count .read (now (s .entry))) ⌝ }
 {
-    let mut marks = [0u8; 4096];
+    let mut marks = [0u8; NODES];
     let mut rest = s;
     let mut at: usize = 0;
     let mut left = count;

@@ -2,18 +2,22 @@
 use crate::fault::Fault;
 use crate::fault::Reach;
 use crate::head::Head;
+use crate::head::NO_LIGHTING;
 use crate::head::Part;
 use crate::head::Sections;
 use crate::head::is_version;
 use crate::lists::EarlyRead;
+use crate::lists::LIST_HEAD;
 use crate::lists::early_timers;
 use crate::lists::late_timers;
 use crate::lists::metadata_list;
 use crate::lists::object_list;
+use crate::names::NAMES_HEAD;
 use crate::names::SavedRead;
 use crate::names::saved;
 use crate::names::sized;
 use crate::names::unmark;
+use crate::nodes::IDS;
 use crate::nodes::Stray;
 use crate::nodes::first_stray;
 use crate::nodes::node_data;
@@ -72,7 +76,7 @@ fn opening(s: &[u8]) -> OpeningRead
         return OpeningRead::Refused(Fault::Ends, 1);
     };
     if version < 27 {
-        return opened(version, flags, 65535, 2);
+        return opened(version, flags, NO_LIGHTING, 2);
     }
     match u16_at(s, 2) {
         U16::Ends => OpeningRead::Refused(Fault::Ends, 2),
@@ -97,7 +101,7 @@ pub enum FrontRead {
 }
 
 // Before version 29: the node data at once.
-fn plain_front(s: &[u8], o: OpeningFields, at: usize, ids: &[u8; 65536]) -> FrontRead
+fn plain_front(s: &[u8], o: OpeningFields, at: usize, ids: &[u8; IDS]) -> FrontRead
     requires { ⌜ (o .version < 29) × (opening .read (now s) ≡ done (openingIs o) at) ⌝ }
     ensures { λ r. ⌜ FrontTold (now (ids .entry)) (now (ids .entry)) (now (s .entry)) r ⌝ }
 {
@@ -117,7 +121,7 @@ fn plain_front(s: &[u8], o: OpeningFields, at: usize, ids: &[u8; 65536]) -> Fron
 }
 
 // In version 29: timestamp and names, then the node data. The names' ids stay marked, unless the front is refused.
-fn named_front(s: &[u8], o: OpeningFields, at: usize, ids: &mut [u8; 65536]) -> FrontRead
+fn named_front(s: &[u8], o: OpeningFields, at: usize, ids: &mut [u8; IDS]) -> FrontRead
     requires { ⌜ (29 ≤ o .version) × (opening .read (now s) ≡ done (openingIs o) at) ⌝ }
     ensures { λ r. ⌜ FrontTold (now (ids .entry)) (now (ids .exit)) (now (s .entry)) r ⌝ }
 {
@@ -125,7 +129,7 @@ fn named_front(s: &[u8], o: OpeningFields, at: usize, ids: &mut [u8; 65536]) -> 
         SavedRead::Refused(f, p) => FrontRead::Refused(f, at + p),
         SavedRead::Rows(timestamp, count, n) => match node_data(o.version, &s[at + n..]) {
             Reach::Refused(f, p) => {
-                unmark(&s[at + 7..], count, ids);
+                unmark(&s[at + NAMES_HEAD..], count, ids);
                 FrontRead::Refused(f, at + n + p)
             }
             Reach::End(m) => FrontRead::Fields(FrontFields {
@@ -141,7 +145,7 @@ fn named_front(s: &[u8], o: OpeningFields, at: usize, ids: &mut [u8; 65536]) -> 
     }
 }
 
-fn front(s: &[u8], ids: &mut [u8; 65536]) -> FrontRead
+fn front(s: &[u8], ids: &mut [u8; IDS]) -> FrontRead
     ensures { λ r. ⌜ FrontTold (now (ids .entry)) (now (ids .exit)) (now (s .entry)) r ⌝ }
 {
     match opening(s) {
@@ -218,14 +222,14 @@ fn rows_of(at: usize, head: usize, length: usize) -> Part
 pub fn metadata_head(version: u8) -> usize
     ensures { λ r. ⌜ r ≡ metadataHead version ⌝ }
 {
-    if version < 23 { 4 } else { 3 }
+    if version < 23 { 4 } else { LIST_HEAD }
 }
 
 // What stands before version 24's timers: all of it where there are none.
 fn early_head(m: MiddleFields) -> usize
     ensures { λ r. ⌜ r ≡ earlyHead m ⌝ }
 {
-    if m.timer == 1 { 3 } else { m.early }
+    if m.timer == 1 { LIST_HEAD } else { m.early }
 }
 
 // What is found before the late timers.
@@ -246,7 +250,7 @@ fn so_far(w: FrontFields, m: MiddleFields, timestamp: u32, names: Part) -> Found
         sections: Sections {
             names,
             metadata: rows_of(w.end, metadata_head(w.version), m.metadata),
-            objects: rows_of(early + m.early, 3, m.objects),
+            objects: rows_of(early + m.early, LIST_HEAD, m.objects),
             timers: rows_of(early, early_head(m), m.early),
         },
     }
@@ -265,7 +269,7 @@ fn with_late(w: Found, at: usize, n: usize) -> Found
     let names = before.names;
     let metadata = before.metadata;
     let objects = before.objects;
-    let timers = rows_of(at, 3, n);
+    let timers = rows_of(at, LIST_HEAD, n);
     Found {
         head,
         lists: w.lists,
@@ -279,7 +283,7 @@ fn with_late(w: Found, at: usize, n: usize) -> Found
 }
 
 // The late timers, the end of the bytes, and that every id is mapped.
-fn ending(s: &[u8], w: Found, at: usize, ids: &[u8; 65536]) -> Judged
+fn ending(s: &[u8], w: Found, at: usize, ids: &[u8; IDS]) -> Judged
     requires { ⌜ ((free : ℕ → Bool) × Upto free (now s) w at (now ids)) ⌝ }
     ensures { λ r. ⌜ ((free : ℕ → Bool) → Upto free (now (s .entry)) w at (now (ids .entry)) → toldScan r ≡ mapRead found (verdict free (now (s .entry)))) ⌝ }
 {
@@ -301,7 +305,7 @@ fn ending(s: &[u8], w: Found, at: usize, ids: &[u8; 65536]) -> Judged
 }
 
 // Before version 29: timestamp and names behind the static objects, then the end.
-fn names_behind(s: &[u8], w: FrontFields, m: MiddleFields, ids: &mut [u8; 65536]) -> Judged
+fn names_behind(s: &[u8], w: FrontFields, m: MiddleFields, ids: &mut [u8; IDS]) -> Judged
     requires { ⌜ (w .version < 29) × ((t : List ℕ) × FrontIs t (now ids) (now s) w) × MiddleIs (w .version) (drop (w .end) (now s)) m ⌝ }
     ensures { λ r. ⌜ ((t : List ℕ) → FrontIs t (now (ids .entry)) (now (s .entry)) w → toldScan r ≡ mapRead found (verdict (freeIn t) (now (s .entry)))) ⌝ }
     ensures { λ _. ⌜ now (ids .exit) ≡ now (ids .entry) ⌝ }
@@ -310,16 +314,16 @@ fn names_behind(s: &[u8], w: FrontFields, m: MiddleFields, ids: &mut [u8; 65536]
     match saved(&s[at..], ids) {
         SavedRead::Refused(f, p) => Judged::Refused(f, at + p),
         SavedRead::Rows(timestamp, count, n) => {
-            let found = so_far(w, m, timestamp, rows_of(at, 7, n));
+            let found = so_far(w, m, timestamp, rows_of(at, NAMES_HEAD, n));
             let r = ending(s, found, at + n, ids);
-            unmark(&s[at + 7..], count, ids);
+            unmark(&s[at + NAMES_HEAD..], count, ids);
             r
         }
     }
 }
 
 // What follows the node data.
-fn behind_front(s: &[u8], w: FrontFields, ids: &mut [u8; 65536]) -> Judged
+fn behind_front(s: &[u8], w: FrontFields, ids: &mut [u8; IDS]) -> Judged
     requires { ⌜ ((t : List ℕ) × FrontIs t (now ids) (now s) w) ⌝ }
     ensures { λ r. ⌜ ((t : List ℕ) → FrontIs t (now (ids .entry)) (now (s .entry)) w → toldScan r ≡ mapRead found (verdict (freeIn t) (now (s .entry)))) ⌝ }
     ensures { λ _. ⌜ now (ids .exit) ≡ now (ids .entry) ⌝ }
@@ -331,8 +335,8 @@ fn behind_front(s: &[u8], w: FrontFields, ids: &mut [u8; 65536]) -> Judged
             if w.version < 29 {
                 return names_behind(s, w, m, ids);
             }
-            // Timestamp and names stand between the four bytes of step 1 and the two widths; their rows behind seven bytes.
-            let names = rows_of(4, 7, w.lists - 6);
+            // Timestamp and names stand between the four bytes of step 1 and the two widths.
+            let names = rows_of(4, NAMES_HEAD, w.lists - 6);
             let found = so_far(w, m, w.timestamp, names);
             ending(s, found, end + m.metadata + m.early + m.objects, ids)
         }
@@ -340,7 +344,7 @@ fn behind_front(s: &[u8], w: FrontFields, ids: &mut [u8; 65536]) -> Judged
 }
 
 // Judges a block. The table tells which ids are free, all of them where it is clear, and comes back as it was; so one table serves many blocks.
-pub fn scan(s: &[u8], ids: &mut [u8; 65536]) -> Judged
+pub fn scan(s: &[u8], ids: &mut [u8; IDS]) -> Judged
     ensures { λ r. ⌜ toldScan r ≡ mapRead found (verdict (freeIn (now (ids .entry))) (now (s .entry))) ⌝ }
     ensures { λ _. ⌜ now (ids .exit) ≡ now (ids .entry) ⌝ }
 {

@@ -17,7 +17,13 @@ pub struct TimerFields {
     pub elapsed: i32,
 }
 
-// The front row, ten bytes long, or the fault and its place.
+// How many bytes a row has.
+pub const TIMER_ROW: usize = 10;
+
+// From version 25 on a list of timers begins with that number.
+pub const TIMER_ROW_BYTE: u8 = TIMER_ROW as u8;
+
+// The front row, or the fault and its place.
 pub enum TimerRead {
     Row(TimerFields),
     Refused(Fault, usize),

@@ -21,6 +21,31 @@ pub enum SplitAnswer {
     OutOfRange,
 }
 
+// Half of what a field of twelve bits holds: so many coordinates are below 0.
+const HALF: i32 = 2048;
+
+const LEAST: i32 = -HALF;
+
+const GREATEST: i32 = HALF - 1;
+
+// What a step along y adds to a key, and one along z.
+const Y_STEP: i64 = 4_096;
+
+const Z_STEP: i64 = 16_777_216;
+
+// How many numbers one field of a shifted key holds, and how many two hold.
+const FIELD: u64 = Y_STEP as u64;
+
+const TWO_FIELDS: u64 = Z_STEP as u64;
+
+// What is added to a key, so that no field is below 0.
+const SHIFT: i64 = 34_368_129_024;
+
+// The ends of the keys that are three fields when shifted.
+const LEAST_KEY: i64 = -SHIFT;
+
+const GREATEST_KEY: i64 = 34_351_347_711;
+
 // `&` and not `&&`, here and below: no test can trap, and without a branch there is one return to prove.
 pub(crate) fn is_between(a: i32, c: i32, b: i32) -> bool
     ensures { λ r. ⌜ r ≡ between a c b ⌝ }
@@ -31,7 +56,7 @@ pub(crate) fn is_between(a: i32, c: i32, b: i32) -> bool
 pub(crate) fn is_inside(c: i32) -> bool
     ensures { λ r. ⌜ r ≡ inside c ⌝ }
 {
-    is_between(-2048, c, 2047)
+    is_between(LEAST, c, GREATEST)
 }
 
 pub(crate) fn are_inside(x: i32, y: i32, z: i32) -> bool
@@ -44,7 +69,7 @@ fn key_of(x: i64, y: i64, z: i64) -> i64
     requires { ⌜ allInside x y z ≡ true ⌝ }
     ensures { λ r. ⌜ r ≡ keyOf x y z ⌝ }
 {
-    z * 16_777_216 + y * 4_096 + x
+    z * Z_STEP + y * Y_STEP + x
 }
 
 pub fn join(x: i32, y: i32, z: i32) -> JoinAnswer
@@ -61,7 +86,7 @@ pub fn join(x: i32, y: i32, z: i32) -> JoinAnswer
 pub(crate) fn is_key(key: i64) -> bool
     ensures { λ r. ⌜ r ≡ isKey key ⌝ }
 {
-    (-34_368_129_024 <= key) & (key <= 34_351_347_711)
+    (LEAST_KEY <= key) & (key <= GREATEST_KEY)
 }
 
 // The whole shift comes before any remainder, so that none is taken of a negative number and rounds toward zero.
@@ -69,14 +94,14 @@ fn shifted(key: i64) -> u64
     requires { ⌜ isKey key ≡ true ⌝ }
     ensures { λ r. ⌜ r ≡ natAbs (moved key) ⌝ }
 {
-    (key + 34_368_129_024) as u64
+    (key + SHIFT) as u64
 }
 
 fn low(field: u64) -> i32
     requires { ⌜ field < 4096 ⌝ }
     ensures { λ r. ⌜ r ≡ lowered field ⌝ }
 {
-    field as i32 - 2048
+    field as i32 - HALF
 }
 
 pub fn split(key: i64) -> SplitAnswer
@@ -85,9 +110,9 @@ pub fn split(key: i64) -> SplitAnswer
     if is_key(key) {
         let s = shifted(key);
         SplitAnswer::At(Coordinates {
-            x: low(s % 4_096),
-            y: low(s / 4_096 % 4_096),
-            z: low(s / 16_777_216),
+            x: low(s % FIELD),
+            y: low(s / FIELD % FIELD),
+            z: low(s / TWO_FIELDS),
         })
     } else {
         SplitAnswer::OutOfRange

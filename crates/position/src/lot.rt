@@ -19,20 +19,25 @@ pub enum LotAnswer {
     Bad,
 }
 
+// The world on each axis.
+const LEAST: i32 = -32768;
+
+const GREATEST: i32 = 32767;
+
 fn is_axis(a: i32, b: i32) -> bool
     ensures { λ r. ⌜ r ≡ axis a b ⌝ }
 {
-    (-32768 <= a) & is_between(a, b, 32767)
+    (LEAST <= a) & is_between(a, b, GREATEST)
 }
 
 impl Lot {
     pub const WORLD: Lot = Lot {
-        x0: -32768,
-        y0: -32768,
-        z0: -32768,
-        x1: 32767,
-        y1: 32767,
-        z1: 32767,
+        x0: LEAST,
+        y0: LEAST,
+        z0: LEAST,
+        x1: GREATEST,
+        y1: GREATEST,
+        z1: GREATEST,
     };
 
     pub fn whole_world() -> Lot

@@ -1,5 +1,6 @@
 // Parts that fit, but for the rows of the sections.
 use mapblock::head::Head;
+use mapblock::head::NO_LIGHTING;
 use mapblock::read::are_whole;
 ghost use mathlib.Core.Path.{_≡_};
 ghost use mathlib.Core.List.{[]};
@@ -10,7 +11,7 @@ fn carries(head: Head) -> bool
     ensures { λ r. ⌜ r ≡ carries head ⌝ }
 {
     if head.version < 27 {
-        if head.lighting != 65535 {
+        if head.lighting != NO_LIGHTING {
             return false;
         }
     }

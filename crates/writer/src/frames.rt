@@ -6,6 +6,7 @@ use mapblock::names::NameRead;
 use mapblock::names::name_row;
 use mapblock::objects::ObjectRead;
 use mapblock::objects::object_row;
+use mapblock::timers::TIMER_ROW;
 use wire::fields::Counted;
 use wire::fields::U32;
 use wire::fields::counted16_at;
@@ -109,14 +110,14 @@ fn metadata_frame(version: u8, s: &[u8]) -> Frame
     }
 }
 
-// A timer's row has ten bytes.
+// All rows of timers are of one length.
 fn timer_frame(s: &[u8]) -> Frame
     ensures { λ r. ⌜ toldFrame r ≡ lengthRead (timerFrame .read (now (s .entry))) ⌝ }
 {
-    if s.len() < 10 {
+    if s.len() < TIMER_ROW {
         Frame::NotWhole
     } else {
-        Frame::Row(10)
+        Frame::Row(TIMER_ROW)
     }
 }
 

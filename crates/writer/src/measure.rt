@@ -7,7 +7,10 @@ use mapblock::fault::Fault;
 use mapblock::fault::Reach;
 use mapblock::head::Head;
 use mapblock::head::is_version;
+use mapblock::lists::LIST_HEAD;
+use mapblock::names::NAMES_HEAD;
 use mapblock::names::name_rows;
+use mapblock::nodes::IDS;
 use mapblock::nodes::NODES;
 use mapblock::nodes::Stray;
 use mapblock::nodes::content_id;
@@ -44,12 +47,12 @@ fn onward(at: usize, r: Reach) -> Reach
     }
 }
 
-// Timestamp and names, seven bytes before the rows; the ids are marked.
-fn saved_says(names: &[u8], count: u16, ids: &mut [u8; 65536]) -> Reach
+// Timestamp and names; the ids are marked.
+fn saved_says(names: &[u8], count: u16, ids: &mut [u8; IDS]) -> Reach
     ensures { λ r. ⌜ ((x : Saved) → x .timestamp < 4294967296 → Rows nameFrame (now (names .entry)) count (x .names) → SavedSaid (now (ids .entry)) (now (ids .exit)) x (toldReach r)) ⌝ }
     ensures { λ r. ⌜ reach (toldReach r) ≤ 7 + length (now (names .entry)) ⌝ }
 {
-    onward(7, name_rows(names, count, ids))
+    onward(NAMES_HEAD, name_rows(names, count, ids))
 }
 
 // The metadata list.
@@ -111,7 +114,7 @@ fn late_says(head: Head, timers: &[u8], count: u16) -> Reach
 }
 
 // Behind the static objects: names before version 29, and the timers at the end.
-fn ending_says(head: Head, c: Counts, names: &[u8], timers: &[u8], ids: &mut [u8; 65536]) -> Reach
+fn ending_says(head: Head, c: Counts, names: &[u8], timers: &[u8], ids: &mut [u8; IDS]) -> Reach
     requires { ⌜ Small (now names) × Small (now timers) ⌝ }
     ensures { λ r. ⌜ ((l : List NameRow) (k : List TimerRow) → Rows nameFrame (now (names .entry)) (c .names) l → Rows timerFrame (now (timers .entry)) (c .timers) k → carries head ≡ true → EndingSaid (now (ids .entry)) (now (ids .exit)) head l k (toldReach r)) ⌝ }
     ensures { λ r. ⌜ reach (toldReach r) ≤ 10 + length (now (names .entry)) + length (now (timers .entry)) ⌝ }
@@ -134,7 +137,7 @@ fn rest_says(
     metadata: &[u8],
     objects: &[u8],
     timers: &[u8],
-    ids: &mut [u8; 65536],
+    ids: &mut [u8; IDS],
 ) -> Reach
     requires { ⌜ Small (now names) × (Small (now objects) × Small (now timers)) ⌝ }
     ensures { λ r. ⌜ ((l : List NameRow) (m : List MetadataRow) (o : List ObjectRow) (k : List TimerRow) → Rows nameFrame (now (names .entry)) (c .names) l → Rows (metadataFrame (head .version)) (now (metadata .entry)) (c .metadata) m → Rows objectRow (now (objects .entry)) (c .objects) o → Rows timerFrame (now (timers .entry)) (c .timers) k → carries head ≡ true → timed head (now (timers .entry)) ≡ true → RestSaid (now (ids .entry)) (now (ids .exit)) head l m o k (toldReach r)) ⌝ }
@@ -148,7 +151,7 @@ fn rest_says(
     let Reach::End(b) = second else {
         return onward(a, second);
     };
-    let at = a + b + 3 + objects.len();
+    let at = a + b + LIST_HEAD + objects.len();
     onward(at, ending_says(head, c, names, timers, ids))
 }
 
@@ -167,7 +170,7 @@ fn lists_length(version: u8) -> usize
 }
 
 // Up to the end of the node data. In version 29 the ids of the names are marked.
-fn front_says(head: Head, names: &[u8], count: u16, ids: &mut [u8; 65536]) -> Reach
+fn front_says(head: Head, names: &[u8], count: u16, ids: &mut [u8; IDS]) -> Reach
     requires { ⌜ Small (now names) ⌝ }
     ensures { λ r. ⌜ ((l : List NameRow) (n : Nodes) → Rows nameFrame (now (names .entry)) count l → isVersion (head .version) ≡ true → carries head ≡ true → nodes (head .version) .Ok n → FrontSaid (now (ids .entry)) (now (ids .exit)) head l n (toldReach r)) ⌝ }
     ensures { λ r. ⌜ reach (toldReach r) ≤ 16397 + length (now (names .entry)) ⌝ }
@@ -186,7 +189,7 @@ fn front_says(head: Head, names: &[u8], count: u16, ids: &mut [u8; 65536]) -> Re
 }
 
 // The first node whose content id is not marked as mapped.
-fn stray(version: u8, param0: &[u16], param2: &[u8], ids: &[u8; 65536]) -> Stray
+fn stray(version: u8, param0: &[u16], param2: &[u8], ids: &[u8; IDS]) -> Stray
     requires { ⌜ (length (now param0) ≡ 4096) × (length (now param2) ≡ 4096) × (narrow version (now param0) ≡ true) ⌝ }
     ensures { λ r. ⌜ toldStray r ≡ strayAmong version (now (param0 .entry)) (now (param2 .entry)) (now (ids .entry)) 4096 0 ⌝ }
 {
@@ -217,7 +220,7 @@ fn judge(
     requires { ⌜ Small (now names) × (Small (now objects) × Small (now timers)) ⌝ }
     ensures { λ r. ⌜ ((l : List NameRow) (m : List MetadataRow) (o : List ObjectRow) (k : List TimerRow) → Rows nameFrame (now (names .entry)) (c .names) l → Rows (metadataFrame (head .version)) (now (metadata .entry)) (c .metadata) m → Rows objectRow (now (objects .entry)) (c .objects) o → Rows timerFrame (now (timers .entry)) (c .timers) k → toldReach r ≡ ended (verdict all (block all .encode (made (partsOf head (now (param0 .entry)) (now (param1 .entry)) (now (param2 .entry)) (now (names .entry)) (now (metadata .entry)) (now (objects .entry)) (now (timers .entry))) l m o k)))) ⌝ }
 {
-    let mut ids = [0u8; 65536];
+    let mut ids = [0u8; IDS];
     let version = head.version;
     let front = front_says(head, names, c.names, &mut ids);
     let Reach::End(a) = front else {

@@ -5,6 +5,7 @@ use crate::measure::measure;
 use mapblock::fault::Fault;
 use mapblock::head::Head;
 use mapblock::nodes::width;
+use mapblock::timers::TIMER_ROW_BYTE;
 use wire::store::put_bytes;
 use wire::store::put_u8;
 use wire::store::put_u16;
@@ -170,7 +171,7 @@ fn put_late(out: &mut [u8], at: usize, version: u8, count: u16, rows: &[u8]) -> 
     if version < 25 {
         return at;
     }
-    put_byte_and_list(out, at, 10, count, rows)
+    put_byte_and_list(out, at, TIMER_ROW_BYTE, count, rows)
 }
 
 // Timestamp and names, where they stand here.
