@@ -1,19 +1,18 @@
 -- The lists behind the node data, and what the end of the scan needs of its numbers.
-use Prim.Native.Nat.{ℕ, zero, suc, _+_, _*_, _<_, _≤_}
+use Prim.Native.Nat.{ℕ, _+_, _*_, _<_, _≤_}
 use mathlib.Core.Path.{_≡_, ap, sym, _∙_}
-use mathlib.Core.Option.{some}
 use mathlib.Core.List.{List}
 use mathlib.Core.Bool.{Bool, true, false, cond}
 use native.Mathlib.Omega.{arith}
-use lib.Dec.{leb, eqb}
+use lib.Dec.{leb}
 use borrow.Author.Tests.{le-leb}
-use lib.ListN.{length, getD, drop, length-drop}
+use lib.ListN.{length, drop, length-drop}
 use lib.Seq.{drop-drop}
 use Rattle.wire.specs.Bytes.{Bytes, bytes-drop}
 use Rattle.wire.specs.Read.{done, refused, mapRead, map-done, map-refused}
 use Rattle.wire.specs.Formats.{_▹_}
 use Rattle.mapblock.specs.Layout.{width, metadata, earlyTimers, objects, lateTimers}
-use Rattle.mapblock.specs.Params.{idIn, strayIn, strayOf}
+use Rattle.mapblock.specs.Params.{strayIn, strayOf}
 use Rattle.mapblock.specs.Scan.{middle, MiddleIs}
 use Rattle.mapblock.specs.Told.{ended, timerByte}
 use Rattle.mapblock.specs.declared.fault.Fault.{Fault}
@@ -61,15 +60,6 @@ late-long v n s b h l =
     let x = ended-done (lateTimers v .read s) h in
     omega (arith, lateTimers v .backward s (x .0) n b (x .1) .ends, late-rows-length v (x .0) l)
 
-pub stray-below : (v : ℕ) (s t : List ℕ) (n j : ℕ) {i : ℕ} → some i ≡ strayIn v s t n j → i < j + n
-unfolding strayIn
-stray-below v s t zero j h = let z : _≡_ {A = ℕ} 0 1 = cc in absurd (omega arith)
-stray-below v s t (suc n) j {i} h = go (eqb (getD t (idIn v s j) 0) 0) h (λ k. stray-below v s t n (suc j) k)
-  where
-    go : (b : Bool) → some i ≡ cond b (some j) (strayIn v s t n (suc j)) → (some i ≡ strayIn v s t n (suc j) → i < suc j + n) → i < j + suc n
-    go true e ih = let z : i ≡ j = cc in omega arith
-    go false e ih = omega (arith, ih e)
-
 pub width-place : (v i : ℕ) → i < 4096 → (width v * i < 8192) × (width v * i ≤ 4096 * width v)
 width-place v i h = go (leb 24 v)
   where
@@ -78,5 +68,5 @@ width-place v i h = go (leb 24 v)
     go false = (omega arith, omega arith)
 
 -- the param lists lie in the bytes
-pub stray-there : (v : ℕ) (s t : List ℕ) (lists at : ℕ) → lists + (4096 * width v + 8192) ≤ at → at ≤ length s → strayOf v (drop lists s) t ≡ strayIn v (drop lists s) t 4096 0
+pub stray-there : (v : ℕ) (s t : List ℕ) (lists at : ℕ) → lists + (4096 * width v + 8192) ≤ at → at ≤ length s → strayOf v (drop lists s) t ≡ strayIn v (drop lists s) t
 stray-there v s t lists at h k = rw (le-leb (4096 * width v + 8192) (length (drop lists s)) (omega (arith, length-drop lists s)))

@@ -2,7 +2,6 @@
 use Prim.Native.Nat.{ℕ, zero, suc, _+_, _-_, _*_, _/_, _<_, _≤_}
 use mathlib.Core.Path.{_≡_, refl, ap, ap₂, sym, _∙_}
 use mathlib.Core.List.{List, [], _∷_, append-nil}
-use mathlib.Core.Option.{some, none}
 use mathlib.Core.Bool.{Bool, true, false, cond}
 use native.Mathlib.Nat.{zero-add, zero-mul, mul-zero, mul-one, one-mul, suc-mul, mul-suc, add-comm, mod-lt, div-mul-le-self, div-lt-iff-lt-mul, div-add-mod'}
 use native.Mathlib.Numerals.{add-one}
@@ -10,7 +9,7 @@ use native.Mathlib.Omega.{arith}
 use lib.Dec.{leb}
 use lib.ListN.{length, getD, take, drop, set, length-drop, length-set, drop-of-length-le}
 use lib.Seq.{drop-cons, drop-drop, getD-drop, take-suc, take-suc-set, take-all, length-take-le}
-use borrow.Author.Tests.{le-leb, lt-leb, leb-true, leb-false, lt-ltb, le-ltb, eq-eqb, ne-eqb}
+use borrow.Author.Tests.{le-leb, lt-leb, leb-true, leb-false, lt-ltb, le-ltb}
 use Rattle.wire.specs.Bytes.{Bytes, spelt, bytes-drop}
 use Rattle.wire.specs.Read.{Read, done, refused, onward, never}
 use Rattle.wire.specs.Format.{_⨾_, along, items, readItems, ends-in}
@@ -20,14 +19,15 @@ use Rattle.wire.proofs.Steps.{number-done, number-ends}
 use Rattle.wire.proofs.Laid.{stored-fits}
 use Rattle.mapblock.specs.Data.{Nodes, Block}
 use Rattle.mapblock.specs.Layout.{width, params, nodes, unmapped}
-use Rattle.mapblock.specs.Block.{contentId, idAt, strayFrom}
-use Rattle.mapblock.specs.Params.{listsOf, entries, idIn, strayIn, idOf}
+use Rattle.mapblock.specs.Block.{contentId, idAt, stray}
+use Rattle.mapblock.specs.Params.{listsOf, entries, idIn, bareIn, strayIn, idOf}
 use Rattle.mapblock.specs.Told.{ended}
 use Rattle.mapblock.specs.Table.{Tabled}
 use Rattle.mapblock.specs.declared.fault.Fault.{Fault}
 use Rattle.mapblock.specs.declared.fault.Fault.the-variants as fault
 use Rattle.wire.proofs.Fixed.{fixed-on, fixed-other, fixed-refused, fixed-done}
 use Rattle.mapblock.proofs.GoodRows.{either}
+use Rattle.mapblock.proofs.Firsts.{first-same}
 
 -- ---- entries
 pub entries-length : (w n : ℕ) (s : List ℕ) → length (entries w n s) ≡ n
@@ -273,25 +273,6 @@ module _ (v : ℕ) (s : List ℕ) (i : ℕ) where
       (λ h. rw (← id-old h) (content-below v (getD s i 0) (getD s (8192 + i) 0) (omega (arith, b i)) (b (8192 + i)) (λ _. b i)))
 
 -- ---- strays
-module _ (v : ℕ) (s t : List ℕ) (i : ℕ) where
-  pub stray-here : {r : ℕ} → i < 4096 → r ≡ idIn v s i → getD t r 0 ≡ 0 → strayIn v s t (4096 - i) i ≡ some i
-  unfolding strayIn
-  stray-here h id e =
-      let n : 4096 - i ≡ suc (4096 - (i + 1)) = omega arith in
-      rw (n, eq-eqb (getD t (idIn v s i) 0) 0 (rw id at e))
-
-  pub stray-on : {r : ℕ} → i < 4096 → r ≡ idIn v s i → (getD t r 0 ≡ 0 → ⊥) → strayIn v s t (4096 - i) i ≡ strayIn v s t (4096 - (i + 1)) (i + 1)
-  unfolding strayIn
-  stray-on h id e =
-      let n : 4096 - i ≡ suc (4096 - (i + 1)) = omega arith in
-      rw (n, ne-eqb (getD t (idIn v s i) 0) 0 (rw id at e), add-one i)
-
-  pub stray-none : 4096 ≤ i → strayIn v s t (4096 - i) i ≡ none
-  unfolding strayIn
-  stray-none h =
-      let n : 4096 - i ≡ 0 = omega arith in
-      rw n
-
 -- a block whose lists are those bytes
 module _ (b : Block) (v : ℕ) (s : List ℕ) (e : b .head .version ≡ v) (h : b .nodes ≡ listsOf (width v) s) where
   pub id-same : (i : ℕ) → i < 4096 → idAt b i ≡ idIn v s i
@@ -300,14 +281,8 @@ module _ (b : Block) (v : ℕ) (s : List ℕ) (e : b .head .version ≡ v) (h : 
 
   -- and a table of its names
   module _ (free : ℕ → Bool) (t : List ℕ) (d : Tabled 65536 (unmapped free (b .names)) t) (y : Bytes s) where
-    same-from : (n i : ℕ) → i + n ≤ 4096 → strayFrom free b n i ≡ strayIn v s t n i
-    unfolding strayFrom strayIn
-    same-from zero i k = refl
-    same-from (suc n) i k =
-        rw (id-same i (omega arith), d .tells (idIn v s i) (id-below v s i y), same-from n (suc i) (omega arith))
-
-    pub stray-same : strayFrom free b 4096 0 ≡ strayIn v s t 4096 0
-    stray-same = same-from 4096 0 (omega arith)
+    pub stray-same : stray free b ≡ strayIn v s t
+    stray-same = first-same _ (bareIn v s t) 4096 0 (λ i _ k. ap (unmapped free (b .names)) (id-same i k) ∙ d .tells (idIn v s i) (id-below v s i y))
 
 -- an index below 4,096, in bytes that hold the lists
 pub id-there : (v : ℕ) (s : List ℕ) (i : ℕ) → i < 4096 → 4096 * width v + 8192 ≤ length s → idOf v s i ≡ idIn v s i

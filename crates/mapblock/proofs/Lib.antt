@@ -4,6 +4,7 @@ pub mod Readings
 -- Rows, lists and node data.
 pub mod Lines
 pub mod EndLines
+pub mod Firsts
 pub mod Entries
 pub mod Bounds
 pub mod Strays

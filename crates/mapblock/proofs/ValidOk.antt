@@ -1,8 +1,8 @@
 -- The blocks that the layout can write are the valid ones: `ValidIsOk` of specs/Theorems.antt.
-use Prim.Native.Nat.{ℕ, zero, suc, _+_, _^_, _<_, _≤_}
-use mathlib.Core.Path.{_≡_, refl, ap, ap₂, sym, subst, subst⁻¹}
+use Prim.Native.Nat.{ℕ, zero, suc, _^_, _<_, _≤_}
+use mathlib.Core.Path.{_≡_, refl, ap, ap₂, subst, subst⁻¹}
 use mathlib.Core.Logic.{_↔_}
-use mathlib.Core.Option.{some, none}
+use mathlib.Core.Option.{none}
 use mathlib.Core.List.{List, [], _∷_}
 use mathlib.Core.Bool.{Bool, true, false, cond, not}
 use native.Mathlib.Omega.{arith}
@@ -15,10 +15,11 @@ use Rattle.wire.specs.Formats.{number, u16, fixed, listed, times, only}
 use Rattle.mapblock.specs.Inventory.{Form}
 use Rattle.mapblock.specs.Data.{NameRow, MetadataRow, ObjectRow, TimerRow, Nodes, Opening, Saved, Timers, Block, unsaved, untimed}
 use Rattle.mapblock.specs.Layout.{since, all, unmapped, nameRow, metadataRow, objectRow, timerRow, saved, width, params, nodes, metadata, objects, earlyTimers, lateTimers, opening, front, rest, steps}
-use Rattle.mapblock.specs.Block.{openingOf, savedOf, timersOf, block, idAt, strayFrom, stray}
+use Rattle.mapblock.specs.Block.{openingOf, savedOf, timersOf, block, idAt, stray}
 use Rattle.mapblock.specs.Valid.{Has, Distinct, U8, U16, U32, NameGood, MetadataGood, ObjectGood, TimerGood, Rows, Entries, NodesGood, Valid}
 use Rattle.mapblock.specs.Theorems.{ValidIsOk}
 use Rattle.mapblock.specs.declared.fault.Fault.the-variants as fault
+use Rattle.mapblock.proofs.Firsts.{first-none, none-fails}
 use Rattle.mapblock.proofs.Entries.{width-old, width-new, width-range}
 use Rattle.mapblock.proofs.Keyed.{has-used, used-has, each-ok, rows-ok}
 use Rattle.mapblock.proofs.GoodRows.{either, since-ok, fixed-ok, name-ok, metadata-row-ok, object-ok, timer-ok}
@@ -171,24 +172,12 @@ nodes-ok v n = (there, back)
 abbrev idOf : NameRow → ℕ
 idOf r = r .id
 
-mapped-there : (b : Block) (n i : ℕ) → strayFrom all b n i ≡ none → (j : ℕ) → i ≤ j → j < i + n → Has idOf (idAt b j) (b .names)
-unfolding strayFrom
-mapped-there b zero i h j p q = absurd (omega arith)
-mapped-there b (suc n) i h j p q = by (unmapped all (b .names) (idAt b i)) refl h (eqb j i) refl (mapped-there b n (suc i))
-  where
-    by : (c : Bool) → unmapped all (b .names) (idAt b i) ≡ c → cond c (some i) (strayFrom all b n (suc i)) ≡ none → (d : Bool) → eqb j i ≡ d
-        → (strayFrom all b n (suc i) ≡ none → (j : ℕ) → suc i ≤ j → j < suc i + n → Has idOf (idAt b j) (b .names)) → Has idOf (idAt b j) (b .names)
-    by true e h d f ih = let z : _≡_ {A = ℕ} 0 1 = cc in absurd (omega arith)
-    by false e h true f ih =
-        let z : i ≡ j = sym (eqb-true j i f) in
-        subst (λ (m : ℕ). Has idOf (idAt b m) (b .names)) z (used-has idOf (b .names) (idAt b i) e)
-    by false e h false f ih = let z = eqb-false j i f in ih h j (omega arith) (omega arith)
+-- no node is stray exactly where every id is mapped
+mapped-there : (b : Block) → stray all b ≡ none → (i : ℕ) → i < 4096 → Has idOf (idAt b i) (b .names)
+mapped-there b h i k = used-has idOf (b .names) (idAt b i) (none-fails (λ i. unmapped all (b .names) (idAt b i)) 4096 0 h i (omega arith) k)
 
-mapped-back : (b : Block) (n i : ℕ) → ((j : ℕ) → i ≤ j → j < i + n → Has idOf (idAt b j) (b .names)) → strayFrom all b n i ≡ none
-unfolding strayFrom
-mapped-back b zero i h = refl
-mapped-back b (suc n) i h =
-    rw (has-used idOf (b .names) (idAt b i) (h i (omega arith) (omega arith))) (mapped-back b n (suc i) (λ j p q. h j (omega arith) (omega arith)))
+mapped-back : (b : Block) → ((i : ℕ) → i < 4096 → Has idOf (idAt b i) (b .names)) → stray all b ≡ none
+mapped-back b h = first-none (λ i. unmapped all (b .names) (idAt b i)) 4096 0 (λ i _ k. has-used idOf (b .names) (idAt b i) (h i k))
 
 -- ---- the other parts
 saved-ok : (x : Saved) → saved all .Ok x ↔ (U32 (x .timestamp) × (Rows NameGood (x .names) × Distinct idOf (x .names)))
@@ -275,7 +264,7 @@ valid-is-ok b = (there, back)
             (o, (names .0, nodes-ok v (b .nodes) .1 (g .nodes))),
             (metadata-ok v (b .metadata) .1 (g .metadata, g .metadata-distinct), (k .0, (objects-ok (b .objects) .1 (g .objects), (names .1, k .1)))),
           ),
-          mapped-back b 4096 0 (λ j p q. g .ids-mapped j (omega arith)),
+          mapped-back b (g .ids-mapped),
         )
 
     back : block all .Ok b × (stray all b ≡ none) → Valid b
@@ -304,5 +293,5 @@ valid-is-ok b = (there, back)
           metadata-distinct = d .1;
           timers-distinct = k .timed .1;
           ids-distinct = names .1 .1;
-          ids-mapped = λ i p. mapped-there b 4096 0 m i (omega arith) (omega arith);
+          ids-mapped = mapped-there b m;
         }

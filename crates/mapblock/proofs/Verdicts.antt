@@ -104,13 +104,13 @@ module _ {free : ℕ → Bool} {s : List ℕ} {w : Found} {at : ℕ} {t : List �
     taken : block free .read s ≡ done (u .with (ended-done late k .0)) (at + n)
     taken = u .reads ∙ ap (onward at (u .with)) (ended-done late k .1)
 
-    same-stray : Bytes s → stray free (u .with (ended-done late k .0)) ≡ strayIn (w .head .version) (drop (w .lists) s) t 4096 0
+    same-stray : Bytes s → stray free (u .with (ended-done late k .0)) ≡ strayIn (w .head .version) (drop (w .lists) s) t
     same-stray b = let x = ended-done late k .0 in stray-same (u .with x) (w .head .version) (drop (w .lists) s) (u .version x) (u .nodes x) free t (u .marked x) (bytes-drop (w .lists) s b)
 
     pub late-after : at + n < length s → refused fault.BytesAfter (at + n) ≡ mapRead found (verdict free s)
     late-after l = verdict-after free s taken (λ e. omega arith)
 
-    pub late-stray : {i : ℕ} → Bytes s → length s ≤ at + n → some i ≡ strayIn (w .head .version) (drop (w .lists) s) t 4096 0
+    pub late-stray : {i : ℕ} → Bytes s → length s ≤ at + n → some i ≡ strayIn (w .head .version) (drop (w .lists) s) t
         → refused fault.IdUnmapped (w .lists + width (w .head .version) * i) ≡ mapRead found (verdict free s)
     late-stray {i} b l g =
         let x = ended-done late k in
@@ -118,7 +118,7 @@ module _ {free : ℕ → Bool} {s : List ℕ} {w : Found} {at : ℕ} {t : List �
         let place : param0At (u .with (x .0)) i ≡ w .lists + width (w .head .version) * i = ap₂ (λ (l v : ℕ). l + width v * i) (ap (λ (f : Found). f .lists) (u .shows (x .0) n (x .1))) (u .version (x .0)) in
         ap (refused fault.IdUnmapped) (sym place) ∙ verdict-stray free s taken end (same-stray b ∙ sym g)
 
-    pub late-done : Bytes s → length s ≤ at + n → none ≡ strayIn (w .head .version) (drop (w .lists) s) t 4096 0
+    pub late-done : Bytes s → length s ≤ at + n → none ≡ strayIn (w .head .version) (drop (w .lists) s) t
         → done (withLate w at n) (at + n) ≡ mapRead found (verdict free s)
     late-done b l g =
         let x = ended-done late k in

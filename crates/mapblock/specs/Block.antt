@@ -104,14 +104,15 @@ abbrev pub param0At : Block → ℕ → ℕ
 param0At b i = listsAt b + width (b .head .version) * i
 
 -- ---- the last two rules
-module _ (free : ℕ → Bool) where
-  -- of so many nodes from an index on, the first whose id is not mapped
-  unfoldable pub strayFrom : Block → ℕ → ℕ → Option ℕ
-  strayFrom b zero i = none
-  strayFrom b (suc n) i = cond (unmapped free (b .names) (idAt b i)) (some i) (strayFrom b n (suc i))
+-- of so many numbers from one on, the first that passes a test
+unfoldable pub firstFrom : (ℕ → Bool) → ℕ → ℕ → Option ℕ
+firstFrom test zero i = none
+firstFrom test (suc n) i = cond (test i) (some i) (firstFrom test n (suc i))
 
+module _ (free : ℕ → Bool) where
+  -- the first node whose id is not mapped
   abbrev pub stray : Block → Option ℕ
-  stray b = strayFrom b 4096 0
+  stray b = firstFrom (λ i. unmapped free (b .names) (idAt b i)) 4096 0
 
   abbrev pub judged : Block → ℕ → Option ℕ → Read Fault Block
   judged b n none = done b n

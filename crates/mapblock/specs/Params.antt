@@ -1,15 +1,16 @@
 -- The param lists of document 01's 'Block layout', step 4, as bytes: what code that tests the bounds of a run once reads in them.
 use Prim.Native.Nat.{ℕ, zero, suc, _+_, _*_, _≤_}
 use mathlib.Core.Path.{_≡_}
-use mathlib.Core.Option.{Option, some, none}
+use mathlib.Core.Option.{Option, none}
 use mathlib.Core.List.{List, [], _∷_}
 use mathlib.Core.Bool.{Bool, cond}
-use lib.Dec.{eqb, leb}
+use lib.Dec.{leb}
 use lib.ListN.{length, getD, take, drop}
 use Rattle.wire.specs.Bytes.{spelt}
 use Rattle.mapblock.specs.Data.{Nodes}
 use Rattle.mapblock.specs.Layout.{width}
-use Rattle.mapblock.specs.Block.{contentId}
+use Rattle.mapblock.specs.Block.{contentId, firstFrom}
+use Rattle.mapblock.specs.Table.{freeIn}
 
 -- n entries of w bytes
 unfoldable pub entries : ℕ → ℕ → List ℕ → List ℕ
@@ -24,10 +25,12 @@ listsOf w s = record { param0 = entries w 4096 s; param1 = entries 1 4096 (drop 
 abbrev pub idIn : ℕ → List ℕ → ℕ → ℕ
 idIn v s i = contentId v (spelt 0 (take (width v) (drop (width v * i) s))) (getD s (4096 * width v + 4096 + i) 0)
 
--- of so many nodes from an index on, the first whose id has no mark in the table
-unfoldable pub strayIn : ℕ → List ℕ → List ℕ → ℕ → ℕ → Option ℕ
-strayIn v s t zero i = none
-strayIn v s t (suc n) i = cond (eqb (getD t (idIn v s i) 0) 0) (some i) (strayIn v s t n (suc i))
+-- whether that has no mark in the table, and the first node of which it has none
+abbrev pub bareIn : ℕ → List ℕ → List ℕ → ℕ → Bool
+bareIn v s t i = freeIn t (idIn v s i)
+
+abbrev pub strayIn : ℕ → List ℕ → List ℕ → Option ℕ
+strayIn v s t = firstFrom (bareIn v s t) 4096 0
 
 -- every id up to a bound has a mark in the table
 abbrev pub MarkedUpto : List ℕ → ℕ → Type 0
@@ -38,7 +41,7 @@ abbrev pub holdsLists : ℕ → List ℕ → Bool
 holdsLists v s = leb (4096 * width v + 8192) (length s)
 
 abbrev pub strayOf : ℕ → List ℕ → List ℕ → Option ℕ
-strayOf v s t = cond (holdsLists v s) (strayIn v s t 4096 0) none
+strayOf v s t = cond (holdsLists v s) (strayIn v s t) none
 
 abbrev pub idOf : ℕ → List ℕ → ℕ → ℕ
 idOf v s i = cond (leb 4096 i) 0 (cond (holdsLists v s) (idIn v s i) 0)

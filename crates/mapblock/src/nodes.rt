@@ -96,7 +96,7 @@ pub enum Stray {
 // The first node whose content id is not marked as mapped, in bytes that hold the lists.
 fn stray_in(version: u8, s: &[u8], ids: &[u8; IDS]) -> Stray
     requires { ⌜ 4096 * width version + 8192 ≤ length (now s) ⌝ }
-    ensures { λ r. ⌜ toldStray r ≡ strayIn version (now (s .entry)) (now (ids .entry)) 4096 0 ⌝ }
+    ensures { λ r. ⌜ toldStray r ≡ strayIn version (now (s .entry)) (now (ids .entry)) ⌝ }
 {
     let mut i: usize = 0;
     while i < NODES {
@@ -127,7 +127,7 @@ fn marked_upto(ids: &[u8; IDS], bound: usize) -> bool
 // False says nothing.
 fn all_mapped(version: u8, s: &[u8], ids: &[u8; IDS]) -> bool
     requires { ⌜ 4096 * width version + 8192 ≤ length (now s) ⌝ }
-    ensures { λ r. ⌜ (r ≡ true → strayIn version (now (s .entry)) (now (ids .entry)) 4096 0 ≡ none) ⌝ }
+    ensures { λ r. ⌜ (r ≡ true → strayIn version (now (s .entry)) (now (ids .entry)) ≡ none) ⌝ }
 {
     if version < 24 {
         return false;

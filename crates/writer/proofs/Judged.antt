@@ -1,9 +1,9 @@
 -- The reader's verdict on the bytes of the block that parts make, from what is said of its front, its rest and its content ids.
-use Prim.Native.Nat.{ℕ, zero, suc, _+_, _-_, _*_, _<_}
+use Prim.Native.Nat.{ℕ, _+_, _-_, _*_, _<_}
 use mathlib.Core.Path.{_≡_, ap, sym, subst, _∙_}
-use mathlib.Core.Option.{some, none, Option·none-ne-some}
+use mathlib.Core.Option.{some, none}
 use mathlib.Core.List.{List, _++_}
-use mathlib.Core.Bool.{Bool, true, false, cond}
+use mathlib.Core.Bool.{Bool, true, cond}
 use native.Mathlib.Omega.{arith}
 use lib.ListN.{length, getD, length-append}
 use borrow.Author.Tests.{le-leb, lt-leb}
@@ -14,7 +14,7 @@ use Rattle.wire.proofs.EveryFormat.{every-format}
 use Rattle.wire.proofs.Looser.{Settled, settled}
 use Rattle.mapblock.specs.Data.{NameRow, MetadataRow, ObjectRow, TimerRow, Block, unsaved}
 use Rattle.mapblock.specs.Layout.{since, all, width, unmapped, isVersion, opening, saved, nodes, front, rest, steps}
-use Rattle.mapblock.specs.Block.{block, piecesOf, savedOf, frontNamesEnd, contentId, idAt, param0At, stray, verdict}
+use Rattle.mapblock.specs.Block.{block, piecesOf, savedOf, frontNamesEnd, idAt, param0At, stray, verdict}
 use Rattle.mapblock.specs.Table.{freeIn, Tabled}
 use Rattle.mapblock.specs.Told.{ended}
 use Rattle.mapblock.specs.declared.fault.Fault.{Fault}
@@ -98,25 +98,15 @@ module _ (p : Parts) (l : List NameRow) (m : List MetadataRow) (o : List ObjectR
         below : (j : ℕ) → j < 4096 → idAt b j < 65536
         below j g = content-below v (getD (p .param0) j 0) (getD (p .param2) j 0) (held .param0 j) (held .param2 j) (λ h. mk .fitting .narrow h j (omega (arith, mk .fitting .size0)))
 
-        stray-is : stray all b ≡ strayAmong v (p .param0) (p .param2) w 4096 0
+        stray-is : stray all b ≡ strayAmong v (p .param0) (p .param2) w
         stray-is = stray-same b w table below
 
-        pub judged-done : none ≡ strayAmong v (p .param0) (p .param2) w 4096 0 → done tt (a + c) ≡ ended (verdict all (block all .encode b))
+        pub judged-done : none ≡ strayAmong v (p .param0) (p .param2) w → done tt (a + c) ≡ ended (verdict all (block all .encode b))
         judged-done e = said-done b steady (ended-here ∙ whole) (stray-is ∙ sym e)
 
-        pub judged-stray : {j : ℕ} → some j ≡ strayAmong v (p .param0) (p .param2) w 4096 0
+        pub judged-stray : {j : ℕ} → some j ≡ strayAmong v (p .param0) (p .param2) w
             → refused fault.IdUnmapped (a - listsLength v + width v * j) ≡ ended (verdict all (block all .encode b))
         judged-stray {j} e =
             let long : a ≡ length (front all .encode (piecesOf b .0)) = says-length (front all) (λ f. rest all (f .0 .version)) (piecesOf b .0) (piecesOf b .1) front-steady (sym y ∙ front-said) in
             let place : a - listsLength v + width v * j ≡ param0At b j = omega (arith, long, front-length) in
             ap (refused fault.IdUnmapped) place ∙ said-stray b steady (ended-here ∙ whole) (stray-is ∙ sym e)
-
--- a stray is one of the nodes
-pub among-below : (v : ℕ) (param0 param2 t : List ℕ) (n i : ℕ) {j : ℕ} → some j ≡ strayAmong v param0 param2 t n i → j < i + n
-unfolding strayAmong
-among-below v param0 param2 t zero i {j} e = absurd (Option·none-ne-some j (sym e))
-among-below v param0 param2 t (suc n) i {j} e = go (freeIn t (contentId v (getD param0 i 0) (getD param2 i 0))) e (λ f. among-below v param0 param2 t n (suc i) f)
-  where
-    go : (x : Bool) → some j ≡ cond x (some i) (strayAmong v param0 param2 t n (suc i)) → (some j ≡ strayAmong v param0 param2 t n (suc i) → j < suc i + n) → j < i + suc n
-    go true f ih = let z : j ≡ i = cc in omega arith
-    go false f ih = omega (arith, ih f)

@@ -1,7 +1,7 @@
 -- What the reader says of bytes that are not written yet, list by list: document 01, 'Order', "then what the reader would say of the bytes".
-use Prim.Native.Nat.{ℕ, zero, suc, _+_, _*_, _<_, _≤_}
+use Prim.Native.Nat.{ℕ, _+_, _*_, _<_, _≤_}
 use mathlib.Core.Path.{_≡_}
-use mathlib.Core.Option.{Option, some, none}
+use mathlib.Core.Option.{Option}
 use mathlib.Core.List.{List}
 use mathlib.Core.Bool.{Bool, cond}
 use lib.ListN.{length, getD}
@@ -10,7 +10,7 @@ use Rattle.wire.specs.Formats.{_▹_, only}
 use Rattle.mapblock.specs.Inventory.{Form}
 use Rattle.mapblock.specs.Data.{NameRow, MetadataRow, ObjectRow, TimerRow, Opening, Saved, Timers, Nodes, unsaved, untimed}
 use Rattle.mapblock.specs.Layout.{since, before, width, unmapped, saved, front, rest, lateTimers}
-use Rattle.mapblock.specs.Block.{contentId}
+use Rattle.mapblock.specs.Block.{contentId, firstFrom}
 use Rattle.mapblock.specs.Scan as scan
 use Rattle.mapblock.specs.Table.{freeIn, Tabled}
 use Rattle.mapblock.specs.Told.{ended}
@@ -82,7 +82,9 @@ pub record RestSaid (t u : List ℕ) (h : Head) (l : List NameRow) (m : List Met
   pub kept : 29 ≤ h .version → u ≡ t
 
 -- ---- content ids
--- of so many nodes from an index on, the first whose id has no mark in the table
-unfoldable pub strayAmong : ℕ → List ℕ → List ℕ → List ℕ → ℕ → ℕ → Option ℕ
-strayAmong v param0 param2 t zero i = none
-strayAmong v param0 param2 t (suc n) i = cond (freeIn t (contentId v (getD param0 i 0) (getD param2 i 0))) (some i) (strayAmong v param0 param2 t n (suc i))
+-- whether a node's id has no mark in the table, and the first node whose id has none
+abbrev pub bareAmong : ℕ → List ℕ → List ℕ → List ℕ → ℕ → Bool
+bareAmong v param0 param2 t i = freeIn t (contentId v (getD param0 i 0) (getD param2 i 0))
+
+abbrev pub strayAmong : ℕ → List ℕ → List ℕ → List ℕ → Option ℕ
+strayAmong v param0 param2 t = firstFrom (bareAmong v param0 param2 t) 4096 0

@@ -191,7 +191,7 @@ fn front_says(head: Head, names: &[u8], count: u16, ids: &mut [u8; IDS]) -> Reac
 // The first node whose content id is not marked as mapped.
 fn stray(version: u8, param0: &[u16], param2: &[u8], ids: &[u8; IDS]) -> Stray
     requires { ⌜ (length (now param0) ≡ 4096) × (length (now param2) ≡ 4096) × (narrow version (now param0) ≡ true) ⌝ }
-    ensures { λ r. ⌜ toldStray r ≡ strayAmong version (now (param0 .entry)) (now (param2 .entry)) (now (ids .entry)) 4096 0 ⌝ }
+    ensures { λ r. ⌜ toldStray r ≡ strayAmong version (now (param0 .entry)) (now (param2 .entry)) (now (ids .entry)) ⌝ }
 {
     let mut i: usize = 0;
     while i < NODES {

@@ -4,13 +4,14 @@ use mathlib.Core.Path.{_≡_, refl, sym, _∙_}
 use native.Mathlib.Omega.{arith}
 use borrow.Author.Needs.{needs}
 use denote.Ref.{now}
-use Rattle.mapblock.specs.Params.{strayIn}
-use Rattle.mapblock.proofs.Entries.{stray-here, stray-on, stray-none}
+use Rattle.mapblock.specs.Block.{firstFrom}
+use Rattle.mapblock.specs.Params.{bareIn, strayIn}
+use Rattle.mapblock.proofs.Firsts.{first-here, first-on, first-end, mark-bare, mark-there}
 use Rattle.mapblock.proofs.nodes.stray_in.Statement.{statement}
 use Rattle.mapblock.proofs.nodes.stray_in.Tie as tie
 
 abbrev Inv-loop : tie.InvT-loop
-Inv-loop version s ids i₀ i = strayIn version s ids (4096 - i) i ≡ strayIn version s ids 4096 0
+Inv-loop version s ids i₀ i = firstFrom (bareIn version s ids) (4096 - i) i ≡ strayIn version s ids
 
 abbrev μ-loop : tie.MeasureT-loop
 μ-loop version s ids i₀ i = 4096 - i
@@ -28,7 +29,7 @@ returns : tie.Need-returns Inv-loop μ-loop
 returns c =
     let a = c .before .before .before .before .before .before .args in
     let l = c .before .before .before .before .loop in
-    sym (stray-here (a .version) (now (a .s)) (now (a .ids)) (l .i) (omega arith) (c .before .before .id-in .ensures .0) (c .if1 .taken)) ∙ l .inv
+    sym (first-here (bareIn (a .version) (now (a .s)) (now (a .ids))) 4096 (l .i) (omega arith) (mark-bare (now (a .ids)) (c .before .before .id-in .ensures .0) (c .if1 .taken))) ∙ l .inv
 
 add-i : tie.Need-add-i Inv-loop μ-loop
 add-i c = omega arith
@@ -40,13 +41,13 @@ loop-again : tie.Need-loop-again Inv-loop μ-loop
 loop-again c =
     let a = c .before .before .before .before .before .before .args in
     let l = c .before .before .before .before .loop in
-    sym (stray-on (a .version) (now (a .s)) (now (a .ids)) (l .i) (omega arith) (c .before .before .id-in .ensures .0) (c .if1 .left)) ∙ l .inv
+    sym (first-on (bareIn (a .version) (now (a .s)) (now (a .ids))) 4096 (l .i) (omega arith) (mark-there (now (a .ids)) (c .before .before .id-in .ensures .0) (c .if1 .left))) ∙ l .inv
 
 returns-2 : tie.Need-returns-2 Inv-loop μ-loop
 returns-2 c =
     let a = c .before .before .before .args in
     let l = c .before .loop in
-    sym (stray-none (a .version) (now (a .s)) (now (a .ids)) (l .i) (omega arith)) ∙ l .inv
+    sym (first-end (bareIn (a .version) (now (a .s)) (now (a .ids))) 4096 (l .i) (omega arith)) ∙ l .inv
 
 pub stray-in-spec : {M : Type 1} → statement M
 stray-in-spec =

@@ -2,9 +2,10 @@ use borrow.Author.Needs.{needs}
 use Rattle.wire.specs.Bytes.{Bytes, bytes-drop}
 use Prim.Native.Nat.{_*_, _<_, _≤_}
 use Rattle.mapblock.specs.Layout.{width}
-use Rattle.mapblock.specs.Params.{strayIn}
+use Rattle.mapblock.specs.Params.{bareIn, strayIn}
 use mathlib.Core.Option.{some}
-use Rattle.mapblock.proofs.Endings.{late-long, stray-below, stray-there, width-place}
+use Rattle.mapblock.proofs.Firsts.{first-below}
+use Rattle.mapblock.proofs.Endings.{late-long, stray-there, width-place}
 use Rattle.mapblock.proofs.Verdicts.{late-refused, late-inside, late-after, late-stray, late-done}
 use Rattle.mapblock.proofs.Readings.{within-ended}
 use Rattle.mapblock.specs.Told.{ended, toldReach, toldStray}
@@ -19,7 +20,7 @@ use Rattle.mapblock.proofs.scan.ending.Statement.{statement}
 use Rattle.mapblock.proofs.scan.ending.Tie as tie
 
 -- the first node that is not mapped
-stray-is : (c : tie.After-i) → let a = c .before .before .before .before .before .before .before .before .before .before .before .before .args in some (c .i .given .0 .0) ≡ strayIn (a .w .head .version) (drop (a .w .lists) (now (a .s))) (now (a .ids)) 4096 0
+stray-is : (c : tie.After-i) → let a = c .before .before .before .before .before .before .before .before .before .before .before .before .args in some (c .i .given .0 .0) ≡ strayIn (a .w .head .version) (drop (a .w .lists) (now (a .s))) (now (a .ids))
 stray-is c =
     let a = c .before .before .before .before .before .before .before .before .before .before .before .before .args in
     let u = c .before .before .before .before .before .before .before .before .before .before .before .before .pre .1 in
@@ -28,7 +29,7 @@ stray-is c =
 
 stray-at : (c : tie.After-i) → let a = c .before .before .before .before .before .before .before .before .before .before .before .before .args in let v = a .w .head .version in
     (width v * c .i .given .0 .0 < 8192) × (width v * c .i .given .0 .0 ≤ 4096 * width v)
-stray-at c = let a = c .before .before .before .before .before .before .before .before .before .before .before .before .args in width-place (a .w .head .version) (c .i .given .0 .0) (omega (arith, stray-below (a .w .head .version) _ _ 4096 0 (stray-is c)))
+stray-at c = let a = c .before .before .before .before .before .before .before .before .before .before .before .before .args in width-place (a .w .head .version) (c .i .given .0 .0) (omega (arith, first-below (bareIn (a .w .head .version) (drop (a .w .lists) (now (a .s))) (now (a .ids))) 4096 0 (stray-is c)))
 
 -- the late timers that were read
 late-is : (c : tie.After-n) → let a = c .before .before .before .before .before .before .args in done tt (c .n .given .0 .0) ≡ ended (lateTimers (a .w .head .version) .read (drop (a .at) (now (a .s))))

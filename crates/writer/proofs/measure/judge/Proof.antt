@@ -10,11 +10,12 @@ use Prim.Native.Nat.{_*_, _<_}
 use Rattle.mapblock.specs.Layout.{width}
 use Rattle.mapblock.specs.Told.{toldStray}
 use Rattle.mapblock.proofs.BlockAnswers.{clear-all}
+use Rattle.mapblock.proofs.Firsts.{first-below}
 use Rattle.mapblock.proofs.Endings.{width-place}
 use Rattle.writer.specs.Parts.{Parts, partsOf, made}
 use Rattle.writer.proofs.Fitting.{fits-plain, fits-carries, fits-narrow, fits-timed}
 use Rattle.writer.proofs.MadeBlock.{made-by}
-use Rattle.writer.proofs.Judged.{nodes-there, judged-front, judged-rest, judged-done, judged-stray, among-below}
+use Rattle.writer.proofs.Judged.{nodes-there, judged-front, judged-rest, judged-done, judged-stray}
 
 abbrev parts : tie.After-shared-slice-known7 → Parts
 parts c = partsOf (c .before .before .before .before .before .before .before .args .head) (now (c .before .before .before .before .before .before .before .args .param0)) (now (c .before .before .before .before .before .before .before .args .param1)) (now (c .before .before .before .before .before .before .before .args .param2)) (now (c .before .before .before .before .before .before .before .args .names)) (now (c .before .before .before .before .before .before .before .args .metadata)) (now (c .before .before .before .before .before .before .before .args .objects)) (now (c .before .before .before .before .before .before .before .args .timers))
@@ -23,7 +24,7 @@ parts c = partsOf (c .before .before .before .before .before .before .before .ar
 stray-at : (c : tie.After-i) → width (c .before .before .before .before .before .before .before .before .before .before .before .before .before .before .before .before .before .before .before .before .before .args .head .version) * c .i .given .0 .0 < 8192
 stray-at c =
     let a = c .before .before .before .before .before .before .before .before .before .before .before .before .before .before .before .before .before .before .before .before .before .args in
-    width-place (a .head .version) (c .i .given .0 .0) (among-below (a .head .version) (now (a .param0)) (now (a .param2)) _ 4096 0 (sym (ap toldStray (c .i .given .1)) ∙ c .before .before .stray .ensures)) .0
+    width-place (a .head .version) (c .i .given .0 .0) (first-below _ 4096 0 (sym (ap toldStray (c .i .given .1)) ∙ c .before .before .stray .ensures)) .0
 
 front-says-requires : tie.Need-front-says-requires
 front-says-requires c κs = c .before .before .before .before .before .before .before .before .pre .1 .1 .0

@@ -3,15 +3,17 @@ use Rattle.writer.proofs.measure.stray.Tie as tie
 use native.Mathlib.Omega.{arith}
 use denote.Ref.{now}
 use lib.ListN.{getD}
+use Rattle.mapblock.specs.Block.{firstFrom}
 use Rattle.mapblock.proofs.Entries.{content-below}
+use Rattle.mapblock.proofs.Firsts.{first-here, first-on, first-end, mark-bare, mark-there}
 use Prim.Native.Nat.{_-_}
 use mathlib.Core.Path.{_≡_, refl, sym, _∙_}
-use Rattle.writer.specs.Said.{strayAmong}
-use Rattle.writer.proofs.Strays.{narrow-at, among-here, among-on, among-none}
+use Rattle.writer.specs.Said.{bareAmong, strayAmong}
+use Rattle.writer.proofs.Strays.{narrow-at}
 use borrow.Author.Needs.{needs}
 
 abbrev Inv-loop : tie.InvT-loop
-Inv-loop version param0 param2 ids i₀ i = strayAmong version param0 param2 ids (4096 - i) i ≡ strayAmong version param0 param2 ids 4096 0
+Inv-loop version param0 param2 ids i₀ i = firstFrom (bareAmong version param0 param2 ids) (4096 - i) i ≡ strayAmong version param0 param2 ids
 
 abbrev μ-loop : tie.MeasureT-loop
 μ-loop version param0 param2 ids i₀ i = 4096 - i
@@ -42,7 +44,11 @@ element-copy-out-if1 c =
     (narrow-at (a .version) (now (a .param0)) i (pre .2) (omega (arith, pre .0))))
 
 returns : tie.Need-returns Inv-loop μ-loop
-returns c = sym (among-here (c .before .before .before .before .before .before .before .before .before .args .version) (now (c .before .before .before .before .before .before .before .before .before .args .param0)) (now (c .before .before .before .before .before .before .before .before .before .args .param2)) (now (c .before .before .before .before .before .before .before .before .before .args .ids)) (c .before .before .before .before .before .before .loop .i) (c .before .before .before .before .before .loop-test .taken) (c .before .before .content-id .ensures) (c .if1 .taken)) ∙ c .before .before .before .before .before .before .loop .inv
+returns c =
+    let a = c .before .before .before .before .before .before .before .before .before .args in
+    let l = c .before .before .before .before .before .before .loop in
+    let test = c .before .before .before .before .before .loop-test in
+    sym (first-here (bareAmong (a .version) (now (a .param0)) (now (a .param2)) (now (a .ids))) 4096 (l .i) (test .taken) (mark-bare (now (a .ids)) (c .before .before .content-id .ensures) (c .if1 .taken))) ∙ l .inv
 
 add-i : tie.Need-add-i Inv-loop μ-loop
 add-i c = search needs
@@ -51,10 +57,17 @@ loop-less : tie.Need-loop-less Inv-loop μ-loop
 loop-less c = search needs
 
 loop-again : tie.Need-loop-again Inv-loop μ-loop
-loop-again c = sym (among-on (c .before .before .before .before .before .before .before .before .before .args .version) (now (c .before .before .before .before .before .before .before .before .before .args .param0)) (now (c .before .before .before .before .before .before .before .before .before .args .param2)) (now (c .before .before .before .before .before .before .before .before .before .args .ids)) (c .before .before .before .before .before .before .loop .i) (c .before .before .before .before .before .loop-test .taken) (c .before .before .content-id .ensures) (c .if1 .left)) ∙ c .before .before .before .before .before .before .loop .inv
+loop-again c =
+    let a = c .before .before .before .before .before .before .before .before .before .args in
+    let l = c .before .before .before .before .before .before .loop in
+    let test = c .before .before .before .before .before .loop-test in
+    sym (first-on (bareAmong (a .version) (now (a .param0)) (now (a .param2)) (now (a .ids))) 4096 (l .i) (test .taken) (mark-there (now (a .ids)) (c .before .before .content-id .ensures) (c .if1 .left))) ∙ l .inv
 
 returns-2 : tie.Need-returns-2 Inv-loop μ-loop
-returns-2 c = sym (among-none (c .before .before .before .before .args .version) (now (c .before .before .before .before .args .param0)) (now (c .before .before .before .before .args .param2)) (now (c .before .before .before .before .args .ids)) (c .before .loop .i) (c .loop-test .left)) ∙ c .before .loop .inv
+returns-2 c =
+    let a = c .before .before .before .before .args in
+    let l = c .before .loop in
+    sym (first-end (bareAmong (a .version) (now (a .param0)) (now (a .param2)) (now (a .ids))) 4096 (l .i) (c .loop-test .left)) ∙ l .inv
 
 pub stray-spec : {M : Type 1} → statement M
 stray-spec =
