@@ -9,8 +9,7 @@ use lib.Dec.{leb}
 use lib.ListN.{length, drop}
 use borrow.Author.Tests.{leb-true}
 use Rattle.wire.specs.Bytes.{Bytes, bytes-drop}
-use Rattle.wire.specs.Read.{done}
-use Rattle.wire.specs.Format.{ends-in}
+use Rattle.wire.specs.Read.{done, Misread, at-place}
 use Rattle.wire.specs.Answer.{Answer, good, refusal, plain, no-good, badPart, partsMisfit}
 use Rattle.tally.specs.Walks.{Answered}
 use Rattle.meter.specs.Standing.{Part, goodPart, nodesIn}
@@ -18,7 +17,6 @@ use Rattle.meter.specs.Counting.{tallyOf, byOne}
 use Rattle.meter.specs.Tallying.{thenAnswer}
 use Rattle.meter.specs.Sheet.{sheetHead, recordsFrom, sheetOf, fittedSheet, tallySheetOf}
 use Rattle.meter.specs.Streaming.{State, noRecords, startOf, finishOf}
-use Rattle.meter.specs.Records.{Misread, at-place}
 use Rattle.meter.specs.Progress.{Carries, StartTold, FinishTold, toldFinish}
 use Rattle.meter.specs.SheetTold.{answerFrom, Numbered, toldSheet, SheetPut}
 use Rattle.meter.specs.declared.stream.Progress.{Progress}
@@ -41,9 +39,6 @@ module _ (p : Part) (s : List ℕ) (d : List ℕ) where
   put-headless (at-place e h) = rw (sheet-misframed s h) (refl, refl)
 
   module _ (b : Bytes s) {n k : ℕ} (h : sheetHead .read s ≡ done n k) where
-    pub head-inside : k ≤ length s
-    head-inside = ends-in sheetHead h
-
     pub head-number : Numbered (noRecords byOne) n
     head-number = omega (arith, head-ok n (sheetHead .backward s n k b h .ok))
 

@@ -96,16 +96,16 @@ mark-bytes = bytes-cons 87 (83 ∷ 72 ∷ []) (lit< tt) (bytes-cons 83 (72 ∷ [
 
 -- any number that a u32 holds may stand in a head
 pub ok-head : (n : ℕ) → n < 256 ^ 4 → sheetHead .Ok n
-unfolding sheetHead behind along such number run
+unfolding behind along such number run
 ok-head n h = (((refl, mark-bytes), refl), ((lit< tt, refl), h))
 
 pub head-ok : (n : ℕ) → sheetHead .Ok n → n < 256 ^ 4
-unfolding sheetHead behind along such number run
+unfolding behind along such number run
 head-ok n h = h .1 .1
 
 -- its bytes are those of a head and of its records
 sheet-bytes : (rs : List SheetRecord) → sheet .encode rs ≡ sheetHead .encode (length rs) ++ encodeItems item [] rs
-unfolding sheet sheetHead behind along _⨾_ such number run listed items
+unfolding sheet behind along _⨾_ such number run listed items
 sheet-bytes rs = simp append-assoc
 
 sheet-ok : (rs : List SheetRecord) → sheet .Ok rs → (length rs < 256 ^ 4) × OkItems item (length rs) [] rs

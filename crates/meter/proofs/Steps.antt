@@ -5,28 +5,23 @@ use mathlib.Core.Bool.{Bool, true, false, cond}
 use mathlib.Core.List.{List, [], _∷_, _++_}
 use mathlib.Core.Option.{Option, some, none}
 use native.Mathlib.Omega.{arith}
-use lib.Dec.{leb}
 use lib.IntN.{ℤ}
 use lib.ListN.{length, drop, take}
 use lib.Seq.{drop-drop, drop-append-seam}
-use borrow.Author.Tests.{leb-true, leb-false, eq-eqb, ne-eqb}
-use Rattle.wire.specs.Marks.{starts}
-use Rattle.wire.specs.Read.{Read, done, refused, onward}
+use borrow.Author.Tests.{eq-eqb, ne-eqb}
+use Rattle.wire.specs.Read.{Read, done, refused}
 use Rattle.wire.specs.Format.{_⨾_, along}
-use Rattle.wire.specs.Formats.{u16, u32, s64, half64, counted, fixed}
+use Rattle.wire.specs.Formats.{s64, half64, counted}
 use Rattle.wire.specs.Answer.{Answer, good, refusal, plain, mapAnswer, outOfRange, sheetMalformed, no-good}
-use Rattle.wire.specs.Told.{Short, short, toldU16, toldU32}
-use Rattle.wire.specs.declared.fields.U16.the-variants as u16s
-use Rattle.wire.specs.declared.fields.U32.the-variants as u32s
-use Rattle.wire.proofs.Steps.{mark-done, mark-fails, mark-ends, number-told, signed-told, counted-told}
-use Rattle.wire.proofs.Fixed.{fixed-on, fixed-other, fixed-refused}
+use Rattle.wire.specs.Told.{Short, short}
+use Rattle.wire.proofs.Steps.{signed-told, counted-told}
 use Rattle.position.specs.Keys.{splitOf}
 use Rattle.position.specs.declared.key.Coordinates.{Coordinates}
 use Rattle.mapblock.specs.Data.{Block}
 use Rattle.mapblock.specs.Questions.{blockOf}
 use Rattle.meter.specs.Standing.{Placed}
 use Rattle.meter.specs.Tallying.{placed}
-use Rattle.meter.specs.Sheet.{Misframed, misframed, SheetForm, SheetRecord, frame, sheetMark, sheetHead, rises, judgeRecord, recordsFrom, sheetOf}
+use Rattle.meter.specs.Sheet.{Misframed, misframed, SheetRecord, frame, sheetHead, rises, judgeRecord, recordsFrom, sheetOf}
 use Rattle.meter.proofs.Blocks.{then-good, map-good}
 
 -- ---- a record's framing, by its fields as the leaves tell them
@@ -51,44 +46,8 @@ module _ (s : List ℕ) where
       let end : 8 + (4 + n) ≡ 12 + n = omega arith in
       frame-done h g ∙ rw (end, drop-drop 4 8 s)
 
--- ---- the head: the mark, the version, the number of records
-abbrev versioned : SheetForm ℕ
-versioned = fixed 2 1 misframed u32
-
+-- ---- the head, and what follows from it
 module _ (s : List ℕ) where
-  pub head-unmarked : starts sheetMark s ≡ false → sheetHead .read s ≡ refused misframed 0
-  unfolding sheetHead
-  head-unmarked h = go (leb 3 (length s)) refl
-    where
-      go : (b : Bool) → leb 3 (length s) ≡ b → sheetHead .read s ≡ refused misframed 0
-      go true e = mark-fails misframed sheetMark misframed versioned s (leb-true 3 (length s) e) h
-      go false e = mark-ends misframed sheetMark misframed versioned s (leb-false 3 (length s) e)
-
-  module _ (m : starts sheetMark s ≡ true) where
-    behind-mark : {r : Read Misframed ℕ} → versioned .read (drop 3 s) ≡ r → sheetHead .read s ≡ onward 3 (λ a. a) r
-    unfolding sheetHead
-    behind-mark h = mark-done misframed sheetMark misframed versioned s m h
-
-    pub head-unversioned : toldU16 u16s.Ends ≡ u16 {ends = short} .read (drop 3 s) → sheetHead .read s ≡ refused misframed 3
-    head-unversioned h = behind-mark (fixed-refused misframed 2 1 misframed u32 (drop 3 s) (number-told misframed 2 (drop 3 s) h))
-
-    module _ (v : ℕ) (h : toldU16 (u16s.Value v) ≡ u16 {ends = short} .read (drop 3 s)) where
-      pub head-other : (v ≡ 1 → ⊥) → sheetHead .read s ≡ refused misframed 3
-      head-other n = behind-mark (fixed-other misframed 2 1 misframed u32 (drop 3 s) (number-told misframed 2 (drop 3 s) h) n)
-
-      module _ (o : v ≡ 1) where
-        behind-version : {r : Read Misframed ℕ} → u32 {ends = misframed} .read (drop 5 s) ≡ r → versioned .read (drop 3 s) ≡ onward 2 (λ a. a) r
-        behind-version e =
-            fixed-on misframed 2 1 misframed u32 (drop 3 s) (number-told misframed 2 (drop 3 s) h ∙ ap (λ (x : ℕ). done x 2) o)
-            ∙ rw (drop-drop 2 3 s, e)
-
-        pub head-uncounted : toldU32 u32s.Ends ≡ u32 {ends = short} .read (drop 5 s) → sheetHead .read s ≡ refused misframed 5
-        head-uncounted e = behind-mark (behind-version (number-told misframed 4 (drop 5 s) e))
-
-        pub head-done : (n : ℕ) → toldU32 (u32s.Value n) ≡ u32 {ends = short} .read (drop 5 s) → sheetHead .read s ≡ done n 9
-        head-done n e = behind-mark (behind-version (number-told misframed 4 (drop 5 s) e))
-
-  -- what follows from the head
   pub sheet-misframed : {e : Misframed} {p : ℕ} → sheetHead .read s ≡ refused e p → sheetOf s ≡ refusal sheetMalformed 0 0
   unfolding sheetOf
   sheet-misframed h = rw h

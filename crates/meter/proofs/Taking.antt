@@ -6,7 +6,7 @@ use native.Mathlib.Omega.{arith}
 use lib.IntN.{ℤ}
 use lib.ListN.{length, take, drop}
 use Rattle.wire.specs.Bytes.{Bytes}
-use Rattle.wire.specs.Read.{Read, done, refused}
+use Rattle.wire.specs.Read.{Read, done, refused, Misread, at-place}
 use Rattle.wire.specs.Format.{ends-in}
 use Rattle.wire.specs.Answer.{Answer, good, refusal, sheetMalformed, no-good}
 use Rattle.tally.specs.Rows.{Canonical}
@@ -16,7 +16,7 @@ use Rattle.meter.specs.Counting.{byOne}
 use Rattle.meter.specs.Tallying.{thenAnswer}
 use Rattle.meter.specs.Sheet.{Misframed, SheetRecord, frame, judgeRecord}
 use Rattle.meter.specs.Streaming.{State, taking, stepOf, takeOf}
-use Rattle.meter.specs.Records.{Misread, at-place, recordOf, FrameTold}
+use Rattle.meter.specs.Records.{recordOf, FrameTold}
 use Rattle.meter.specs.Progress.{Steps, StepTold, TakeTold}
 use Rattle.meter.specs.SheetTold.{answerFrom}
 use Rattle.meter.specs.declared.records.FrameRead.the-variants as frames

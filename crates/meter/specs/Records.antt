@@ -1,11 +1,11 @@
--- A sheet's head and its records, as the code reads and judges them.
+-- A sheet's records, as the code reads and judges them.
 use Prim.Native.Nat.{ℕ, _+_}
 use mathlib.Core.Path.{_≡_}
 use mathlib.Core.List.{List}
 use mathlib.Core.Option.{Option, some, none}
 use lib.IntN.{ℤ}
 use lib.ListN.{take, drop, replicate}
-use Rattle.wire.specs.Read.{Read, done, refused}
+use Rattle.wire.specs.Read.{done, Misread}
 use Rattle.wire.specs.Answer.{Answer, good, refusal, outOfRange, sheetMalformed}
 use Rattle.mapblock.specs.Data.{Block}
 use Rattle.mapblock.specs.Layout.{all}
@@ -14,9 +14,7 @@ use Rattle.mapblock.specs.Numbers.{number}
 use Rattle.mapblock.specs.Sections.{found}
 use Rattle.mapblock.specs.declared.scan.Found.{Found}
 use Rattle.meter.specs.Standing.{Placed}
-use Rattle.meter.specs.Sheet.{Misframed, misframed, SheetRecord, sheetHead, frame}
-use Rattle.meter.specs.declared.head.HeadRead.{HeadRead}
-use Rattle.meter.specs.declared.head.HeadRead.the-variants as heads
+use Rattle.meter.specs.Sheet.{SheetRecord, frame}
 use Rattle.meter.specs.declared.records.FrameRead.{FrameRead}
 use Rattle.meter.specs.declared.records.FrameRead.the-variants as frames
 use Rattle.meter.specs.declared.records.LastKey.{LastKey}
@@ -31,15 +29,6 @@ unfoldable pub clearTable : List ℕ
 clearTable = replicate 65536 0
 
 -- ---- the framing: of what is not framed no place is told
--- whatever the place of the fault
-pub data Misread {A : Type 0} (r : Read Misframed A) : Type 0 where
-  at-place : (p : ℕ) → r ≡ refused misframed p → Misread r
-
--- the head tells the number of records, and has nine bytes
-abbrev pub HeadTold : List ℕ → HeadRead → Type 0
-HeadTold s (heads.Records n) = sheetHead .read s ≡ done n 9
-HeadTold s heads.Malformed = Misread (sheetHead .read s)
-
 abbrev pub recordOf : ℤ → List ℕ → SheetRecord
 recordOf key block = record { key = key; block = block }
 

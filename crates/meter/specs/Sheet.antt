@@ -10,7 +10,7 @@ use lib.Signed.{ltZ}
 use lib.ListN.{length, drop}
 use Rattle.wire.specs.Read.{Read, done, refused}
 use Rattle.wire.specs.Format.{Format, such}
-use Rattle.wire.specs.Formats.{_▹_, u32, s64, counted, listed, fixed, mark, into, Shape}
+use Rattle.wire.specs.Formats.{_▹_, s64, counted, listed, headed, head, into, Shape}
 use Rattle.wire.specs.Answer.{Answer, good, refusal, plain, mapAnswer, badPart, partsMisfit, sheetMalformed, noRoom, tooMany}
 use Rattle.position.specs.Keys.{isKey, splitOf}
 use Rattle.mapblock.specs.Questions.{blockOf}
@@ -49,13 +49,9 @@ frame = into recordParts
 abbrev pub sheetMark : List ℕ  -- WSH
 sheetMark = 87 ∷ 83 ∷ 72 ∷ []
 
--- the mark, the u16 version 1, and what follows them
-abbrev pub behindMark : {A : Type 0} → SheetForm A → SheetForm A
-behindMark f = mark sheetMark misframed (fixed 2 1 misframed f)
-
 -- the head, which tells the number of records
-unfoldable pub sheetHead : SheetForm ℕ
-sheetHead = behindMark u32
+abbrev pub sheetHead : SheetForm ℕ
+sheetHead = head sheetMark
 
 -- a key after the last one: keys rise strictly, as numbers
 abbrev pub rises : Option ℤ → ℤ → Bool
@@ -69,7 +65,7 @@ lastKey (r ∷ seen) = some (r .key)
 
 -- a sheet whose keys are valid and rise; its blocks are not judged
 unfoldable pub sheet : SheetForm (List SheetRecord)
-sheet = behindMark
+sheet = headed sheetMark 1 misframed
     (listed 4 λ seen. such (λ (r : SheetRecord). rises (lastKey seen) (r .key)) misframed
     (such (λ (r : SheetRecord). isKey (r .key)) misframed frame))
 

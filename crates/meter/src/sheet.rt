@@ -1,6 +1,4 @@
 // The tally of a sheet: its records, streamed from the caller's bytes.
-use crate::head::HEAD;
-use crate::head::HeadRead;
 use crate::head::sheet_head;
 use crate::records::RecordFault;
 use crate::stream::FinishAnswer;
@@ -12,6 +10,8 @@ use crate::stream::start;
 use crate::stream::take_record;
 use position::lot::Lot;
 use position::span::Span;
+use wire::heads::HEAD;
+use wire::heads::HeadRead;
 ghost use mathlib.Core.Path.{_≡_};
 ghost use Prim.Native.Nat.{_≤_};
 ghost use lib.ListN.{length};
@@ -113,7 +113,7 @@ fn from_start(
     ensures { λ r. ⌜ (now (ids .entry) ≡ clearTable → now (counts .entry) ≡ clearTable → Carries (now (spare .entry)) p (noRecords byOne) → length (now (out .entry)) ≤ length (now (spare .entry))
         → SheetPut (part lot span) (now (sheet .entry)) (now (out .entry)) (now (out .exit)) r) ⌝ }
 {
-    let HeadRead::Records(count) = sheet_head(sheet) else {
+    let HeadRead::Number(count) = sheet_head(sheet) else {
         return SheetAnswer::Malformed(0);
     };
     match take_records(

@@ -4,6 +4,7 @@ use mathlib.Core.Path.{_≡_, refl, sym, subst, _∙_}
 use mathlib.Core.List.{List, _++_}
 use Rattle.wire.specs.Bytes.{Bytes, bytes-append}
 use Rattle.wire.specs.Answer.{Answer, good, refusal, plain, no-good}
+use Rattle.wire.specs.Read.{Misread, at-place}
 use Rattle.position.specs.Keys.{between}
 use Rattle.position.specs.Lots.{axis, world}
 use Rattle.position.specs.Spans.{allTime}
@@ -14,7 +15,6 @@ use Rattle.meter.specs.Adding.{part}
 use Rattle.meter.specs.Counting.{byOne}
 use Rattle.meter.specs.Streaming.{State, noRecords, startOf}
 use Rattle.meter.specs.Sheet.{sheetHead}
-use Rattle.meter.specs.Records.{Misread, at-place}
 use Rattle.meter.specs.Progress.{Carries, StartTold}
 use Rattle.meter.specs.SheetTold.{toldSheet}
 use Rattle.meter.specs.Program.{everything, mostTally, countedFrom, sheetcountOf}

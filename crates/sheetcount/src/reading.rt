@@ -1,7 +1,5 @@
 // A sheet read from standard input, a record at a time.
 use libc::STDIN_FILENO;
-use meter::head::HEAD;
-use meter::head::HeadRead;
 use meter::head::sheet_head;
 use meter::program::LengthRead;
 use meter::program::MOST_BLOCK;
@@ -17,6 +15,8 @@ use meter::stream::StartAnswer;
 use meter::stream::start;
 use position::lot::Lot;
 use position::span::Span;
+use wire::heads::HEAD;
+use wire::heads::HeadRead;
 ghost use mathlib.Core.Path.{_≡_};
 ghost use Prim.Native.Nat.{_≤_};
 ghost use lib.ListN.{length};
@@ -89,7 +89,7 @@ fn read_sheet(
     ensures { λ r. ⌜ CountedInto (now (out .entry)) (now (out .exit)) r ⌝ }
 {
     let got = io::read_full(STDIN_FILENO, &mut bytes[..HEAD]);
-    let HeadRead::Records(count) = sheet_head(&bytes[..got]) else {
+    let HeadRead::Number(count) = sheet_head(&bytes[..got]) else {
         return SheetAnswer::Malformed(0);
     };
     match take_all(count, p, bytes, spare, ids, counts, places, room) {

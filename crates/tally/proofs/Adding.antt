@@ -13,7 +13,7 @@ use borrow.Author.Tests.{le-leb, lt-leb}
 use borrow.Rule.Slice.PartMut.{putMid}
 use Rattle.wire.specs.Answer.{good, plain, partsMisfit, tallyMalformed}
 use Rattle.wire.specs.Bytes.{Bytes, spell, bytes-take}
-use Rattle.wire.specs.Formats.{u32, u64}
+use Rattle.wire.specs.Formats.{u32, u64, headLength}
 use Rattle.wire.specs.Order.{order, order-refl}
 use Rattle.wire.specs.declared.order.Order.the-variants.{Same}
 use Rattle.wire.specs.Store.{laid, stored}
@@ -21,7 +21,7 @@ use Rattle.wire.specs.Told.{short}
 use Rattle.wire.specs.Choice.{and-yes, yes-and, and-no, three-yes, yes-three}
 use Rattle.wire.proofs.Puts.{put-number}
 use Rattle.tally.specs.Rows.{Row, Rows, isName, joined, addRow}
-use Rattle.tally.specs.Tally.{Kind, KindRow, KindRows, headLength, headBytes, fields, tally, rowsOf, limited, countable, most, ones, one, mostRows}
+use Rattle.tally.specs.Tally.{Kind, KindRow, KindRows, headBytes, fields, tally, rowsOf, limited, countable, most, ones, one, mostRows}
 use Rattle.tally.specs.Operations.{checkOf, tallied, addOf}
 use Rattle.tally.specs.Told.{toldAdd}
 use Rattle.tally.specs.Walks.{rowsBytes, Holds, Answered}

@@ -6,8 +6,9 @@ use mathlib.Core.Option.{Option, some, none}
 use lib.Dec.{leb, eqb}
 use lib.ListN.{length, take, drop}
 use Rattle.wire.specs.Answer.{Answer, good, refusal, plain, noRoom, partsMisfit, tallyMalformed, tooMany, noSuch}
+use Rattle.wire.specs.Formats.{headLength}
 use Rattle.tally.specs.Rows.{isName, addRow, plus}
-use Rattle.tally.specs.Tally.{Kind, KindRow, KindRows, headLength, found, row, tally, rowsOf, countable}
+use Rattle.tally.specs.Tally.{Kind, KindRow, KindRows, found, row, tally, rowsOf, countable}
 
 -- 13, or what comes of the rows
 abbrev pub withRows : {R A : Type 0} → Option R → (R → Answer A) → Answer A

@@ -5,9 +5,10 @@ use mathlib.Core.List.{List, [], _∷_, _++_}
 use mathlib.Core.Option.{some}
 use lib.ListN.{length, take, drop}
 use Rattle.wire.specs.Order.{order}
+use Rattle.wire.specs.Formats.{headLength}
 use Rattle.wire.specs.declared.order.Order.the-variants.{Before}
 use Rattle.tally.specs.Rows.{Counts, Row, Rows, Above, addRow}
-use Rattle.tally.specs.Tally.{headLength, fields, rowsOf, ones, one}
+use Rattle.tally.specs.Tally.{fields, rowsOf, ones, one}
 use Rattle.tally.specs.Operations.{tallied}
 use Rattle.tally.specs.Told.{toldAdd}
 use Rattle.tally.specs.Walks.{rowsBytes, Holds, Answered}

@@ -13,7 +13,7 @@ use Rattle.wire.specs.Bytes.{spell, spell-length}
 use Rattle.wire.specs.Order.{order}
 use Rattle.wire.specs.Read.{Read, done, refused}
 use Rattle.wire.specs.Format.{Format, such, run, along}
-use Rattle.wire.specs.Formats.{_▹_, u64, number, counted, listed, fixed, mark, into, Shape}
+use Rattle.wire.specs.Formats.{_▹_, u64, number, counted, listed, headed, into, Shape}
 use Rattle.tally.specs.Rows.{Counts, Row, Rows, isName, choose}
 
 -- The one fault of a tally: document 01 gives 13 no offset and tells no two of them apart.
@@ -41,10 +41,6 @@ tallyMark = 84 ∷ 76 ∷ 89 ∷ []
 
 abbrev pub mostRows : ℕ  -- 2^32-1
 mostRows = 4294967295
-
--- the mark, the version and the number of rows
-abbrev pub headLength : ℕ
-headLength = 9
 
 -- a name may follow the rows before it, the last one first: names rise strictly
 abbrev pub rises : {C : Type 0} → List (Row C) → List ℕ → Bool
@@ -91,7 +87,7 @@ module _ (k : Kind) where
 
   -- document 01's tally: the mark, the u16 version, the u32 number of rows, and the rows
   unfoldable pub tally : Form KindRows
-  tally = mark tallyMark malformed (fixed 2 (k .version) malformed (listed 4 row))
+  tally = headed tallyMark (k .version) malformed (listed 4 row)
 
   -- what stands before n rows
   abbrev pub headBytes : ℕ → List ℕ

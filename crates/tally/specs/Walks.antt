@@ -9,10 +9,11 @@ use Rattle.wire.specs.Answer.{Answer, mapAnswer, lent}
 use Rattle.wire.specs.Order.{order}
 use Rattle.wire.specs.Format.{items}
 use Rattle.wire.specs.Store.{stored}
+use Rattle.wire.specs.Formats.{headLength}
+use Rattle.wire.specs.declared.heads.HeadRead.{HeadRead}
+use Rattle.wire.specs.declared.heads.HeadRead.the-variants as heads
 use Rattle.tally.specs.Rows.{Row, Canonical, isName, choose}
-use Rattle.tally.specs.Tally.{Form, Kind, KindRows, headLength, whole, fields, row, rowsOf, limited, one}
-use Rattle.tally.specs.declared.head.Stated.{Stated}
-use Rattle.tally.specs.declared.head.Stated.the-variants as stated
+use Rattle.tally.specs.Tally.{Form, Kind, KindRows, whole, fields, row, rowsOf, limited, one}
 
 -- a name after the last one, unless it is the first
 abbrev pub mayFollow : Bool → List ℕ → List ℕ → Bool
@@ -27,9 +28,9 @@ abbrev pub takes : {A : Type 0} → Form A → List ℕ → Bool
 takes f s = isSome (whole s (f .read s))
 
 -- a head that states n rows, and then they decide; or none
-abbrev pub StatedRows : List ℕ → Stated → Type 0
-StatedRows t (stated.Rows n) = (headLength ≤ length t) × (rowsOf one t ≡ whole (drop headLength t) (items (row one) n .read (drop headLength t)))
-StatedRows t stated.Malformed = rowsOf one t ≡ none
+abbrev pub StatedRows : List ℕ → HeadRead → Type 0
+StatedRows t (heads.Number n) = (headLength ≤ length t) × (rowsOf one t ≡ whole (drop headLength t) (items (row one) n .read (drop headLength t)))
+StatedRows t heads.Malformed = rowsOf one t ≡ none
 
 module _ (k : Kind) where
   abbrev pub rowsBytes : KindRows k → List ℕ

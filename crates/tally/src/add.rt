@@ -1,8 +1,6 @@
 // Adding one named count to a tally, in the caller's buffer.
 use crate::check::CheckAnswer;
 use crate::check::check;
-use crate::head::HEAD;
-use crate::head::NUMBER_AT;
 use crate::rows::AROUND;
 use crate::rows::LONGEST;
 use crate::rows::MOST;
@@ -11,6 +9,8 @@ use crate::rows::NAME_AT;
 use crate::rows::RowRead;
 use crate::rows::front_row;
 use crate::rows::put_row;
+use wire::heads::HEAD;
+use wire::heads::NUMBER_AT;
 use wire::order::Order;
 use wire::order::compare;
 use wire::store::move_back;

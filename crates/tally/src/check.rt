@@ -1,11 +1,11 @@
 // Whether bytes are a tally.
-use crate::head::HEAD;
-use crate::head::Stated;
 use crate::head::stated_rows;
 use crate::rows::AROUND;
 use crate::rows::NAME_AT;
 use crate::rows::RowRead;
 use crate::rows::front_row;
+use wire::heads::HEAD;
+use wire::heads::HeadRead;
 use wire::order::Order;
 use wire::order::compare;
 ghost use mathlib.Core.Path.{_≡_};
@@ -62,7 +62,7 @@ fn are_rows(s: &[u8], count: u32) -> bool
 pub fn check(t: &[u8]) -> CheckAnswer
     ensures { λ r. ⌜ toldCheck r ≡ checkOf one (now (t .entry)) ⌝ }
 {
-    let Stated::Rows(count) = stated_rows(t) else {
+    let HeadRead::Number(count) = stated_rows(t) else {
         return CheckAnswer::Malformed;
     };
     if are_rows(&t[HEAD..], count) {

@@ -1,7 +1,6 @@
 // Merging two tallies: their rows are walked once to measure the sum, and once to write it.
 use crate::check::CheckAnswer;
 use crate::check::check;
-use crate::head::HEAD;
 use crate::head::put_head;
 use crate::rows::AROUND;
 use crate::rows::COUNT_SIZE;
@@ -10,6 +9,7 @@ use crate::rows::MOST_ROWS;
 use crate::rows::NAME_AT;
 use crate::rows::RowRead;
 use crate::rows::front_row;
+use wire::heads::HEAD;
 use wire::order::Order;
 use wire::order::compare;
 use wire::store::put_bytes;

@@ -3,6 +3,7 @@ pub mod EveryFormat
 pub mod Steps
 pub mod Joints
 pub mod Fixed
+pub mod Headed
 pub mod Items
 pub mod Looser
 pub mod Laid

@@ -1,6 +1,6 @@
 -- One law for each way on, of each way to make a format: what a proof about code cites.
 use Prim.Native.Nat.{ℕ, zero, suc, _+_, _-_, _*_, _^_, _<_, _≤_}
-use mathlib.Core.Path.{_≡_, refl}
+use mathlib.Core.Path.{_≡_, refl, ap, sym, _∙_}
 use mathlib.Core.List.{List}
 use mathlib.Core.Bool.{Bool, true, false, cond}
 use native.Mathlib.Nat.{pow-suc, pow-le-pow-right, lt-of-lt-of-le}
@@ -86,6 +86,10 @@ module _ {E : Type 0} (ends : E) where
     pub mark-ends : length s < length m → mark m e f .read s ≡ refused ends 0
     unfolding behind along _⨾_ such
     mark-ends l = rw (run-ends (length m) s l)
+
+-- ---- what a leaf told, in the case that the code is in
+pub told-as : {R A : Type 0} {x y : R} (told : R → A) {z : A} → told x ≡ z → x ≡ y → told y ≡ z
+told-as told e g = sym (ap told g) ∙ e
 
 -- ---- what a leaf was told, with the fault that its caller gives
 module _ {E : Type 0} (ends : E) where

@@ -4,6 +4,7 @@
 --     f ▹ g, f ⨾ λ a. g                 f, then g; then g, which may look at what f read
 --     such test e f                     f, refused with e where the test fails
 --     fixed k v e f, mark m e f         the number v in k bytes, or the bytes m, refused with e where another stands there; then f
+--     headed m v e f, head m            the mark m and the u16 version v, then f; the version 1, then a u32 number
 --     counted k                         a length of k bytes, and so many bytes
 --     listed k item, times n f          a count of k bytes, and so many items, each told those before it; n of the same
 --     only b a f                        f where b holds; else nothing, read as a
@@ -170,6 +171,19 @@ listed {A = A} k item = along (OkListed k item) (λ (x : ℕ × List A). x .1) (
 abbrev pub times : {E : Type 0} {ends : E} {A : Type 0} → ℕ → Format E ends A → Format E ends (List A)
 times n f = items (λ seen. f) n
 
+-- ---- heads: document 01's tallies and sheets begin with one
+-- the bytes of the mark m and the version v as a u16, else the fault e; then f
+abbrev pub headed : {E : Type 0} {ends : E} {A : Type 0} → List ℕ → ℕ → E → Format E ends A → Format E ends A
+headed m v e f = mark m e (fixed 2 v e f)
+
+abbrev pub headLength : ℕ
+headLength = 9
+
+-- the mark m of three bytes, version 1 and a u32 number
+abbrev pub head : {E : Type 0} {ends : E} → List ℕ → Format E ends ℕ
+head {ends = ends} m = headed m 1 ends u32
+
+-- ---- what may be left out
 -- f where the test holds; else nothing, and the value that stands for it
 abbrev pub only : {E : Type 0} {ends : E} {A : Type 0} → Bool → A → Format E ends A → Format E ends A
 only b a f = cond b f (nothing a)

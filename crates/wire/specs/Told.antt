@@ -5,8 +5,8 @@ use mathlib.Core.Path.{_≡_}
 use mathlib.Core.List.{List}
 use lib.IntN.{ℤ}
 use lib.ListN.{take, drop}
-use Rattle.wire.specs.Read.{Read, done, refused}
-use Rattle.wire.specs.Formats.{number}
+use Rattle.wire.specs.Read.{Read, done, refused, Misread}
+use Rattle.wire.specs.Formats.{number, headLength, head}
 use Rattle.wire.specs.declared.fields.U8.{U8}
 use Rattle.wire.specs.declared.fields.U8.the-variants as u8
 use Rattle.wire.specs.declared.fields.U16.{U16}
@@ -21,6 +21,8 @@ use Rattle.wire.specs.declared.fields.S64.{S64}
 use Rattle.wire.specs.declared.fields.S64.the-variants as s64
 use Rattle.wire.specs.declared.fields.Counted.{Counted}
 use Rattle.wire.specs.declared.fields.Counted.the-variants as run
+use Rattle.wire.specs.declared.heads.HeadRead.{HeadRead}
+use Rattle.wire.specs.declared.heads.HeadRead.the-variants as heads
 
 pub data Short : Type 0 where
   short : Short
@@ -66,3 +68,8 @@ Below k u64.Ends = Unit {0}
 pub record NumberAt (k : ℕ) (s : List ℕ) (r : U64) : Type 0 where
   pub told : toldNumber k r ≡ number {ends = short} k .read s
   pub below : Below k r
+
+-- the number that a head with the mark m states; of what is no head no place is told
+abbrev pub HeadTold : {E : Type 0} → E → List ℕ → List ℕ → HeadRead → Type 0
+HeadTold e m s (heads.Number n) = head {ends = e} m .read s ≡ done n headLength
+HeadTold e m s heads.Malformed = Misread (head {ends = e} m .read s)

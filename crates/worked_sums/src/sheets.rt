@@ -7,25 +7,16 @@ use crate::blocks::head;
 use crate::blocks::put_block;
 use anowhetele::answer::AnowAnswer;
 use anowhetele::metering::anow_tally_sheet;
-use meter::head::HEAD;
-use meter::head::NUMBER_AT;
-use meter::head::VERSION;
-use meter::head::VERSION_AT;
 use meter::records::BLOCK_AT;
 use meter::records::LENGTH_AT;
 use position::lot::Lot;
 use position::span::Span;
+use wire::heads::HEAD;
+use wire::heads::put_head;
 use wire::store::put_bytes;
 use wire::store::put_s64;
-use wire::store::put_u16;
 use wire::store::put_u32;
 ghost use Prim.Native.Nat.{_+_, _≤_};
-
-fn put_head(sheet: &mut [u8], records: u32) {
-    put_bytes(sheet, 0, b"WSH");
-    put_u16(sheet, VERSION_AT, VERSION);
-    put_u32(sheet, NUMBER_AT, records);
-}
 
 // A record at a place, and where it ends, at most BLOCK_AT and ROOM further on. All nodes of its block are of id 0.
 fn put_record(sheet: &mut [u8], at: usize, key: i64, names: &[u8]) -> usize
@@ -44,7 +35,7 @@ fn put_record(sheet: &mut [u8], at: usize, key: i64, names: &[u8]) -> usize
 pub(crate) fn tally_two(key: i64, next: i64, names: &[u8], out: &mut [u8]) -> AnowAnswer {
     let mut sheet = [0u8; 2 * ROOM];
     let mut spare = [0u8; 256];
-    put_head(&mut sheet, 2);
+    put_head(&mut sheet, b"WSH", 2);
     let middle = put_record(&mut sheet, HEAD, key, &AIR);
     let end = put_record(&mut sheet, middle, next, names);
     anow_tally_sheet(

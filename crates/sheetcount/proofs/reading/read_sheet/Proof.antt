@@ -7,7 +7,8 @@ use lib.ListN.{length, take, drop, length-append}
 use lib.Seq.{length-take-le}
 use denote.Ref.{now}
 use Rattle.wire.specs.Bytes.{bytes-take}
-use Rattle.meter.specs.Records.{HeadTold}
+use Rattle.wire.specs.Told.{HeadTold}
+use Rattle.meter.specs.Sheet.{misframed, sheetMark}
 use Rattle.sheetcount.specs.Reading.{longest, AllTold}
 use Rattle.sheetcount.proofs.Whole.{counted-headless, counted-stopped, counted-ended}
 use Rattle.sheetcount.proofs.reading.read_sheet.Statement.{statement}
@@ -76,7 +77,7 @@ returns : tie.Need-returns
 returns c =
     let x = c .before .before in
     let s = take (size x) (filled x) in
-    counted-headless s (now (begun x .args .out)) (bytes-take (size x) (filled x) (λ j. x .before .before .slice-known4 .given j .fits)) (subst (HeadTold s) (c .enum-told .given .1) (x .sheet-head .ensures))
+    counted-headless s (now (begun x .args .out)) (bytes-take (size x) (filled x) (λ j. x .before .before .slice-known4 .given j .fits)) (subst (HeadTold misframed sheetMark s) (c .enum-told .given .1) (x .sheet-head .ensures))
 
 take-all-requires : tie.Need-take-all-requires
 take-all-requires c κs =

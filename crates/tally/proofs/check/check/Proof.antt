@@ -7,14 +7,14 @@ use Rattle.wire.specs.Format.{items}
 use mathlib.Core.Path.{subst, ap}
 use mathlib.Core.Bool.{Bool}
 use lib.ListN.{drop}
-use Rattle.tally.specs.declared.head.Stated.the-variants as heads
+use Rattle.wire.specs.declared.heads.HeadRead.the-variants as heads
 use Rattle.tally.proofs.Checks.{check-unstated, check-good, check-bad}
 use borrow.Author.Needs.{needs}
 use Rattle.tally.proofs.check.check.Statement.{statement}
 use Rattle.tally.proofs.check.check.Tie as tie
 
 -- the number of rows that the head states, and whether they are there
-stated : (c : tie.After-known-told) → StatedRows (now (c .before .before .before .before .before .args .t)) (heads.Rows (c .before .count .given .0 .0))
+stated : (c : tie.After-known-told) → StatedRows (now (c .before .before .before .before .before .args .t)) (heads.Number (c .before .count .given .0 .0))
 stated c = subst (StatedRows _) (c .before .count .given .1) (c .before .before .before .stated-rows .ensures)
 
 taken : (c : tie.After-are-rows) {b : Bool} → c .are-rows .result ≡ b → takes (items (row one) (c .before .before .before .count .given .0 .0)) (drop 9 (now (c .before .before .before .before .before .before .before .args .t))) ≡ b

@@ -3,8 +3,8 @@ use denote.Ref.{now}
 use Prim.Native.Nat.{_≤_}
 use lib.ListN.{length}
 use Rattle.wire.specs.Lists.{rest-is}
+use Rattle.wire.specs.Formats.{headLength}
 use Rattle.tally.specs.Told.{toldCheck}
-use Rattle.tally.specs.Tally.{headLength}
 use Rattle.tally.proofs.FrontRows.{told-as}
 use Rattle.tally.proofs.Checks.{check-long, rows-there, rows-nowhere}
 use borrow.Author.Needs.{needs}

@@ -1,0 +1,59 @@
+// The heads of tallies and sheets: a mark, the version and a number.
+use crate::fields::U16;
+use crate::fields::U32;
+use crate::fields::u16_at;
+use crate::fields::u32_at;
+use crate::marks::mark_at;
+use crate::store::put_bytes;
+use crate::store::put_u16;
+use crate::store::put_u32;
+ghost use mathlib.Core.Path.{_≡_};
+ghost use Rattle.wire.specs.Formats.{head};
+ghost use Rattle.wire.specs.Store.{stored};
+ghost use Rattle.wire.specs.Told.{short, HeadTold};
+
+pub const VERSION: u16 = 1;
+
+// Where the parts of a head stand, and where it ends.
+pub const VERSION_AT: usize = 3;
+
+pub const NUMBER_AT: usize = 5;
+
+pub const HEAD: usize = 9;
+
+// The number that a head states.
+pub enum HeadRead {
+    Number(u32),
+    Malformed,
+}
+
+pub fn read_head(s: &[u8], mark: &[u8; 3]) -> HeadRead
+    ensures { λ r. ⌜ HeadTold short (now (mark .entry)) (now (s .entry)) r ⌝ }
+{
+    if !mark_at(s, 0, mark) {
+        return HeadRead::Malformed;
+    }
+    let U16::Value(version) = u16_at(s, VERSION_AT) else {
+        return HeadRead::Malformed;
+    };
+    if version != VERSION {
+        return HeadRead::Malformed;
+    }
+    match u32_at(s, NUMBER_AT) {
+        U32::Value(number) => HeadRead::Number(number),
+        U32::Ends => HeadRead::Malformed,
+    }
+}
+
+// The head, where it fits; where it does not, nothing changes.
+pub fn put_head(out: &mut [u8], mark: &[u8; 3], number: u32)
+    ensures { λ _. ⌜ now (out .exit) ≡ stored 0 (head {ends = short} (now (mark .entry)) .encode number) (now (out .entry)) ⌝ }
+{
+    let bytes: &[u8] = mark;
+    if out.len() < HEAD {
+        return;
+    }
+    put_bytes(out, 0, bytes);
+    put_u16(out, VERSION_AT, VERSION);
+    put_u32(out, NUMBER_AT, number);
+}
