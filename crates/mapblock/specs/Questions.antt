@@ -7,7 +7,7 @@ use lib.Dec.{leb, eqb}
 use lib.ListN.{length}
 use Rattle.wire.specs.Read.{Read, done, refused}
 use Rattle.wire.specs.Format.{encodeItems}
-use Rattle.wire.specs.Answer.{Answer, good, refusal, plain, mapAnswer, partsMisfit, noSuch}
+use Rattle.wire.specs.Answer.{Answer, good, refusal, plain, mapAnswer, thenAnswer, partOf, partsMisfit, noSuch}
 use Rattle.mapblock.specs.Data.{NameRow, Block}
 use Rattle.mapblock.specs.Layout.{all, nameRow}
 use Rattle.mapblock.specs.Block.{idAt, verdict}
@@ -56,8 +56,7 @@ partsOf (refusal n r o) = record { names = nowhere; metadata = nowhere; objects 
 
 -- a section as a part of the block, empty when refused
 abbrev pub sectionOf : (Sections → Part) → List ℕ → Answer (Head × Sections) → List ℕ
-sectionOf which s (good x) = within s (which (x .1))
-sectionOf which s (refusal n r o) = []
+sectionOf which s a = partOf (λ (x : Head × Sections). within s (which (x .1))) a
 
 -- ---- the name of a node
 -- the name that an id has in the rows
@@ -79,16 +78,14 @@ nameSpot b i = spotOf (b .names) (namesPart b .start) (idAt b i)
 
 -- the reader's number, then 16 for an index above 4095
 abbrev pub nodeOn : ℕ → Answer Block → Answer Part
-nodeOn i (good b) = cond (leb i 4095) (good (nameSpot b i)) (plain noSuch)
-nodeOn i (refusal n r o) = refusal n r o
+nodeOn i a = thenAnswer a λ b. cond (leb i 4095) (good (nameSpot b i)) (plain noSuch)
 
 abbrev pub nodeOf : List ℕ → ℕ → Answer Part
 nodeOf s i = nodeOn i (blockOf s)
 
 -- the very bytes in the block, empty when refused
 abbrev pub nodeNameOf : List ℕ → Answer Part → List ℕ
-nodeNameOf s (good p) = within s p
-nodeNameOf s (refusal n r o) = []
+nodeNameOf s a = partOf (within s) a
 
 -- bytes that are the rows of names
 pub record NameRun (s : List ℕ) (l : List NameRow) : Type 0 where

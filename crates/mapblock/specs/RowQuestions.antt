@@ -5,7 +5,7 @@ use mathlib.Core.List.{List, []}
 use lib.Dec.{eqb}
 use lib.ListN.{length, drop}
 use Rattle.wire.specs.Read.{Read, mapRead}
-use Rattle.wire.specs.Answer.{Answer, good, refusal, plain, versionOutside, noSuch}
+use Rattle.wire.specs.Answer.{Answer, plain, partOf, versionOutside, noSuch}
 use Rattle.mapblock.specs.Layout.{all, isVersion, nameRow, metadataRow, objectRow, timerRow}
 use Rattle.mapblock.specs.Numbers.{answerOf}
 use Rattle.mapblock.specs.Rows.{nameFields, metadataFields, objectFields, timerFields}
@@ -36,9 +36,7 @@ timerRowOf s = frontRow s (mapRead timerFields (timerRow [] .read s))
 
 -- A run of the row, and the rows behind it, as parts of what was given; empty when refused.
 abbrev pub runOf : {A : Type 0} → (A → Part) → List ℕ → Answer (A × ℕ) → List ℕ
-runOf run s (good x) = within s (run (x .0))
-runOf run s (refusal n r o) = []
+runOf {A} run s a = partOf (λ (x : A × ℕ). within s (run (x .0))) a
 
 abbrev pub rowsBehind : {A : Type 0} → List ℕ → Answer (A × ℕ) → List ℕ
-rowsBehind s (good x) = drop (x .1) s
-rowsBehind s (refusal n r o) = []
+rowsBehind {A} s a = partOf (λ (x : A × ℕ). drop (x .1) s) a

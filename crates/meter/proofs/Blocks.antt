@@ -10,7 +10,7 @@ use lib.ListN.{length, length-append}
 use borrow.Author.Tests.{le-leb}
 use Rattle.wire.specs.Bytes.{Bytes, bytes-nil}
 use Rattle.wire.specs.Read.{Read, done, refused}
-use Rattle.wire.specs.Answer.{Answer, good, refusal, mapAnswer, no-good}
+use Rattle.wire.specs.Answer.{good, mapAnswer, no-good, then-good, map-good}
 use Rattle.position.specs.Keys.{splitOf}
 use Rattle.mapblock.specs.Data.{NameRow, Block}
 use Rattle.mapblock.specs.Layout.{all}
@@ -22,17 +22,8 @@ use Rattle.mapblock.proofs.Taken.{taken}
 use Rattle.tally.specs.Rows.{isName, Canonical}
 use Rattle.meter.specs.Standing.{Part, Placed, inPart, nodesFrom, standing, nodesIn}
 use Rattle.meter.specs.Counting.{Measure, MeasureRows, tallyOf}
-use Rattle.meter.specs.Tallying.{thenAnswer, placed, placedAt}
+use Rattle.meter.specs.Tallying.{placed, placedAt}
 use Rattle.meter.proofs.Amounts.{AllNamed, named-append, named-those, tally-canonical}
-
--- ---- an answer that is good
-pub then-good : {A B : Type 0} (a : Answer A) (f : A → Answer B) (b : B) → thenAnswer a f ≡ good b → (x : A) × (a ≡ good x) × (f x ≡ good b)
-then-good (good x) f b h = (x, refl, h)
-then-good (refusal n r o) f b h = no-good h
-
-pub map-good : {A B : Type 0} (f : A → B) (a : Answer A) (b : B) → mapAnswer f a ≡ good b → (x : A) × (a ≡ good x) × (f x ≡ b)
-map-good f (good x) b h = (x, refl, (cc))
-map-good f (refusal n r o) b h = no-good h
 
 -- ---- a block that is taken is well formed, and its bytes are the block's
 block-by : (x : Read Fault Block) (b : Block) → blockAnswer x ≡ good b → (n : ℕ) × (x ≡ done b n)

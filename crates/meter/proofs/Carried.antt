@@ -8,14 +8,14 @@ use native.Mathlib.Omega.{arith}
 use lib.IntN.{ℤ}
 use lib.ListN.{length, take, drop}
 use borrow.Author.Tests.{le-leb, lt-leb}
-use Rattle.wire.specs.Answer.{Answer, good, refusal, plain, badPart, partsMisfit, noRoom, tooMany}
+use Rattle.wire.specs.Answer.{Answer, good, refusal, plain, badPart, partsMisfit, noRoom, tooMany, Answered}
 use Rattle.wire.specs.Store.{stored, laid}
 use Rattle.wire.proofs.Laid.{stored-fits, laid-length}
 use Rattle.position.specs.declared.key.Coordinates.{Coordinates}
 use Rattle.mapblock.specs.declared.scan.Found.{Found}
 use Rattle.tally.specs.Rows.{Rows, plus}
 use Rattle.tally.specs.Tally.{tally, headBytes, mostRows, ones, one}
-use Rattle.tally.specs.Walks.{rowsBytes, Answered}
+use Rattle.tally.specs.Walks.{rowsBytes}
 use Rattle.tally.proofs.Held.{tally-size, head-size}
 use Rattle.names.specs.Used.{heavy}
 use Rattle.running.specs.Running.{Held, Runs, none}

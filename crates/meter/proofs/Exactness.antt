@@ -1,7 +1,7 @@
 -- When a part is tallied, and what its tally counts: demand 2's counts.
 use Prim.Native.Nat.{ℕ, _*_, _<_, _≤_}
 use mathlib.Core.Path.{_≡_, refl, sym, ap, subst, _∙_}
-use mathlib.Core.Bool.{Bool, true, false, cond}
+use mathlib.Core.Bool.{true, cond}
 use mathlib.Core.List.{List, [], _∷_, _++_}
 use mathlib.Core.Option.{Option, some, Option·getD}
 use native.Mathlib.Nat.{le-refl}
@@ -12,18 +12,18 @@ use lib.Seq.{take-append-seam}
 use borrow.Author.Tests.{leb-true, le-leb}
 use Rattle.wire.specs.Bytes.{Bytes}
 use Rattle.wire.specs.Choice.{and-yes, yes-and}
-use Rattle.wire.specs.Answer.{Answer, good, refusal, plain, mapAnswer, lent, no-good, badPart, partsMisfit, noRoom, tooMany}
+use Rattle.wire.specs.Answer.{Answer, good, refusal, plain, mapAnswer, lent, badPart, partsMisfit, noRoom, tooMany, thenAnswer, test-good, then-good, map-good, room-good}
 use Rattle.tally.specs.Rows.{Canonical}
 use Rattle.tally.specs.Tally.{tally, rowsOf, limited, mostRows}
 use Rattle.tally.specs.Theorems.{IsTally, rowsIn, Fits}
 use Rattle.tally.proofs.Held.{rows-of-tally, tally-bytewise}
 use Rattle.meter.specs.Standing.{Part, goodPart, Placed, inPart, standing, nodesIn}
 use Rattle.meter.specs.Counting.{Measure, MeasureRows}
-use Rattle.meter.specs.Tallying.{thenAnswer, placedAt, fitted, tallyBlockOf}
+use Rattle.meter.specs.Tallying.{placedAt, fitted, tallyBlockOf}
 use Rattle.meter.specs.Sheet.{sheetOf, fittedSheet, tallySheetOf}
 use Rattle.meter.specs.Theorems.{Source, one-block, whole-sheet, blocksOf, IsBytes, Gives, tallyFrom, tallied, Talliable, Exact}
 use Rattle.meter.proofs.Amounts.{those-fewer, count-tally, tally-limited, tally-fewer}
-use Rattle.meter.proofs.Blocks.{then-good, map-good, block-valid, placed-taken, AllValid, standing-number, held, rows-named, rows-canonical}
+use Rattle.meter.proofs.Blocks.{block-valid, placed-taken, AllValid, standing-number, held, rows-named, rows-canonical}
 use Rattle.meter.proofs.SheetTaken.{sheet-valid}
 
 -- ---- blocks that are taken
@@ -34,11 +34,6 @@ blocks-valid (one-block key s) b l h =
     let v : AllValid (y .0 ∷ []) × (length (y .0 ∷ []) < 4294967296) = ((block-valid s (y .0 .block) b (z .1) .0, tt), lit< tt) in
     subst (λ (l : List Placed). AllValid l × (length l < 4294967296)) (y .2) v
 blocks-valid (whole-sheet s spare) b l h = sheet-valid s l b h
-
--- a test before an answer
-test-good : {A : Type 0} (t : Bool) (n r o : ℕ) (a : Answer A) (b : A) → cond t a (refusal n r o) ≡ good b → (t ≡ true) × (a ≡ good b)
-test-good true n r o a b h = (refl, h)
-test-good false n r o a b h = no-good h
 
 module _ (m : Measure) where
   -- ---- what stands in a part of the blocks
@@ -61,10 +56,6 @@ module _ (m : Measure) where
     pub can : Talliable m room x p
     pub bytes : t ≡ tally (m .kind) .encode (held m p (can .blocks))
 
-  fitted-good : (room : ℕ) (r : MeasureRows m) (t : List ℕ) → fitted m room r ≡ good t → (length (tally (m .kind) .encode r) ≤ room) × (t ≡ tally (m .kind) .encode r)
-  unfolding fitted
-  fitted-good room r t h = let x = test-good (leb (length (tally (m .kind) .encode r)) room) noRoom 0 0 (good (tally (m .kind) .encode r)) t h in (leb-true _ _ (x .0), (cc (x .1)))
-
   sheet-good : (room n : ℕ) (r : MeasureRows m) (t : List ℕ) → fittedSheet m room r n ≡ good t
       → (length (tally (m .kind) .encode r) ≤ room) × (length r ≤ mostRows) × (t ≡ tally (m .kind) .encode r)
   unfolding fittedSheet
@@ -78,7 +69,7 @@ module _ (m : Measure) where
   told-tallied (one-block key s) p room t b h =
       let x = test-good (goodPart p) badPart 0 0 (thenAnswer (placedAt key s) λ y. fitted m room (held m p (y ∷ []))) t h in
       let y = then-good (placedAt key s) (λ y. fitted m room (held m p (y ∷ []))) t (x .1) in
-      let z = fitted-good room (held m p (y .0 ∷ [])) t (y .2) in
+      let z = room-good room (tally (m .kind) .encode (held m p (y .0 ∷ []))) t (y .2) in
       let e : blocksOf (one-block key s) ≡ good (y .0 ∷ []) = ap (mapAnswer (λ (x : Placed). x ∷ [])) (y .1) in
       let v = blocks-valid (one-block key s) b (y .0 ∷ []) e in
       record {
@@ -89,7 +80,7 @@ module _ (m : Measure) where
           taken = e;
           fits = fit-of room (y .0 ∷ []) p (v .0) (v .1) (omega (arith, tally-fewer m (nodesIn p (y .0 ∷ [])), few-nodes (y .0 ∷ []) p)) (z .0);
         };
-        bytes = z .1;
+        bytes = sym (z .1);
       }
   told-tallied (whole-sheet s spare) p room t b h =
       let x = test-good (goodPart p) badPart 0 0 (cond (leb room spare) (thenAnswer (sheetOf s) λ l. fittedSheet m room (held m p l) (length l)) (plain partsMisfit)) t h in
@@ -109,7 +100,7 @@ module _ (m : Measure) where
       }
 
   pub tallied-told : (x : Source) (p : Part) (room : ℕ) (c : Talliable m room x p) → tallyFrom m x p room ≡ good (tally (m .kind) .encode (held m p (c .blocks)))
-  unfolding tallyBlockOf tallySheetOf fitted fittedSheet
+  unfolding tallyBlockOf tallySheetOf fittedSheet
   tallied-told (one-block key s) p room c =
       let y = map-good (λ (x : Placed). x ∷ []) (placedAt key s) (c .blocks) (c .taken) in
       rw (c .good-part, y .1, y .2, le-leb _ _ (c .fits .1))

@@ -4,7 +4,7 @@ use mathlib.Core.Path.{_≡_, refl, ap, _∙_}
 use mathlib.Core.Bool.{Bool, true, false, cond, _&&_}
 use mathlib.Core.List.{List, [], _∷_, append-nil}
 use native.Mathlib.Omega.{arith}
-use Rattle.wire.specs.Answer.{Answer, good, refusal, plain, badPart}
+use Rattle.wire.specs.Answer.{Answer, good, refusal, plain, badPart, thenAnswer}
 use Rattle.position.specs.Keys.{splitOf}
 use Rattle.position.specs.Nodes.{nodeAt}
 use Rattle.position.specs.Lots.{inLot}
@@ -16,7 +16,7 @@ use Rattle.tally.specs.Rows.{Rows, addRow}
 use Rattle.tally.specs.Tally.{ones}
 use Rattle.meter.specs.Standing.{Part, goodPart, Placed, inPart, nodeOf, nodesFrom, standing, those, nodesIn}
 use Rattle.meter.specs.Counting.{tallyOf, byOne}
-use Rattle.meter.specs.Tallying.{thenAnswer, placed, placedAt, fitted, tallyBlockOf}
+use Rattle.meter.specs.Tallying.{placed, placedAt, fitted, tallyBlockOf}
 use Rattle.meter.specs.Theorems.{NamesAlone}
 
 -- one block's nodes, with nothing behind them

@@ -4,12 +4,11 @@ use mathlib.Core.Path.{_≡_, refl, ap, ap₂, sym, subst, _∙_}
 use mathlib.Core.List.{List}
 use native.Mathlib.Omega.{arith}
 use lib.ListN.{length}
-use Rattle.wire.specs.Answer.{Answer, good, refusal, sheetMalformed}
+use Rattle.wire.specs.Answer.{Answer, good, refusal, sheetMalformed, Answered}
 use Rattle.position.specs.Lots.{world}
 use Rattle.position.specs.Spans.{allTime}
 use Rattle.position.specs.declared.lot.Lot.{Lot}
 use Rattle.position.specs.declared.span.Span.{Span}
-use Rattle.tally.specs.Walks.{Answered}
 use Rattle.meter.specs.Standing.{Part}
 use Rattle.meter.specs.Adding.{part}
 use Rattle.meter.specs.Counting.{byOne}

@@ -9,7 +9,7 @@ use lib.IntN.{ℤ}
 use lib.Signed.{leZ}
 use lib.ListN.{drop}
 use Rattle.wire.specs.Ints.{ints}
-use Rattle.wire.specs.Answer.{good}
+use Rattle.wire.specs.Answer.{good, map-good}
 use Rattle.position.specs.Keys.{splitOf}
 use Rattle.position.specs.declared.key.Coordinates.{Coordinates}
 use Rattle.position.proofs.Theorems.{inverse, nodes-apart}
@@ -17,7 +17,6 @@ use Rattle.meter.specs.Standing.{Placed, Node, inPart, nodeOf, nodesFrom
 use Rattle.meter.specs.Sheet.{rises, recordsFrom}
 use Rattle.meter.specs.Tallying.{placedAt}
 use Rattle.meter.specs.Theorems.{one-block, whole-sheet, Elsewhere, Apart, PositionsApart}
-use Rattle.meter.proofs.Blocks.{map-good}
 use Rattle.meter.proofs.Steps.{judge-taken, first-taken, none-taken}
 use Rattle.meter.proofs.SheetTaken.{sheet-opened}
 

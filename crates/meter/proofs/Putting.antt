@@ -16,12 +16,12 @@ use Rattle.mapblock.specs.Data.{Block}
 use Rattle.mapblock.specs.declared.scan.Found.{Found}
 use Rattle.tally.proofs.Canon.{plus-unit}
 use lib.Dec.{lit<}
-use Rattle.wire.specs.Answer.{good, refusal, plain, noRoom, tooMany}
+use Rattle.wire.specs.Answer.{good, refusal, plain, noRoom, tooMany, Answered, room-short, room-put}
 use Rattle.wire.specs.Store.{laid, stored}
 use Rattle.wire.proofs.Laid.{stored-fits, laid-two, part-back}
 use Rattle.tally.specs.Rows.{Rows}
 use Rattle.tally.specs.Tally.{tally, headBytes, mostRows, ones, one}
-use Rattle.tally.specs.Walks.{rowsBytes, Answered}
+use Rattle.tally.specs.Walks.{rowsBytes}
 use Rattle.tally.proofs.Held.{tally-bytes, tally-size, head-size}
 use Rattle.running.specs.Running.{Held, Runs, Absorbed, none}
 use Rattle.running.specs.declared.running.Running.{Running}
@@ -38,14 +38,6 @@ use Rattle.meter.proofs.AddedBlock.{found-valid}
 
 -- ---- the answer by cases
 module _ (d : List ℕ) (l : Rows ones) where
-  pub fitted-short : length d < length (tally one .encode l) → Answered (plain noRoom) d d (fitted byOne (length d) l)
-  unfolding fitted
-  fitted-short h = rw (lt-leb _ _ h) (refl, refl)
-
-  pub fitted-all : {m : ℕ} {a : List ℕ} → length (tally one .encode l) ≡ m → m ≤ length d → a ≡ tally one .encode l ++ drop m d → Answered (good m) d a (fitted byOne (length d) l)
-  unfolding fitted
-  fitted-all e h q = rw (le-leb (length (tally one .encode l)) (length d) (rw e h), e) (refl, q)
-
   module _ (n : ℕ) where
     pub sheet-short : length d < length (tally one .encode l) → Answered (refusal noRoom n 0) d d (fittedSheet byOne (length d) l n)
     unfolding fittedSheet
@@ -86,7 +78,7 @@ module _ (d t′ : List ℕ) (w : Running) (l : Rows ones) (k : 9 ≤ length d) 
   absorbed-short o =
       let same : putMid 9 (length d - 9) d t′ ≡ d = whole ∙ ap (λ (u : List ℕ). take 9 d ++ u) (a .untouched refl o ∙ behind) ∙ take-append-drop 9 d in
       let more : length d < length (tally one .encode l) = omega (arith, long, a .runs .lost o, ap length behind, length-drop 9 d, tally-size one l) in
-      subst (λ (u : List ℕ). Answered (plain noRoom) d u (fitted byOne (length d) l)) (sym same) (fitted-short d l more)
+      subst (λ (u : List ℕ). Answered (plain noRoom) d u (fitted byOne (length d) l)) (sym same) (room-short d (tally one .encode l) more)
 
   module _ (o : w .over ≡ false) where
     held : Held t′ w l
@@ -95,14 +87,11 @@ module _ (d t′ : List ℕ) (w : Running) (l : Rows ones) (k : 9 ≤ length d) 
     rows-there : t′ ≡ rowsBytes one l ++ drop (w .size) (drop 9 d)
     rows-there = sym (take-append-drop (w .size) t′) ∙ ap (λ (u : List ℕ). u ++ drop (w .size) t′) (held .bytes) ∙ ap (λ (u : List ℕ). rowsBytes one l ++ u) (a .behind o ∙ ap (drop (w .size)) behind)
 
-    size-fits : w .size + 9 ≤ length d
-    size-fits = omega (arith, k, long, held .inside, ap length behind, length-drop 9 d)
-
     pub absorbed-rows : w .rows ≡ length l
     absorbed-rows = held .rows
 
     pub absorbed-size : w .size + 9 ≤ length d
-    absorbed-size = size-fits
+    absorbed-size = omega (arith, k, long, held .inside, ap length behind, length-drop 9 d)
 
     pub absorbed-all : {e : List ℕ} → e ≡ stored 0 (headBytes one (w .rows)) (putMid 9 (length d - 9) d t′) → Answered (good (w .size + 9)) d e (fitted byOne (length d) l)
     absorbed-all {e} q =
@@ -114,7 +103,7 @@ module _ (d t′ : List ℕ) (w : Running) (l : Rows ones) (k : 9 ≤ length d) 
         let last : drop (w .size) (drop 9 d) ≡ drop (w .size + 9) d = drop-drop (w .size) 9 d ∙ ap (λ (i : ℕ). drop i d) (add-comm 9 (w .size)) in
         let size : length (tally one .encode l) ≡ w .size + 9 = omega (arith, tally-size one l, held .size) in
         let all : e ≡ tally one .encode l ++ drop (w .size + 9) d = put ∙ ap (λ (z : List ℕ). H ++ z) (rest ∙ ap (λ (z : List ℕ). rowsBytes one l ++ z) last) ∙ sym (append-assoc H (rowsBytes one l) (drop (w .size + 9) d)) ∙ ap (λ (z : List ℕ). z ++ drop (w .size + 9) d) (head-and-rows (w .rows) l (held .rows)) in
-        fitted-all d l size size-fits all
+        room-put d (tally one .encode l) size absorbed-size all
 
 -- ---- a block put into an empty tally
 module _ {s : List ℕ} {w : Found} {b : Block} (p : Part) (at : Coordinates) (y : Bytes s) (f : FoundAs s w b) where
@@ -131,4 +120,4 @@ module _ {s : List ℕ} {w : Found} {b : Block} (p : Part) (at : Coordinates) (y
 
   -- the output does not even hold the head
   pub put-headless : (d : List ℕ) → length d < 9 → Answered (plain noRoom) d d (fitted byOne (length d) rows)
-  put-headless d h = fitted-short d rows (omega (arith, tally-size one rows))
+  put-headless d h = room-short d (tally one .encode rows) (omega (arith, tally-size one rows))

@@ -10,11 +10,9 @@ use lib.ListN.{length, drop}
 use borrow.Author.Tests.{leb-true}
 use Rattle.wire.specs.Bytes.{Bytes, bytes-drop}
 use Rattle.wire.specs.Read.{done, Misread, at-place}
-use Rattle.wire.specs.Answer.{Answer, good, refusal, plain, no-good, badPart, partsMisfit}
-use Rattle.tally.specs.Walks.{Answered}
+use Rattle.wire.specs.Answer.{Answer, good, refusal, plain, no-good, badPart, partsMisfit, thenAnswer, Answered}
 use Rattle.meter.specs.Standing.{Part, goodPart, nodesIn}
 use Rattle.meter.specs.Counting.{tallyOf, byOne}
-use Rattle.meter.specs.Tallying.{thenAnswer}
 use Rattle.meter.specs.Sheet.{sheetHead, recordsFrom, sheetOf, fittedSheet, tallySheetOf}
 use Rattle.meter.specs.Streaming.{State, noRecords, startOf, finishOf}
 use Rattle.meter.specs.Progress.{Carries, StartTold, FinishTold, toldFinish}

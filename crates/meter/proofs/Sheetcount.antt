@@ -13,7 +13,7 @@ use Rattle.wire.specs.Bytes.{Bytes, bytes-drop}
 use Rattle.wire.specs.Read.{Read, done, refused}
 use Rattle.wire.specs.Format.{_⨾_, along, run, pair}
 use Rattle.wire.specs.Formats.{u32, s64, half64, number, counted}
-use Rattle.wire.specs.Answer.{Answer, good, refusal, noRoom, sheetMalformed, no-good}
+use Rattle.wire.specs.Answer.{Answer, good, refusal, noRoom, sheetMalformed, no-good, thenAnswer}
 use Rattle.wire.specs.Told.{Short, short}
 use Rattle.wire.proofs.Steps.{number-told, signed-told}
 use Rattle.position.specs.Keys.{between}
@@ -21,7 +21,6 @@ use Rattle.position.specs.Lots.{axis}
 use Rattle.tally.specs.Rows.{Canonical}
 use Rattle.tally.specs.Tally.{ones}
 use Rattle.meter.specs.Counting.{byOne}
-use Rattle.meter.specs.Tallying.{thenAnswer}
 use Rattle.meter.specs.Sheet.{Misframed, misframed, SheetRecord, frame, sheetHead, framed, tallySheetOf}
 use Rattle.meter.specs.Streaming.{State, noRecords, stepOf, stepsOf, takeOf, finishOf}
 use Rattle.meter.specs.SheetTold.{answerFrom}

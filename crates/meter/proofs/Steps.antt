@@ -12,7 +12,7 @@ use borrow.Author.Tests.{eq-eqb, ne-eqb}
 use Rattle.wire.specs.Read.{Read, done, refused}
 use Rattle.wire.specs.Format.{_⨾_, along}
 use Rattle.wire.specs.Formats.{s64, half64, counted}
-use Rattle.wire.specs.Answer.{Answer, good, refusal, plain, mapAnswer, outOfRange, sheetMalformed, no-good}
+use Rattle.wire.specs.Answer.{Answer, good, refusal, plain, mapAnswer, outOfRange, sheetMalformed, no-good, then-good, map-good}
 use Rattle.wire.specs.Told.{Short, short}
 use Rattle.wire.proofs.Steps.{signed-told, counted-told}
 use Rattle.position.specs.Keys.{splitOf}
@@ -22,7 +22,6 @@ use Rattle.mapblock.specs.Questions.{blockOf}
 use Rattle.meter.specs.Standing.{Placed}
 use Rattle.meter.specs.Tallying.{placed}
 use Rattle.meter.specs.Sheet.{Misframed, misframed, SheetRecord, frame, sheetHead, rises, judgeRecord, recordsFrom, sheetOf}
-use Rattle.meter.proofs.Blocks.{then-good, map-good}
 
 -- ---- a record's framing, by its fields as the leaves tell them
 module _ (s : List ℕ) where

@@ -12,18 +12,17 @@ use lib.ListN.{length, drop}
 use Rattle.wire.specs.Bytes.{Bytes, bytes-drop}
 use Rattle.wire.specs.Read.{done, refused}
 use Rattle.wire.specs.Format.{encodeItems}
-use Rattle.wire.specs.Answer.{Answer, good, refusal, plain, mapAnswer, no-good, badPart, partsMisfit}
+use Rattle.wire.specs.Answer.{Answer, good, refusal, plain, mapAnswer, no-good, badPart, partsMisfit, thenAnswer, map-good}
 use Rattle.mapblock.specs.Valid.{Valid}
 use Rattle.tally.specs.Rows.{plus, Canonical}
 use Rattle.tally.proofs.Canon.{canonical-plus, plus-comm, plus-assoc, plus-unit}
 use Rattle.meter.specs.Standing.{Part, goodPart, Placed, inPart, nodesFrom, standing, those, nodesIn}
 use Rattle.meter.specs.Counting.{Measure, MeasureRows, tallyOf}
-use Rattle.meter.specs.Tallying.{thenAnswer}
 use Rattle.meter.specs.Sheet.{Misframed, SheetRecord, frame, judgeRecord, recordsFrom, sheetOf, fittedSheet, tallySheetOf}
 use Rattle.meter.specs.Streaming.{State, noRecords, startOf, taking, stepOf, stepsOf, finishOf}
 use Rattle.meter.specs.Theorems.{sheetBytes, Framed, streamed, broken, Streams}
 use Rattle.meter.proofs.Amounts.{those-append, named-those, tally-append}
-use Rattle.meter.proofs.Blocks.{map-good, AllValid, standing-named, held, rows-canonical}
+use Rattle.meter.proofs.Blocks.{AllValid, standing-named, held, rows-canonical}
 use Rattle.meter.proofs.Steps.{records-end, records-more, records-misframed, records-on, written-refused, written-on, none-taken}
 use Rattle.meter.proofs.SheetTaken.{sheet-behind, record-valid, records-valid}
 

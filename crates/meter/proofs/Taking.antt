@@ -8,12 +8,11 @@ use lib.ListN.{length, take, drop}
 use Rattle.wire.specs.Bytes.{Bytes}
 use Rattle.wire.specs.Read.{Read, done, refused, Misread, at-place}
 use Rattle.wire.specs.Format.{ends-in}
-use Rattle.wire.specs.Answer.{Answer, good, refusal, sheetMalformed, no-good}
+use Rattle.wire.specs.Answer.{Answer, good, refusal, sheetMalformed, no-good, thenAnswer}
 use Rattle.tally.specs.Rows.{Canonical}
 use Rattle.tally.specs.Tally.{ones}
 use Rattle.meter.specs.Standing.{Part, Placed}
 use Rattle.meter.specs.Counting.{byOne}
-use Rattle.meter.specs.Tallying.{thenAnswer}
 use Rattle.meter.specs.Sheet.{Misframed, SheetRecord, frame, judgeRecord}
 use Rattle.meter.specs.Streaming.{State, taking, stepOf, takeOf}
 use Rattle.meter.specs.Records.{recordOf, FrameTold}

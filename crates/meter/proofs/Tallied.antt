@@ -7,7 +7,7 @@ use lib.IntN.{ℤ}
 use lib.ListN.{length, replicate}
 use Rattle.wire.specs.Bytes.{Bytes}
 use Rattle.wire.specs.Read.{done, refused, mapRead}
-use Rattle.wire.specs.Answer.{good, refusal, plain, badPart, outOfRange}
+use Rattle.wire.specs.Answer.{good, refusal, plain, badPart, outOfRange, Answered}
 use Rattle.position.specs.Keys.{splitOf}
 use Rattle.position.specs.declared.key.Coordinates.{Coordinates}
 use Rattle.mapblock.specs.Data.{Block}
@@ -18,7 +18,6 @@ use Rattle.mapblock.specs.Table.{freeIn}
 use Rattle.mapblock.specs.declared.fault.Fault.{Fault}
 use Rattle.mapblock.specs.declared.scan.Found.{Found}
 use Rattle.mapblock.proofs.BlockAnswers.{clear-table, block-refused, TakenAs, taken-as}
-use Rattle.tally.specs.Walks.{Answered}
 use Rattle.meter.specs.Standing.{Part, goodPart}
 use Rattle.meter.specs.Counting.{byOne}
 use Rattle.meter.specs.Tallying.{placedAt, tallyBlockOf}

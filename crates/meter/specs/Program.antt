@@ -9,12 +9,11 @@ use lib.ListN.{length, drop}
 use Rattle.wire.specs.Bytes.{Bytes}
 use Rattle.wire.specs.Read.{done}
 use Rattle.wire.specs.Formats.{_▹_, u32, s64}
-use Rattle.wire.specs.Answer.{Answer, good, refusal, noRoom, sheetMalformed}
+use Rattle.wire.specs.Answer.{Answer, good, refusal, noRoom, sheetMalformed, thenAnswer}
 use Rattle.position.specs.Lots.{world}
 use Rattle.position.specs.Spans.{allTime}
 use Rattle.meter.specs.Standing.{Part}
 use Rattle.meter.specs.Counting.{byOne}
-use Rattle.meter.specs.Tallying.{thenAnswer}
 use Rattle.meter.specs.Sheet.{SheetForm, SheetRecord, frame, sheetHead, framed, tallySheetOf}
 use Rattle.meter.specs.Streaming.{State, noRecords, stepsOf, takeOf, finishOf}
 use Rattle.meter.specs.Theorems.{sheetBytes, Framed}

@@ -3,8 +3,7 @@ use Prim.Native.Nat.{ℕ, _*_, _≤_, _<_}
 use mathlib.Core.Path.{_≡_}
 use mathlib.Core.List.{List}
 use lib.ListN.{length}
-use Rattle.wire.specs.Answer.{Answer, good, refusal, plain, badPart, partsMisfit, sheetMalformed, noRoom, tooMany}
-use Rattle.tally.specs.Walks.{Answered}
+use Rattle.wire.specs.Answer.{Answer, good, refusal, plain, badPart, partsMisfit, sheetMalformed, noRoom, tooMany, Answered}
 use Rattle.names.specs.Used.{heavy}
 use Rattle.running.specs.Running.{Runs}
 use Rattle.meter.specs.Counting.{byOne}

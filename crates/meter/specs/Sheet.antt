@@ -11,13 +11,13 @@ use lib.ListN.{length, drop}
 use Rattle.wire.specs.Read.{Read, done, refused}
 use Rattle.wire.specs.Format.{Format, such}
 use Rattle.wire.specs.Formats.{_▹_, s64, counted, listed, headed, head, into, Shape}
-use Rattle.wire.specs.Answer.{Answer, good, refusal, plain, mapAnswer, badPart, partsMisfit, sheetMalformed, noRoom, tooMany}
+use Rattle.wire.specs.Answer.{Answer, good, refusal, plain, mapAnswer, badPart, partsMisfit, sheetMalformed, noRoom, tooMany, thenAnswer}
 use Rattle.position.specs.Keys.{isKey, splitOf}
 use Rattle.mapblock.specs.Questions.{blockOf}
 use Rattle.tally.specs.Tally.{tally, mostRows}
 use Rattle.meter.specs.Standing.{Part, goodPart, Placed, nodesIn}
 use Rattle.meter.specs.Counting.{Measure, MeasureRows, tallyOf}
-use Rattle.meter.specs.Tallying.{thenAnswer, placed}
+use Rattle.meter.specs.Tallying.{placed}
 
 -- ---- the bytes
 -- The one fault of a sheet's own bytes: 15 has no offset.

@@ -3,13 +3,11 @@ use Prim.Native.Nat.{ℕ, _+_, _<_}
 use mathlib.Core.Path.{_≡_}
 use mathlib.Core.List.{List}
 use lib.ListN.{length}
-use Rattle.wire.specs.Answer.{Answer, good, refusal, plain, badPart, partsMisfit, sheetMalformed, noRoom, tooMany}
+use Rattle.wire.specs.Answer.{Answer, good, refusal, plain, badPart, partsMisfit, sheetMalformed, noRoom, tooMany, thenAnswer, Answered}
 use Rattle.tally.specs.Rows.{plus}
 use Rattle.tally.specs.Tally.{ones}
-use Rattle.tally.specs.Walks.{Answered}
 use Rattle.meter.specs.Standing.{Part, nodesIn}
 use Rattle.meter.specs.Counting.{tallyOf, byOne}
-use Rattle.meter.specs.Tallying.{thenAnswer}
 use Rattle.meter.specs.Sheet.{recordsFrom, sheetOf, fittedSheet}
 use Rattle.meter.specs.Streaming.{State, finishOf}
 use Rattle.meter.specs.Records.{faulty}

@@ -5,11 +5,10 @@ use mathlib.Core.List.{List, [], _∷_}
 use mathlib.Core.Option.{Option, some, none}
 use lib.Dec.{leb}
 use lib.IntN.{ℤ}
-use Rattle.wire.specs.Answer.{Answer, good, plain, badPart, partsMisfit}
+use Rattle.wire.specs.Answer.{Answer, good, plain, badPart, partsMisfit, thenAnswer}
 use Rattle.tally.specs.Rows.{plus}
 use Rattle.meter.specs.Standing.{Part, goodPart, Placed, nodesIn}
 use Rattle.meter.specs.Counting.{Measure, MeasureRows, tallyOf}
-use Rattle.meter.specs.Tallying.{thenAnswer}
 use Rattle.meter.specs.Sheet.{SheetRecord, frame, inRecord, framed, judgeRecord, fittedSheet}
 
 module _ (m : Measure) where

@@ -2,10 +2,8 @@
 use Prim.Native.Nat.{ℕ}
 use mathlib.Core.Bool.{cond}
 use mathlib.Core.List.{List, [], _∷_}
-use lib.Dec.{leb}
 use lib.IntN.{ℤ}
-use lib.ListN.{length}
-use Rattle.wire.specs.Answer.{Answer, good, refusal, plain, mapAnswer, badPart, noRoom}
+use Rattle.wire.specs.Answer.{Answer, plain, mapAnswer, thenAnswer, badPart, inRoom}
 use Rattle.position.specs.Keys.{splitOf}
 use Rattle.position.specs.declared.key.Coordinates.{Coordinates}
 use Rattle.mapblock.specs.Data.{Block}
@@ -13,11 +11,6 @@ use Rattle.mapblock.specs.Questions.{blockOf}
 use Rattle.tally.specs.Tally.{tally}
 use Rattle.meter.specs.Standing.{Part, goodPart, Placed, nodesIn}
 use Rattle.meter.specs.Counting.{Measure, MeasureRows, tallyOf}
-
--- what follows a good answer
-abbrev pub thenAnswer : {A B : Type 0} → Answer A → (A → Answer B) → Answer B
-thenAnswer (good a) f = f a
-thenAnswer (refusal n r o) f = refusal n r o
 
 abbrev pub placed : Coordinates → Block → Placed
 placed c b = record { at = c; block = b }
@@ -28,8 +21,8 @@ placedAt key s = thenAnswer (splitOf key) λ c. mapAnswer (placed c) (blockOf s)
 
 module _ (m : Measure) where
   -- the bytes of rows, where they fit
-  unfoldable pub fitted : ℕ → MeasureRows m → Answer (List ℕ)
-  fitted room l = cond (leb (length (tally (m .kind) .encode l)) room) (good (tally (m .kind) .encode l)) (plain noRoom)
+  abbrev pub fitted : ℕ → MeasureRows m → Answer (List ℕ)
+  fitted room l = inRoom room (tally (m .kind) .encode l)
 
   unfoldable pub tallyBlockOf : ℤ → List ℕ → Part → ℕ → Answer (List ℕ)
   tallyBlockOf key s p room = cond (goodPart p)

@@ -12,7 +12,7 @@ use lib.ListN.{length, take}
 use Rattle.wire.specs.Bytes.{Bytes}
 use Rattle.wire.specs.Read.{refused}
 use Rattle.wire.specs.Format.{encodeItems}
-use Rattle.wire.specs.Answer.{Answer, good, refusal, mapAnswer, lent, sheetMalformed}
+use Rattle.wire.specs.Answer.{Answer, good, refusal, mapAnswer, lent, sheetMalformed, thenAnswer}
 use Rattle.position.specs.Keys.{splitOf}
 use Rattle.position.specs.Spans.{inSpan}
 use Rattle.mapblock.specs.Data.{Block}
@@ -26,7 +26,7 @@ use Rattle.tally.specs.Theorems.{Merger, merged, Merges, MergeLaw, EmptyChanges
 use Rattle.tally.specs.Theorems as merging
 use Rattle.meter.specs.Standing.{Part, goodPart, Placed, Node, nodesIn}
 use Rattle.meter.specs.Counting.{Measure, MeasureRows, tallyOf, amountOf, byOne}
-use Rattle.meter.specs.Tallying.{thenAnswer, placedAt, tallyBlockOf}
+use Rattle.meter.specs.Tallying.{placedAt, tallyBlockOf}
 use Rattle.meter.specs.Sheet.{Misframed, SheetRecord, frame, sheetHead, sheet, sheetOf, tallySheetOf}
 use Rattle.meter.specs.Streaming.{State, startOf, stepsOf, finishOf}
 use Rattle.meter.specs.Cuts.{Cuts, Partition}

@@ -2,11 +2,10 @@
 use Prim.Native.Nat.{ℕ}
 use mathlib.Core.List.{List, [], _∷_}
 use lib.ListN.{length}
-use Rattle.wire.specs.Answer.{Answer, good, refusal, plain, outOfRange, badPart, noRoom}
+use Rattle.wire.specs.Answer.{Answer, good, refusal, plain, outOfRange, badPart, noRoom, Answered}
 use Rattle.position.specs.declared.key.Coordinates.{Coordinates}
 use Rattle.mapblock.specs.Data.{Block}
 use Rattle.mapblock.specs.Numbers.{number}
-use Rattle.tally.specs.Walks.{Answered}
 use Rattle.meter.specs.Standing.{Part, nodesIn}
 use Rattle.meter.specs.Counting.{tallyOf, byOne}
 use Rattle.meter.specs.Tallying.{placed, fitted}

@@ -15,7 +15,7 @@ use wire::fields::u32_at;
 ghost use mathlib.Core.Path.{_≡_};
 ghost use Prim.Native.Nat.{ℕ, _≤_};
 ghost use lib.ListN.{length};
-ghost use Rattle.tally.specs.Walks.{Answered};
+ghost use Rattle.wire.specs.Answer.{Answered};
 ghost use Rattle.meter.specs.Counting.{byOne};
 ghost use Rattle.meter.specs.Streaming.{State};
 ghost use Rattle.meter.specs.Progress.{Carries, Steps, Untouched};

@@ -6,18 +6,18 @@ use mathlib.Core.List.{List, _++_}
 use native.Mathlib.Omega.{arith}
 use lib.ListN.{length, take, drop, length-append}
 use borrow.Author.Tests.{leb-true, leb-false}
-use Rattle.wire.specs.Answer.{good, plain, noRoom, tallyMalformed}
+use Rattle.wire.specs.Answer.{good, plain, noRoom, tallyMalformed, inRoom, Answered, room-short}
 use Rattle.wire.specs.Lists.{rest-is}
 use Rattle.wire.specs.Store.{PutAt}
 use Rattle.wire.proofs.Puts.{put-room, put-two}
 use Rattle.tally.specs.Tally.{one}
 use Rattle.tally.specs.Operations.{checkOf}
-use Rattle.tally.specs.Walks.{Holds, Answered}
+use Rattle.tally.specs.Walks.{Holds}
 use Rattle.tally.proofs.Held.{Opened}
 use Rattle.tally.proofs.Checks.{Checked, unchecked}
-use Rattle.report.specs.Text.{decimal, lines, opening, tallyText, fittedText, tallyTextOf}
+use Rattle.report.specs.Text.{decimal, lines, opening, tallyText, tallyTextOf}
 use Rattle.report.specs.Told.{LinesFit, HasRoom, LinesPut}
-use Rattle.report.proofs.Texts.{text-short, text-all, opening-size}
+use Rattle.report.proofs.Texts.{text-all, opening-size}
 
 module _ (t d : List ℕ) where
   pub tally-bad : plain tallyMalformed ≡ checkOf one t → Answered (plain tallyMalformed) d d (tallyTextOf (length d) t)
@@ -36,7 +36,7 @@ module _ (t d : List ℕ) where
     abbrev text : List ℕ
     text = opening n ++ lines (x .l)
 
-    text-of : tallyTextOf (length d) t ≡ fittedText (length d) text
+    text-of : tallyTextOf (length d) t ≡ inRoom (length d) text
     unfolding tallyTextOf tallyText
     text-of = rw (x .is, x .counts)
 
@@ -44,7 +44,7 @@ module _ (t d : List ℕ) where
     text-size = omega (arith, length-append (opening n) (lines (x .l)), opening-size n k e)
 
     no-room : length d < 11 + k + 1 + length (lines (x .l)) → Answered (plain noRoom) d d (tallyTextOf (length d) t)
-    no-room h = rw text-of (text-short d text (omega (arith, text-size)))
+    no-room h = rw text-of (room-short d text (omega (arith, text-size)))
 
     pub tally-headless : length d < 11 + k + 1 → Answered (plain noRoom) d d (tallyTextOf (length d) t)
     tally-headless h = no-room (omega arith)

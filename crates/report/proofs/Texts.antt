@@ -1,18 +1,16 @@
 -- Texts put into a lent buffer, one piece behind the other.
 use Prim.Native.Nat.{ℕ, _+_, _<_, _≤_}
-use mathlib.Core.Path.{_≡_, refl, ap, _∙_}
+use mathlib.Core.Path.{_≡_, refl, sym, _∙_}
 use mathlib.Core.List.{List, [], _∷_, _++_}
 use native.Mathlib.Nat.{zero-add}
 use native.Mathlib.Omega.{arith}
 use lib.ListN.{length, length-append}
-use borrow.Author.Tests.{le-leb, lt-leb}
-use Rattle.wire.specs.Answer.{good, plain, noRoom}
+use Rattle.wire.specs.Answer.{good, plain, noRoom, inRoom, Answered, room-short, room-put}
 use Rattle.wire.specs.Store.{stored, PutAt}
 use Rattle.wire.proofs.Laid.{stored-fits}
 use Rattle.wire.proofs.Puts.{put-run, front-room, put-two}
 use Rattle.tally.specs.Rows.{Row}
-use Rattle.tally.specs.Walks.{Answered}
-use Rattle.report.specs.Text.{decimal, space, newline, line, rowsWords, opening, refusedWord, recordWord, refusalText, fittedText, refusalTextOf}
+use Rattle.report.specs.Text.{decimal, space, newline, line, rowsWords, opening, refusedWord, recordWord, refusalText, refusalTextOf}
 
 -- a store that ends at m, and what is put behind it
 put-then : (at m : ℕ) (u w : List ℕ) {n : ℕ} {d a e : List ℕ} → m ≡ at + length u → at + length (u ++ w) ≤ length d → a ≡ stored at u d
@@ -21,11 +19,8 @@ put-then at m u w {d = d} p room s f = put-two {u = u} room (record { ends = p; 
 
 -- ---- what a call answers that puts a text into the buffer d
 module _ (d x : List ℕ) where
-  pub text-short : length d < length x → Answered (plain noRoom) d d (fittedText (length d) x)
-  text-short h = rw (lt-leb (length x) (length d) h) (refl, refl)
-
-  pub text-all : {n : ℕ} {a : List ℕ} → length x ≤ length d → PutAt 0 x d a n → Answered (good n) d a (fittedText (length d) x)
-  text-all h p = rw (le-leb (length x) (length d) h) (ap good (p .ends ∙ zero-add (length x)), p .lays ∙ rw zero-add)
+  pub text-all : {n : ℕ} {a : List ℕ} → length x ≤ length d → PutAt 0 x d a n → Answered (good n) d a (inRoom (length d) x)
+  text-all {n} h p = let e : n ≡ length x = p .ends ∙ zero-add (length x) in room-put d x (sym e) (omega arith) (p .lays ∙ rw (e, zero-add))
 
 -- ---- a refusal, whose numbers have k and j digits
 module _ (n i k j : ℕ) (p : k ≡ length (decimal n)) (q : j ≡ length (decimal i)) (d : List ℕ) where
@@ -35,7 +30,7 @@ module _ (n i k j : ℕ) (p : k ≡ length (decimal n)) (q : j ≡ length (decim
 
   pub refusal-short : length d ≤ 8 + k + 8 + j → Answered (plain noRoom) d d (refusalTextOf (length d) n i)
   unfolding refusalTextOf
-  refusal-short h = text-short d (refusalText n i) (omega (arith, size))
+  refusal-short h = room-short d (refusalText n i) (omega (arith, size))
 
   pub refusal-all : {a b c e f : List ℕ} → 8 + k + 8 + j < length d → a ≡ stored 0 refusedWord d → b ≡ stored 8 (decimal n) a → c ≡ stored (8 + k) recordWord b
       → e ≡ stored (8 + k + 8) (decimal i) c → f ≡ stored (8 + k + 8 + j) (newline ∷ []) e → Answered (good (8 + k + 8 + j + 1)) d f (refusalTextOf (length d) n i)

@@ -2,9 +2,9 @@
 use Prim.Native.Nat.{ℕ, zero, suc, _+_, _/_, _%_}
 use mathlib.Core.Bool.{cond}
 use mathlib.Core.List.{List, [], _∷_, _++_}
-use lib.Dec.{leb, ltb}
+use lib.Dec.{ltb}
 use lib.ListN.{length}
-use Rattle.wire.specs.Answer.{Answer, good, refusal, plain, noRoom}
+use Rattle.wire.specs.Answer.{Answer, good, refusal, inRoom}
 use Rattle.tally.specs.Rows.{Row, Rows}
 use Rattle.tally.specs.Tally.{ones, one, rowsOf}
 use Rattle.tally.specs.Operations.{withRows}
@@ -60,16 +60,12 @@ unfoldable pub refusalText : ℕ → ℕ → List ℕ
 refusalText n i = refusedWord ++ (decimal n ++ (recordWord ++ (decimal i ++ (newline ∷ []))))
 
 -- ---- what a call answers that puts text into a buffer
--- 11 where it does not fit
-abbrev pub fittedText : ℕ → List ℕ → Answer (List ℕ)
-fittedText room x = cond (leb (length x) room) (good x) (plain noRoom)
-
 -- of bytes that are to be a tally: 13, 11
 unfoldable pub tallyTextOf : ℕ → List ℕ → Answer (List ℕ)
-tallyTextOf room t = withRows (rowsOf one t) λ l. fittedText room (tallyText l)
+tallyTextOf room t = withRows (rowsOf one t) λ l. inRoom room (tallyText l)
 
 unfoldable pub refusalTextOf : ℕ → ℕ → ℕ → Answer (List ℕ)
-refusalTextOf room n i = fittedText room (refusalText n i)
+refusalTextOf room n i = inRoom room (refusalText n i)
 
 -- ---- what the program prints of the tally, or of the refusal, that its input comes to
 unfoldable pub printed : Answer (List ℕ) → List ℕ

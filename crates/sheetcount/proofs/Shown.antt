@@ -8,7 +8,7 @@ use native.Mathlib.Omega.{arith}
 use lib.ListN.{length, take, drop, length-append}
 use lib.Seq.{take-append-seam}
 use Rattle.wire.specs.Bytes.{Bytes}
-use Rattle.wire.specs.Answer.{Answer, good, refusal, mapAnswer, lent, no-good}
+use Rattle.wire.specs.Answer.{Answer, good, refusal, mapAnswer, lent, no-good, map-good}
 use Rattle.report.specs.Text.{refusalText, tallyTextOf, printed}
 use Rattle.report.specs.Told.{toldText, lengthPut}
 use Rattle.report.specs.declared.text.TextAnswer.{TextAnswer}
@@ -21,7 +21,6 @@ use Rattle.meter.specs.Program.{everything, mostTally, sheetcountOf}
 use Rattle.meter.specs.declared.sheet.SheetAnswer.{SheetAnswer}
 use Rattle.meter.specs.declared.sheet.SheetAnswer.the-variants as sheets
 use Rattle.meter.proofs.sheet.SheetAnswer as answers
-use Rattle.meter.proofs.Blocks.{map-good}
 use Rattle.meter.proofs.Exactness.{told-tallied, is-tally}
 use Rattle.meter.proofs.Sheetcount.{sheetcount}
 use Rattle.sheetcount.specs.Reading.{CountedAs}

@@ -3,14 +3,13 @@ use Prim.Native.Nat.{ℕ, _<_, _^_}
 use mathlib.Core.Path.{_≡_, refl, sym, subst, _∙_}
 use mathlib.Core.List.{List, _++_}
 use Rattle.wire.specs.Bytes.{Bytes, bytes-append}
-use Rattle.wire.specs.Answer.{Answer, good, refusal, plain, no-good}
+use Rattle.wire.specs.Answer.{Answer, good, refusal, plain, no-good, Answered}
 use Rattle.wire.specs.Read.{Misread, at-place}
 use Rattle.position.specs.Keys.{between}
 use Rattle.position.specs.Lots.{axis, world}
 use Rattle.position.specs.Spans.{allTime}
 use Rattle.position.specs.declared.lot.Lot.{Lot}
 use Rattle.position.specs.declared.span.Span.{Span}
-use Rattle.tally.specs.Walks.{Answered}
 use Rattle.meter.specs.Adding.{part}
 use Rattle.meter.specs.Counting.{byOne}
 use Rattle.meter.specs.Streaming.{State, noRecords, startOf}

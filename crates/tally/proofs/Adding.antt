@@ -11,7 +11,7 @@ use lib.ListN.{length, take, drop, length-append, take-append-drop}
 use lib.Seq.{take-at, drop-at, length-take-le}
 use borrow.Author.Tests.{le-leb, lt-leb}
 use borrow.Rule.Slice.PartMut.{putMid}
-use Rattle.wire.specs.Answer.{good, plain, partsMisfit, tallyMalformed}
+use Rattle.wire.specs.Answer.{good, plain, partsMisfit, tallyMalformed, Answered}
 use Rattle.wire.specs.Bytes.{Bytes, spell, bytes-take}
 use Rattle.wire.specs.Formats.{u32, u64, headLength}
 use Rattle.wire.specs.Order.{order, order-refl}
@@ -24,7 +24,7 @@ use Rattle.tally.specs.Rows.{Row, Rows, isName, joined, addRow}
 use Rattle.tally.specs.Tally.{Kind, KindRow, KindRows, headBytes, fields, tally, rowsOf, limited, countable, most, ones, one, mostRows}
 use Rattle.tally.specs.Operations.{checkOf, tallied, addOf}
 use Rattle.tally.specs.Told.{toldAdd}
-use Rattle.tally.specs.Walks.{rowsBytes, Holds, Answered}
+use Rattle.tally.specs.Walks.{rowsBytes, Holds}
 use Rattle.tally.specs.Sought.{Ready, Sought, FoundRow, FoundPlace, opened, AddedAs}
 use Rattle.tally.specs.declared.add.AddAnswer.{AddAnswer}
 use Rattle.tally.specs.declared.add.AddAnswer.the-variants as answers

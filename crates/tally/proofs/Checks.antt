@@ -6,12 +6,12 @@ use mathlib.Core.List.{List, []}
 use mathlib.Core.Option.{Option, some, none}
 use lib.ListN.{length, drop}
 use Rattle.wire.specs.Choice.{no-true, no-false}
-use Rattle.wire.specs.Answer.{good, plain, no-good, tallyMalformed}
+use Rattle.wire.specs.Answer.{good, plain, no-good, tallyMalformed, partOf}
 use Rattle.wire.specs.Bytes.{Bytes, bytes-drop}
 use Rattle.wire.specs.Format.{items, items-length}
 use Rattle.wire.specs.Formats.{headLength}
 use Rattle.tally.specs.Tally.{Kind, KindRows, whole, row, rowsOf, one}
-use Rattle.tally.specs.Operations.{withRows, checkOf, rowsPart, partOf}
+use Rattle.tally.specs.Operations.{withRows, checkOf, rowsPart}
 use Rattle.tally.specs.Walks.{isSome, takes}
 use Rattle.tally.proofs.Held.{opened, whole-some}
 

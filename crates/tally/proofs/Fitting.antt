@@ -9,7 +9,7 @@ use native.Mathlib.Omega.{arith}
 use lib.Dec.{leb}
 use lib.ListN.{length, drop, length-append}
 use borrow.Author.Tests.{leb-true, leb-false, le-leb, lt-leb}
-use Rattle.wire.specs.Answer.{good, plain, noRoom, tallyMalformed, tooMany}
+use Rattle.wire.specs.Answer.{good, plain, noRoom, tallyMalformed, tooMany, Answered, room-short, room-put}
 use Rattle.wire.specs.Choice.{and-yes, yes-and}
 use Rattle.wire.specs.Order.{order, order-same}
 use Rattle.wire.specs.declared.order.Order.{Order}
@@ -18,7 +18,7 @@ use Rattle.tally.specs.Rows.{choose, joined, addRow, plus, Canonical}
 use Rattle.tally.specs.Tally.{Kind, KindRow, KindRows, fields, tally, rowsOf, limited, countable, mostRows}
 use Rattle.tally.specs.Operations.{tallied, mergeOf}
 use Rattle.tally.specs.Theorems.{Fits}
-use Rattle.tally.specs.Walks.{rowsBytes, Answered}
+use Rattle.tally.specs.Walks.{rowsBytes}
 use Rattle.tally.proofs.Held.{row-size, tally-size}
 use Rattle.tally.proofs.Canon.{plus-comm}
 
@@ -42,11 +42,13 @@ module _ (k : Kind) where
     many-answered h = rw (tallied-many (length d) l h) (refl, refl)
 
     pub room-answered : countable k l ≡ true → length d < length (tally k .encode l) → Answered (plain noRoom) d d (tallied k (length d) l)
-    room-answered h i = rw (tallied-room (length d) l h i) (refl, refl)
+    unfolding tallied
+    room-answered h i = rw h (room-short d (tally k .encode l) i)
 
     pub good-answered : {m : ℕ} {a : List ℕ} → countable k l ≡ true → length (tally k .encode l) ≡ m → m ≤ length d → a ≡ tally k .encode l ++ drop m d
         → Answered (good m) d a (tallied k (length d) l)
-    good-answered h e i q = rw (tallied-good (length d) l (h, rw e i), e) (refl, q)
+    unfolding tallied
+    good-answered h e i q = rw h (room-put d (tally k .encode l) e i q)
 
   -- which of the three it is
   pub data Tallying (room : ℕ) (l : KindRows k) : Type 0 where

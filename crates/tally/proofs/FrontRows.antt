@@ -8,7 +8,7 @@ use native.Mathlib.Omega.{arith}
 use lib.Dec.{eqb}
 use lib.ListN.{length, take, drop}
 use borrow.Author.Tests.{le-leb, lt-leb, eq-eqb, ne-eqb}
-use Rattle.wire.specs.Answer.{good, plain, tallyMalformed, noSuch}
+use Rattle.wire.specs.Answer.{good, plain, tallyMalformed, noSuch, partOf}
 use Rattle.wire.specs.Bytes.{Bytes}
 use Rattle.wire.specs.Read.{done, refused}
 use Rattle.wire.specs.Format.{such, along, ends-in}
@@ -20,7 +20,7 @@ use Rattle.wire.proofs.Steps.{number-told, counted-told}
 use Rattle.wire.proofs.Joints.{then-refused, then-done}
 use Rattle.tally.specs.Rows.{Row, isName}
 use Rattle.tally.specs.Tally.{Malformed, malformed, Form, Kind, KindRow, KindRows, found, fields, mayStand, row, one}
-use Rattle.tally.specs.Operations.{frontOf, partOf}
+use Rattle.tally.specs.Operations.{frontOf}
 use Rattle.tally.specs.Told.{toldRow}
 use Rattle.tally.proofs.Held.{row-inside}
 use Rattle.tally.specs.declared.rows.RowRead.the-variants as rows

@@ -11,7 +11,7 @@ use lib.ListN.{length, take, drop, length-drop}
 use lib.Seq.{drop-drop}
 use borrow.Author.Tests.{le-leb, lt-leb}
 use borrow.Rule.Slice.PartMut.{putMid}
-use Rattle.wire.specs.Answer.{plain, tallyMalformed}
+use Rattle.wire.specs.Answer.{plain, tallyMalformed, Answered}
 use Rattle.wire.specs.Choice.{yes-and, and-no}
 use Rattle.wire.specs.Lists.{rest-is}
 use Rattle.wire.specs.Store.{laid, stored}
@@ -20,7 +20,7 @@ use Rattle.tally.specs.Rows.{Rows, plus}
 use Rattle.tally.specs.Tally.{headBytes, tally, limited, countable, ones, one, mostRows}
 use Rattle.tally.specs.Operations.{checkOf, mergeOf}
 use Rattle.tally.specs.Told.{toldMerge}
-use Rattle.tally.specs.Walks.{rowsBytes, Answered}
+use Rattle.tally.specs.Walks.{rowsBytes}
 use Rattle.tally.specs.Sums.{MeasuredRows, MeasuredAs, SumPut, MergedAs}
 use Rattle.tally.specs.declared.merge.Measured.the-variants as measures
 use Rattle.tally.specs.declared.merge.MergeAnswer.{MergeAnswer}

@@ -5,7 +5,7 @@ use mathlib.Core.List.{List, []}
 use mathlib.Core.Option.{Option, some, none}
 use lib.Dec.{leb, eqb}
 use lib.ListN.{length, take, drop}
-use Rattle.wire.specs.Answer.{Answer, good, refusal, plain, noRoom, partsMisfit, tallyMalformed, tooMany, noSuch}
+use Rattle.wire.specs.Answer.{Answer, good, plain, inRoom, partsMisfit, tallyMalformed, tooMany, noSuch}
 use Rattle.wire.specs.Formats.{headLength}
 use Rattle.tally.specs.Rows.{isName, addRow, plus}
 use Rattle.tally.specs.Tally.{Kind, KindRow, KindRows, found, row, tally, rowsOf, countable}
@@ -31,7 +31,7 @@ module _ (k : Kind) where
 
   -- ---- the tally of rows in a room: 14, then 11
   unfoldable pub tallied : ℕ → KindRows k → Answer (List ℕ)
-  tallied room l = cond (countable k l) (cond (leb (length (tally k .encode l)) room) (good (tally k .encode l)) (plain noRoom)) (plain tooMany)
+  tallied room l = cond (countable k l) (inRoom room (tally k .encode l)) (plain tooMany)
 
   -- ---- Merging: 13 (first tally first), 14, 11.
   unfoldable pub mergeOf : ℕ → List ℕ → List ℕ → Answer (List ℕ)
@@ -46,8 +46,3 @@ module _ (k : Kind) where
   addOf buffer n r = cond (isName (r .name))
       (cond (leb n (length buffer)) (withRows (rowsOf k (take n buffer)) (added buffer n r)) (plain tallyMalformed))
       (plain partsMisfit)
-
--- a part of what was answered; empty when refused
-abbrev pub partOf : {A : Type 0} → (A → List ℕ) → Answer A → List ℕ
-partOf part (good a) = part a
-partOf part (refusal n r o) = []

@@ -6,12 +6,13 @@ use mathlib.Core.Option.{some}
 use lib.ListN.{length, take, drop}
 use Rattle.wire.specs.Order.{order}
 use Rattle.wire.specs.Formats.{headLength}
+use Rattle.wire.specs.Answer.{Answered}
 use Rattle.wire.specs.declared.order.Order.the-variants.{Before}
 use Rattle.tally.specs.Rows.{Counts, Row, Rows, Above, addRow}
 use Rattle.tally.specs.Tally.{fields, rowsOf, ones, one}
 use Rattle.tally.specs.Operations.{tallied}
 use Rattle.tally.specs.Told.{toldAdd}
-use Rattle.tally.specs.Walks.{rowsBytes, Holds, Answered}
+use Rattle.tally.specs.Walks.{rowsBytes, Holds}
 use Rattle.tally.specs.declared.add.Found.{Found}
 use Rattle.tally.specs.declared.add.Found.the-variants as founds
 use Rattle.tally.specs.declared.add.AddAnswer.{AddAnswer}

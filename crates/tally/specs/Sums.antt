@@ -8,11 +8,12 @@ use lib.ListN.{length, take, drop}
 use Rattle.wire.specs.Bytes.{spell}
 use Rattle.wire.specs.Store.{laid, stored}
 use Rattle.wire.specs.Formats.{counted}
+use Rattle.wire.specs.Answer.{Answered}
 use Rattle.tally.specs.Rows.{Row, Rows, plus}
 use Rattle.tally.specs.Tally.{malformed, fields, limited, ones, one}
 use Rattle.tally.specs.Operations.{tallied}
 use Rattle.tally.specs.Told.{toldMerge}
-use Rattle.tally.specs.Walks.{rowsBytes, Holds, Answered}
+use Rattle.tally.specs.Walks.{rowsBytes, Holds}
 use Rattle.tally.specs.declared.merge.Next.{Next}
 use Rattle.tally.specs.declared.merge.Next.the-variants as nexts
 use Rattle.tally.specs.declared.merge.Measured.{Measured}

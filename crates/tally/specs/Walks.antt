@@ -5,7 +5,6 @@ use mathlib.Core.Bool.{Bool, true, false, cond}
 use mathlib.Core.List.{List, [], _∷_, _++_}
 use mathlib.Core.Option.{Option, some, none}
 use lib.ListN.{length, drop}
-use Rattle.wire.specs.Answer.{Answer, mapAnswer, lent}
 use Rattle.wire.specs.Order.{order}
 use Rattle.wire.specs.Format.{items}
 use Rattle.wire.specs.Store.{stored}
@@ -42,10 +41,6 @@ module _ (k : Kind) where
     pub bytes : s ≡ rowsBytes l
     pub canonical : Canonical (k .counts) l
     pub limit : limited k l ≡ true
-
--- what a call answers that puts x into a lent buffer, and what the buffer then holds
-abbrev pub Answered : Answer ℕ → List ℕ → List ℕ → Answer (List ℕ) → Type 0
-Answered a before after x = (a ≡ mapAnswer length x) × (after ≡ lent x before)
 
 -- a row at a place of a buffer, where it fits and its name may stand in a tally; else the buffer as it was
 unfoldable pub rowStored : ℕ → Row ℕ → List ℕ → List ℕ

@@ -10,8 +10,9 @@ use wire::order::Order;
 use wire::order::compare;
 ghost use mathlib.Core.Path.{_≡_};
 ghost use Rattle.wire.specs.Format.{items};
+ghost use Rattle.wire.specs.Answer.{partOf};
 ghost use Rattle.tally.specs.Tally.{row, one};
-ghost use Rattle.tally.specs.Operations.{checkOf, rowsPart, partOf};
+ghost use Rattle.tally.specs.Operations.{checkOf, rowsPart};
 ghost use Rattle.tally.specs.Told.{toldCheck};
 ghost use Rattle.tally.specs.Walks.{mayFollow, takes};
 

@@ -11,9 +11,9 @@ ghost use mathlib.Core.Path.{_≡_};
 ghost use mathlib.Core.List.{[]};
 ghost use Prim.Native.Nat.{ℕ};
 ghost use lib.ListN.{drop};
-ghost use Rattle.wire.specs.Answer.{mapAnswer};
+ghost use Rattle.wire.specs.Answer.{mapAnswer, partOf};
 ghost use Rattle.tally.specs.Tally.{KindRow, found, row, one};
-ghost use Rattle.tally.specs.Operations.{frontOf, partOf};
+ghost use Rattle.tally.specs.Operations.{frontOf};
 ghost use Rattle.tally.specs.Told.{toldRow, toldFront, shownRow};
 ghost use Rattle.tally.specs.Walks.{rowStored};
 

@@ -1,10 +1,12 @@
 -- What a call comes back with: document 01, 'The numbers a call comes back with'.
-use Prim.Native.Nat.{ℕ}
+use Prim.Native.Nat.{ℕ, _<_, _≤_}
 use mathlib.Core.Path.{_≡_, refl}
-use mathlib.Core.List.{List, _++_}
+use mathlib.Core.List.{List, [], _++_}
 use mathlib.Core.Bool.{Bool, true, false, cond}
 use native.Mathlib.Omega.{arith}
+use lib.Dec.{leb}
 use lib.ListN.{length, drop}
+use borrow.Author.Tests.{leb-true, le-leb, lt-leb}
 
 -- Done, with what the call gives; or refused, with the number, the record and the offset. The record is 0 but for sheets, and the offset
 -- is 0 but for 1 to 8.
@@ -20,10 +22,24 @@ abbrev pub mapAnswer : {A B : Type 0} → (A → B) → Answer A → Answer B
 mapAnswer f (good a) = good (f a)
 mapAnswer f (refusal n r o) = refusal n r o
 
+-- what follows a good answer
+abbrev pub thenAnswer : {A B : Type 0} → Answer A → (A → Answer B) → Answer B
+thenAnswer (good a) f = f a
+thenAnswer (refusal n r o) f = refusal n r o
+
+-- a part of what was answered; empty when refused
+abbrev pub partOf : {A : Type 0} → (A → List ℕ) → Answer A → List ℕ
+partOf part (good a) = part a
+partOf part (refusal n r o) = []
+
 -- What a lent buffer holds after a call: on 0 the result over the front of what was there, on a refusal what was there.
 abbrev pub lent : {A : Type 0} → Answer (List A) → List A → List A
 lent (good r) before = r ++ drop (length r) before
 lent (refusal n r o) before = before
+
+-- what a call answers that puts x into a lent buffer, and what the buffer then holds
+abbrev pub Answered : Answer ℕ → List ℕ → List ℕ → Answer (List ℕ) → Type 0
+Answered a before after x = (a ≡ mapAnswer length x) × (after ≡ lent x before)
 
 -- ---- the table
 abbrev pub endsInside : ℕ  -- bytes end inside a field, or an inventory has no end line
@@ -74,11 +90,37 @@ sheetMalformed = 15
 abbrev pub noSuch : ℕ  -- no such row or node
 noSuch = 16
 
+-- ---- the bytes where they fit, else 11
+abbrev pub inRoom : ℕ → List ℕ → Answer (List ℕ)
+inRoom room x = cond (leb (length x) room) (good x) (plain noRoom)
+
 -- ---- laws
 pub no-good : {A C : Type 0} {n r o : ℕ} {a : A} → refusal n r o ≡ good a → C
 no-good h = let z : _≡_ {A = ℕ} 0 1 = cc in absurd (omega arith)
 
 -- where an answer by a test is good, the test held
+pub test-good : {A : Type 0} (t : Bool) (n r o : ℕ) (a : Answer A) (b : A) → cond t a (refusal n r o) ≡ good b → (t ≡ true) × (a ≡ good b)
+test-good true n r o a b h = (refl, h)
+test-good false n r o a b h = no-good h
+
 pub answered : {A : Type 0} (t : Bool) (n : ℕ) (a d : A) → cond t (good a) (plain n) ≡ good d → (t ≡ true) × (a ≡ d)
-answered true n a d e = (refl, cc)
-answered false n a d e = no-good e
+answered t n a d e = let x = test-good t n 0 0 (good a) d e in (x .0, cc (x .1))
+
+pub then-good : {A B : Type 0} (a : Answer A) (f : A → Answer B) (b : B) → thenAnswer a f ≡ good b → (x : A) × (a ≡ good x) × (f x ≡ good b)
+then-good (good x) f b h = (x, refl, h)
+then-good (refusal n r o) f b h = no-good h
+
+pub map-good : {A B : Type 0} (f : A → B) (a : Answer A) (b : B) → mapAnswer f a ≡ good b → (x : A) × (a ≡ good x) × (f x ≡ b)
+map-good f (good x) b h = (x, refl, (cc))
+map-good f (refusal n r o) b h = no-good h
+
+pub room-good : (room : ℕ) (x y : List ℕ) → inRoom room x ≡ good y → (length x ≤ room) × (x ≡ y)
+room-good room x y e = let h = answered (leb (length x) room) noRoom x y e in (leb-true (length x) room (h .0), h .1)
+
+-- the bytes x for the buffer d: they do not fit, or they were put
+module _ (d x : List ℕ) where
+  pub room-short : length d < length x → Answered (plain noRoom) d d (inRoom (length d) x)
+  room-short h = rw (lt-leb (length x) (length d) h) (refl, refl)
+
+  pub room-put : {n : ℕ} {a : List ℕ} → length x ≡ n → n ≤ length d → a ≡ x ++ drop n d → Answered (good n) d a (inRoom (length d) x)
+  room-put e h q = rw (le-leb (length x) (length d) (rw e h), e) (refl, q)

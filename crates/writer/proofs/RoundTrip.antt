@@ -3,16 +3,16 @@ use Prim.Native.Nat.{ℕ, _%_, _<_, _≤_}
 use mathlib.Core.Path.{_≡_, refl, ap, sym, _∙_}
 use mathlib.Core.Option.{Option, some, none}
 use mathlib.Core.List.{List, [], _∷_, _++_}
-use mathlib.Core.Bool.{Bool, true, false, cond}
+use mathlib.Core.Bool.{true}
 use native.Mathlib.Omega.{arith}
-use lib.Dec.{leb, lit<, lit≤}
+use lib.Dec.{lit<, lit≤}
 use lib.ListN.{length, getD, take, drop, length-append}
 use lib.Seq.{take-append-seam, drop-append-seam}
-use borrow.Author.Tests.{le-leb, leb-true}
+use borrow.Author.Tests.{le-leb}
 use Rattle.wire.specs.Choice.{no-true, yes-and}
 use Rattle.wire.specs.Bytes.{Bytes}
 use Rattle.wire.specs.Read.{Read, done, refused}
-use Rattle.wire.specs.Answer.{Answer, good, refusal, plain, no-good, answered, mapAnswer, lent, noRoom, versionOutside}
+use Rattle.wire.specs.Answer.{Answer, good, no-good, test-good, map-good, room-good, mapAnswer, lent, versionOutside}
 use Rattle.wire.specs.Format.{such, _⨾_, along, items, run, encodeItems}
 use Rattle.wire.specs.Formats.{number, listed}
 use Rattle.wire.proofs.EveryFormat.{every-format}
@@ -135,10 +135,6 @@ record WrittenAs (p : Parts) (room : ℕ) (b : Block) : Type 0 where
   said : verdict all (block all .encode b) ≡ done c n
   fits : length (block all .encode b) ≤ room
 
-by-version : {A : Type 0} (c : Bool) (x : Answer A) {a : A} → cond c x (plain versionOutside) ≡ good a → (c ≡ true) × (x ≡ good a)
-by-version true x h = (refl, h)
-by-version false x h = no-good h
-
 abbrev isGood : {A : Type 0} → Answer A → Bool
 isGood (good a) = true
 isGood (refusal n r o) = false
@@ -158,25 +154,21 @@ module _ (room : ℕ) where
       go false e = cc
 
   by-verdict : (t : List ℕ) (r : Read Fault Block) {s : List ℕ} → judgedBytes room t r ≡ good s → (c : Block) × (n : ℕ) × (r ≡ done c n) × (length t ≤ room) × (t ≡ s)
-  by-verdict t (done c n) {s} h = let x = answered (leb (length t) room) noRoom t s h in (c, n, refl, leb-true (length t) room (x .0), x .1)
+  by-verdict t (done c n) {s} h = let x = room-good room t s h in (c, n, refl, x .0, x .1)
   by-verdict t (refused f p) h = no-true (sym (never-good t f p) ∙ ap isGood h)
 
 written-as : (p : Parts) (room : ℕ) {s : List ℕ} → writeOf p room ≡ good s → (b : Block) × (block all .encode b ≡ s) × WrittenAs p room b
 unfolding writeOf
-written-as p room h =
-    let x = by-version (isVersion (p .head .version)) (writtenBlock room (blockMade p)) h in
+written-as p room {s} h =
+    let x = test-good (isVersion (p .head .version)) versionOutside 0 0 (writtenBlock room (blockMade p)) s h in
     let y = by-block room (blockMade p) (x .1) in
     let z = by-verdict room (block all .encode (y .0)) (verdict all (block all .encode (y .0))) (y .2) in
     (y .0, z .4, record { version = x .0; made = y .1; c = z .0; n = z .1; said = z .2; fits = z .3 })
 
-answer-good : {A B : Type 0} (f : A → B) (x : Answer A) {b : B} → mapAnswer f x ≡ good b → (a : A) × (x ≡ good a) × (f a ≡ b)
-answer-good f (good a) h = (a, refl, (cc))
-answer-good f (refusal n r o) h = no-good h
-
 -- what is written lies in the room
 pub written-fits : (p : Parts) (room n : ℕ) → mapAnswer length (writeOf p room) ≡ good n → n ≤ room
 written-fits p room n h =
-    let x = answer-good length (writeOf p room) h in
+    let x = map-good length (writeOf p room) n h in
     let y = written-as p room (x .1) in
     omega (arith, y .2 .fits, ap length (y .1), x .2)
 
@@ -217,7 +209,7 @@ front-lent out r a n e f k g = rw (e, ← f, take-append-seam, drop-append-seam)
 
 reads-back-by : ReadsBackBy written
 reads-back-by p out n held h =
-    let x = answer-good length (writeOf p (length out)) h in
+    let x = map-good length (writeOf p (length out)) n h in
     let y = written-as p (length out) (x .1) in
     let b = y .0 in
     let w = y .2 in

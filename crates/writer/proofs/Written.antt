@@ -3,15 +3,14 @@ use Prim.Native.Nat.{ℕ, _≤_}
 use mathlib.Core.Path.{_≡_, refl, ap, sym, _∙_}
 use mathlib.Core.Option.{Option, some, none, Option·map, Option·none-ne-some, map-eq-some-iff}
 use mathlib.Core.List.{List}
-use mathlib.Core.Bool.{true, false, cond}
+use mathlib.Core.Bool.{true, false}
 use native.Mathlib.Nat.{zero-add}
 use native.Mathlib.Omega.{arith}
-use lib.Dec.{leb}
 use lib.ListN.{length}
 use borrow.Author.Tests.{le-leb, lt-leb}
 use Rattle.wire.specs.Read.{Read, done, refused}
 use Rattle.wire.specs.Store.{laid}
-use Rattle.wire.specs.Answer.{Answer, good, refusal, plain, mapAnswer, lent, versionOutside, noRoom, partsMisfit}
+use Rattle.wire.specs.Answer.{Answer, good, refusal, plain, mapAnswer, lent, versionOutside, partsMisfit, inRoom}
 use Rattle.wire.proofs.Looser.{looser-self}
 use Rattle.mapblock.specs.Data.{Block}
 use Rattle.mapblock.specs.Layout.{all, isVersion, nameRow, metadataRow, objectRow, timerRow}
@@ -128,10 +127,10 @@ module _ (p : Parts) (c : Counts) (f : fits p ≡ true) (h : some c ≡ countsIn
         size : n ≡ length (bytesFor p c)
         size = taken (block all .encode blockIs) (taken-as .0) n (block-bytes p blockIs held v parts-are) .0 (taken-as .1) .2 ∙ ap length bytes-are
 
-        by-room : (room : ℕ) → writeOf p room ≡ cond (leb (length (bytesFor p c)) room) (good (bytesFor p c)) (plain noRoom)
+        by-room : (room : ℕ) → writeOf p room ≡ inRoom room (bytesFor p c)
         by-room room =
             written-by room ∙ ap (judgedBytes room (block all .encode blockIs)) (taken-as .1)
-            ∙ ap (λ (s : List ℕ). cond (leb (length s) room) (good s) (plain noRoom)) bytes-are
+            ∙ ap (inRoom room) bytes-are
 
         pub writes : Written p c n
         writes = record {

@@ -3,10 +3,8 @@ use Prim.Native.Nat.{ℕ}
 use mathlib.Core.Bool.{cond}
 use mathlib.Core.Option.{Option, some, none}
 use mathlib.Core.List.{List}
-use lib.Dec.{leb}
-use lib.ListN.{length}
 use Rattle.wire.specs.Read.{Read, done, refused}
-use Rattle.wire.specs.Answer.{Answer, good, refusal, plain, versionOutside, noRoom, partsMisfit}
+use Rattle.wire.specs.Answer.{Answer, good, refusal, plain, versionOutside, noRoom, partsMisfit, inRoom}
 use Rattle.mapblock.specs.Data.{Block}
 use Rattle.mapblock.specs.Layout.{all, isVersion}
 use Rattle.mapblock.specs.Block.{block, verdict}
@@ -19,7 +17,7 @@ use Rattle.writer.specs.declared.write.WriteAnswer.the-variants as answe
 -- what the reader says of the bytes, then 11
 abbrev pub judgedBytes : ℕ → List ℕ → Read Fault Block → Answer (List ℕ)
 judgedBytes room bytes (refused f p) = refusal (number f) 0 p
-judgedBytes room bytes (done b n) = cond (leb (length bytes) room) (good bytes) (plain noRoom)
+judgedBytes room bytes (done b n) = inRoom room bytes
 
 -- 12, then the reader's verdict on the bytes of the block
 abbrev pub writtenBlock : ℕ → Option Block → Answer (List ℕ)

@@ -2,7 +2,7 @@ use mathlib.Core.Path.{ap, sym, _∙_}
 use lib.ListN.{length}
 use denote.Ref.{now}
 use mir.ValLaws.{toZ-ofZ}
-use Rattle.tally.specs.Walks.{Answered}
+use Rattle.wire.specs.Answer.{Answered}
 use Rattle.meter.specs.Counting.{byOne}
 use Rattle.meter.specs.Tallying.{tallyBlockOf}
 use Rattle.meter.specs.Adding.{part}

@@ -35,7 +35,7 @@ enum-known-found : tie.Need-enum-known-found
 enum-known-found c = search needs
 
 returns : tie.Need-returns
-returns c = let k = c .before .before in node-none (block-is k) (bytes k) _ (omega arith)
+returns c = let k = c .before .before in node-none (block-is k) (bytes k) (k .before .before .before .before .args .index) (omega arith)
 
 sub-id-of : tie.Need-sub-id-of
 sub-id-of c = omega (arith, block-is (c .before .before .before .before .before) .inside)

@@ -6,11 +6,11 @@ use Rattle.tally.specs.Tally.{found, row, one}
 use Rattle.tally.specs.Told.{toldRow}
 use Rattle.tally.specs.declared.rows.RowRead.the-variants as rows
 use Rattle.tally.proofs.Held.{row-inside}
-use Rattle.tally.specs.Operations.{partOf}
 use Rattle.tally.specs.Tally.{KindRow}
 use Prim.Native.Nat.{ℕ, _+_}
 use lib.ListN.{drop}
 use Rattle.wire.specs.Lists.{rest-is}
+use Rattle.wire.specs.Answer.{partOf}
 use Rattle.tally.proofs.FrontRows.{told-as, front-is, front-isnt}
 use borrow.Author.Needs.{needs}
 use Rattle.tally.proofs.rows.behind_row.Statement.{statement}

@@ -2,11 +2,11 @@ use mathlib.Core.Path.{_≡_, ap, sym, _∙_}
 use mathlib.Core.List.{[]}
 use native.Mathlib.Omega.{arith}
 use denote.Ref.{now}
+use Rattle.wire.specs.Answer.{partOf}
 use Rattle.tally.specs.Tally.{found, row, one}
 use Rattle.tally.specs.Told.{toldRow}
 use Rattle.tally.specs.declared.rows.RowRead.the-variants as rows
 use Rattle.tally.proofs.Held.{row-inside}
-use Rattle.tally.specs.Operations.{partOf}
 use Rattle.tally.specs.Tally.{KindRow}
 use Prim.Native.Nat.{ℕ}
 use Rattle.tally.proofs.FrontRows.{told-as, name-part, front-is, front-isnt}
