@@ -25,10 +25,6 @@ use Rattle.tally.specs.Told.{toldRow}
 use Rattle.tally.proofs.Held.{row-inside}
 use Rattle.tally.specs.declared.rows.RowRead.the-variants as rows
 
--- what a leaf told, in the case that the code is in
-pub told-as : {R A : Type 0} {x y : R} (told : R → A) {z : A} → told x ≡ z → x ≡ y → told y ≡ z
-told-as told e g = sym (ap told g) ∙ e
-
 -- the name as the code slices it
 pub name-part : (n : ℕ) (s : List ℕ) → take (n + 2 - 2) (drop 2 s) ≡ take n (drop 2 s)
 name-part n s = let e : n + 2 - 2 ≡ n = omega arith in rw e

@@ -1,7 +1,8 @@
 use borrow.Author.Needs.{needs}
+use Rattle.wire.proofs.Steps.{told-as}
 use Rattle.anowhetele.specs.Blocks.{noNode, handedNode}
 use Rattle.mapblock.specs.Questions.{toldNode}
-use mathlib.Core.Path.{ap, sym, _∙_}
+use mathlib.Core.Path.{ap, _∙_}
 use Rattle.anowhetele.proofs.blocks.anow_node_name.Statement.{statement}
 use Rattle.anowhetele.proofs.blocks.anow_node_name.Tie as tie
 
@@ -33,13 +34,13 @@ no-node-requires-2 : tie.Need-no-node-requires-2
 no-node-requires-2 c κs = search needs
 
 returns : tie.Need-returns
-returns c = rw (c .done .ensures) (ap handedNode (sym (ap toldNode (c .before .before .name .given .1)) ∙ c .before .before .before .before .node .ensures))
+returns c = rw (c .done .ensures) (ap handedNode (told-as toldNode (c .before .before .before .before .node .ensures) (c .before .before .name .given .1)))
 
 returns-2 : tie.Need-returns-2
-returns-2 c = c .no-node .ensures ∙ ap noNode (c .before .plain .ensures) ∙ ap handedNode (sym (ap toldNode (c .before .before .enum-told .given .1)) ∙ c .before .before .before .before .node .ensures)
+returns-2 c = c .no-node .ensures ∙ ap noNode (c .before .plain .ensures) ∙ ap handedNode (told-as toldNode (c .before .before .before .before .node .ensures) (c .before .before .enum-told .given .1))
 
 returns-3 : tie.Need-returns-3
-returns-3 c = c .no-node2 .ensures ∙ ap noNode (c .before .refused .ensures) ∙ ap handedNode (sym (ap toldNode (c .before .before .before .f .given .1)) ∙ c .before .before .before .before .before .node .ensures)
+returns-3 c = c .no-node2 .ensures ∙ ap noNode (c .before .refused .ensures) ∙ ap handedNode (told-as toldNode (c .before .before .before .before .before .node .ensures) (c .before .before .before .f .given .1))
 
 pub anow-node-name-spec : {M : Type 1} → statement M
 anow-node-name-spec =

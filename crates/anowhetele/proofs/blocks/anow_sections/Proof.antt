@@ -1,7 +1,8 @@
 use borrow.Author.Needs.{needs}
+use Rattle.wire.proofs.Steps.{told-as}
 use Rattle.anowhetele.specs.Blocks.{noBlock, handedBlock}
 use Rattle.mapblock.specs.Questions.{toldSections}
-use mathlib.Core.Path.{ap, sym, _∙_}
+use mathlib.Core.Path.{ap, _∙_}
 use Rattle.anowhetele.proofs.blocks.anow_sections.Statement.{statement}
 use Rattle.anowhetele.proofs.blocks.anow_sections.Tie as tie
 
@@ -24,10 +25,10 @@ no-block-requires : tie.Need-no-block-requires
 no-block-requires c κs = search needs
 
 returns : tie.Need-returns
-returns c = rw (c .done .ensures) (ap handedBlock (sym (ap toldSections (c .before .before .head .given .1)) ∙ c .before .before .before .before .sections .ensures))
+returns c = rw (c .done .ensures) (ap handedBlock (told-as toldSections (c .before .before .before .before .sections .ensures) (c .before .before .head .given .1)))
 
 returns-2 : tie.Need-returns-2
-returns-2 c = c .no-block .ensures ∙ ap noBlock (c .before .refused .ensures) ∙ ap handedBlock (sym (ap toldSections (c .before .before .before .f .given .1)) ∙ c .before .before .before .before .before .sections .ensures)
+returns-2 c = c .no-block .ensures ∙ ap noBlock (c .before .refused .ensures) ∙ ap handedBlock (told-as toldSections (c .before .before .before .before .before .sections .ensures) (c .before .before .before .f .given .1))
 
 pub anow-sections-spec : {M : Type 1} → statement M
 anow-sections-spec =

@@ -1,8 +1,9 @@
-use mathlib.Core.Path.{ap, sym, _∙_}
+use mathlib.Core.Path.{ap}
 use lib.ListN.{length}
 use denote.Ref.{now}
 use mir.ValLaws.{toZ-ofZ}
 use Rattle.wire.specs.Answer.{Answered}
+use Rattle.wire.proofs.Steps.{told-as}
 use Rattle.meter.specs.Counting.{byOne}
 use Rattle.meter.specs.Tallying.{tallyBlockOf}
 use Rattle.meter.specs.Adding.{part}
@@ -54,31 +55,31 @@ same-length : tie.Need-same-length
 same-length c = search needs
 
 returns : tie.Need-returns
-returns c = let e = told (c .before .before .before .before .before .before) in (rw (c .done .ensures) (ap handed (sym (ap toldBlock (c .before .before .n .given .1)) ∙ e .0)), e .1)
+returns c = let e = told (c .before .before .before .before .before .before) in (rw (c .done .ensures) (ap handed (told-as toldBlock (e .0) (c .before .before .n .given .1))), e .1)
 
 same-length-2 : tie.Need-same-length-2
 same-length-2 c = search needs
 
 returns-2 : tie.Need-returns-2
-returns-2 c = let e = told (c .before .before .before .before .before) in (rw (c .plain .ensures) (ap handed (sym (ap toldBlock (c .before .enum-told .given .1)) ∙ e .0)), e .1)
+returns-2 c = let e = told (c .before .before .before .before .before) in (rw (c .plain .ensures) (ap handed (told-as toldBlock (e .0) (c .before .enum-told .given .1))), e .1)
 
 same-length-3 : tie.Need-same-length-3
 same-length-3 c = search needs
 
 returns-3 : tie.Need-returns-3
-returns-3 c = let e = told (c .before .before .before .before .before) in (rw (c .plain2 .ensures) (ap handed (sym (ap toldBlock (c .before .enum-told2 .given .1)) ∙ e .0)), e .1)
+returns-3 c = let e = told (c .before .before .before .before .before) in (rw (c .plain2 .ensures) (ap handed (told-as toldBlock (e .0) (c .before .enum-told2 .given .1))), e .1)
 
 same-length-4 : tie.Need-same-length-4
 same-length-4 c = search needs
 
 returns-4 : tie.Need-returns-4
-returns-4 c = let e = told (c .before .before .before .before .before .before) in (rw (c .refused .ensures) (ap handed (sym (ap toldBlock (c .before .before .f .given .1)) ∙ e .0)), e .1)
+returns-4 c = let e = told (c .before .before .before .before .before .before) in (rw (c .refused .ensures) (ap handed (told-as toldBlock (e .0) (c .before .before .f .given .1))), e .1)
 
 same-length-5 : tie.Need-same-length-5
 same-length-5 c = search needs
 
 returns-5 : tie.Need-returns-5
-returns-5 c = let e = told (c .before .before .before .before .before) in (rw (c .plain3 .ensures) (ap handed (sym (ap toldBlock (c .before .enum-told3 .given .1)) ∙ e .0)), e .1)
+returns-5 c = let e = told (c .before .before .before .before .before) in (rw (c .plain3 .ensures) (ap handed (told-as toldBlock (e .0) (c .before .enum-told3 .given .1))), e .1)
 
 pub anow-tally-block-spec : {M : Type 1} → statement M
 anow-tally-block-spec =

@@ -1,7 +1,8 @@
 use borrow.Author.Needs.{needs}
-use mathlib.Core.Path.{_≡_, ap, sym, _∙_}
+use mathlib.Core.Path.{_≡_, ap}
 use mir.Syntax.{w64}
 use mir.ValLaws.{toZ-ofZ}
+use Rattle.wire.proofs.Steps.{told-as}
 use Rattle.position.specs.Keys.{joinOf, toldJoin}
 use Rattle.anowhetele.specs.Places.{handedKey}
 use Rattle.anowhetele.proofs.places.anow_key_join.Statement.{statement}
@@ -23,10 +24,10 @@ enum-told c = search needs
 returns : tie.Need-returns
 returns c =
     rw (toZ-ofZ w64 (c .before .key .given .0 .0) (record { sfits = c .known-told .given .0 .1 }))
-    (ap handedKey (sym (ap toldJoin (c .before .key .given .1)) ∙ told (c .before .before .before)))
+    (ap handedKey (told-as toldJoin (told (c .before .before .before)) (c .before .key .given .1)))
 
 returns-2 : tie.Need-returns-2
-returns-2 c = ap handedKey (sym (ap toldJoin (c .enum-told .given .1)) ∙ told (c .before .before))
+returns-2 c = ap handedKey (told-as toldJoin (told (c .before .before)) (c .enum-told .given .1))
 
 pub anow-key-join-spec : {M : Type 1} → statement M
 anow-key-join-spec = tie.close (tie.spec join-requires enum-known-key enum-told returns returns-2)

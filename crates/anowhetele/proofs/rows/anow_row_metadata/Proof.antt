@@ -1,5 +1,6 @@
 use borrow.Author.Needs.{needs}
-use mathlib.Core.Path.{ap, sym, _∙_}
+use mathlib.Core.Path.{ap, _∙_}
+use Rattle.wire.proofs.Steps.{told-as}
 use Rattle.mapblock.specs.AskedRows.{toldMetadataRow}
 use Rattle.anowhetele.specs.Rows.{noMetadata, handedMetadata}
 use Rattle.anowhetele.proofs.rows.anow_row_metadata.Statement.{statement}
@@ -48,16 +49,16 @@ no-metadata-requires-3 : tie.Need-no-metadata-requires-3
 no-metadata-requires-3 c κs = search needs
 
 returns : tie.Need-returns
-returns c = rw (c .before .before .done .ensures) (ap handedMetadata (sym (ap toldMetadataRow (c .before .before .before .before .before .before .before .row .given .1)) ∙ c .before .before .before .before .before .before .before .before .before .metadata-row-of .ensures))
+returns c = rw (c .before .before .done .ensures) (ap handedMetadata (told-as toldMetadataRow (c .before .before .before .before .before .before .before .before .before .metadata-row-of .ensures) (c .before .before .before .before .before .before .before .row .given .1)))
 
 returns-2 : tie.Need-returns-2
-returns-2 c = c .no-metadata .ensures ∙ ap noMetadata (c .before .plain .ensures) ∙ ap handedMetadata (sym (ap toldMetadataRow (c .before .before .enum-told .given .1)) ∙ c .before .before .before .before .metadata-row-of .ensures)
+returns-2 c = c .no-metadata .ensures ∙ ap noMetadata (c .before .plain .ensures) ∙ ap handedMetadata (told-as toldMetadataRow (c .before .before .before .before .metadata-row-of .ensures) (c .before .before .enum-told .given .1))
 
 returns-3 : tie.Need-returns-3
-returns-3 c = c .no-metadata2 .ensures ∙ ap noMetadata (c .before .plain2 .ensures) ∙ ap handedMetadata (sym (ap toldMetadataRow (c .before .before .enum-told2 .given .1)) ∙ c .before .before .before .before .metadata-row-of .ensures)
+returns-3 c = c .no-metadata2 .ensures ∙ ap noMetadata (c .before .plain2 .ensures) ∙ ap handedMetadata (told-as toldMetadataRow (c .before .before .before .before .metadata-row-of .ensures) (c .before .before .enum-told2 .given .1))
 
 returns-4 : tie.Need-returns-4
-returns-4 c = c .no-metadata3 .ensures ∙ ap noMetadata (c .before .refused .ensures) ∙ ap handedMetadata (sym (ap toldMetadataRow (c .before .before .before .f .given .1)) ∙ c .before .before .before .before .before .metadata-row-of .ensures)
+returns-4 c = c .no-metadata3 .ensures ∙ ap noMetadata (c .before .refused .ensures) ∙ ap handedMetadata (told-as toldMetadataRow (c .before .before .before .before .before .metadata-row-of .ensures) (c .before .before .before .f .given .1))
 
 pub anow-row-metadata-spec : {M : Type 1} → statement M
 anow-row-metadata-spec =

@@ -1,5 +1,6 @@
 use borrow.Author.Needs.{needs}
-use mathlib.Core.Path.{ap, sym, _∙_}
+use mathlib.Core.Path.{ap, _∙_}
+use Rattle.wire.proofs.Steps.{told-as}
 use Rattle.mapblock.specs.AskedRows.{toldNameRow}
 use Rattle.anowhetele.specs.Rows.{noName, handedName}
 use Rattle.anowhetele.proofs.rows.anow_row_name.Statement.{statement}
@@ -36,13 +37,13 @@ no-name-requires-2 : tie.Need-no-name-requires-2
 no-name-requires-2 c κs = search needs
 
 returns : tie.Need-returns
-returns c = rw (c .before .done .ensures) (ap handedName (sym (ap toldNameRow (c .before .before .before .before .row .given .1)) ∙ c .before .before .before .before .before .before .name-row-of .ensures))
+returns c = rw (c .before .done .ensures) (ap handedName (told-as toldNameRow (c .before .before .before .before .before .before .name-row-of .ensures) (c .before .before .before .before .row .given .1)))
 
 returns-2 : tie.Need-returns-2
-returns-2 c = c .no-name .ensures ∙ ap noName (c .before .plain .ensures) ∙ ap handedName (sym (ap toldNameRow (c .before .before .enum-told .given .1)) ∙ c .before .before .before .before .name-row-of .ensures)
+returns-2 c = c .no-name .ensures ∙ ap noName (c .before .plain .ensures) ∙ ap handedName (told-as toldNameRow (c .before .before .before .before .name-row-of .ensures) (c .before .before .enum-told .given .1))
 
 returns-3 : tie.Need-returns-3
-returns-3 c = c .no-name2 .ensures ∙ ap noName (c .before .refused .ensures) ∙ ap handedName (sym (ap toldNameRow (c .before .before .before .f .given .1)) ∙ c .before .before .before .before .before .name-row-of .ensures)
+returns-3 c = c .no-name2 .ensures ∙ ap noName (c .before .refused .ensures) ∙ ap handedName (told-as toldNameRow (c .before .before .before .before .before .name-row-of .ensures) (c .before .before .before .f .given .1))
 
 pub anow-row-name-spec : {M : Type 1} → statement M
 anow-row-name-spec =

@@ -1,7 +1,8 @@
 use borrow.Author.Needs.{needs}
-use mathlib.Core.Path.{ap, sym, _∙_}
+use mathlib.Core.Path.{ap, _∙_}
 use mir.Syntax.{w32}
 use mir.ValLaws.{toZ-ofZ}
+use Rattle.wire.proofs.Steps.{told-as}
 use Rattle.mapblock.specs.AskedRows.{toldObjectRow}
 use Rattle.anowhetele.specs.Rows.{noObject, handedObject}
 use Rattle.anowhetele.proofs.rows.anow_row_object.Statement.{statement}
@@ -42,13 +43,13 @@ returns c =
     let g = c .struct-told .given in
     let f = c .before .before .before .before .before .row .given .0 .0 in
     rw (toZ-ofZ w32 (f .x) (record { sfits = g .1 .0 .1 }), toZ-ofZ w32 (f .y) (record { sfits = g .1 .1 .0 .1 }), toZ-ofZ w32 (f .z) (record { sfits = g .1 .1 .1 .0 .1 }), c .before .before .done .ensures)
-    (ap handedObject (sym (ap toldObjectRow (c .before .before .before .before .before .row .given .1)) ∙ c .before .before .before .before .before .before .before .object-row-of .ensures))
+    (ap handedObject (told-as toldObjectRow (c .before .before .before .before .before .before .before .object-row-of .ensures) (c .before .before .before .before .before .row .given .1)))
 
 returns-2 : tie.Need-returns-2
-returns-2 c = c .no-object .ensures ∙ ap noObject (c .before .plain .ensures) ∙ ap handedObject (sym (ap toldObjectRow (c .before .before .enum-told .given .1)) ∙ c .before .before .before .before .object-row-of .ensures)
+returns-2 c = c .no-object .ensures ∙ ap noObject (c .before .plain .ensures) ∙ ap handedObject (told-as toldObjectRow (c .before .before .before .before .object-row-of .ensures) (c .before .before .enum-told .given .1))
 
 returns-3 : tie.Need-returns-3
-returns-3 c = c .no-object2 .ensures ∙ ap noObject (c .before .refused .ensures) ∙ ap handedObject (sym (ap toldObjectRow (c .before .before .before .f .given .1)) ∙ c .before .before .before .before .before .object-row-of .ensures)
+returns-3 c = c .no-object2 .ensures ∙ ap noObject (c .before .refused .ensures) ∙ ap handedObject (told-as toldObjectRow (c .before .before .before .before .before .object-row-of .ensures) (c .before .before .before .f .given .1))
 
 pub anow-row-object-spec : {M : Type 1} → statement M
 anow-row-object-spec =

@@ -1,7 +1,8 @@
 use borrow.Author.Needs.{needs}
-use mathlib.Core.Path.{ap, sym, _∙_}
+use mathlib.Core.Path.{ap, _∙_}
 use mir.Syntax.{w32}
 use mir.ValLaws.{toZ-ofZ}
+use Rattle.wire.proofs.Steps.{told-as}
 use Rattle.mapblock.specs.AskedRows.{toldTimerRow}
 use Rattle.anowhetele.specs.Rows.{noTimer, handedTimer}
 use Rattle.anowhetele.proofs.rows.anow_row_timer.Statement.{statement}
@@ -42,13 +43,13 @@ returns c =
     let g = c .struct-told .given in
     let f = c .before .before .before .before .row .given .0 .0 in
     rw (toZ-ofZ w32 (f .timeout) (record { sfits = g .1 .0 .1 }), toZ-ofZ w32 (f .elapsed) (record { sfits = g .1 .1 .0 .1 }), c .before .before .done .ensures)
-    (ap handedTimer (sym (ap toldTimerRow (c .before .before .before .before .row .given .1)) ∙ c .before .before .before .before .before .before .timer-row-of .ensures))
+    (ap handedTimer (told-as toldTimerRow (c .before .before .before .before .before .before .timer-row-of .ensures) (c .before .before .before .before .row .given .1)))
 
 returns-2 : tie.Need-returns-2
-returns-2 c = c .no-timer .ensures ∙ ap noTimer (c .before .plain .ensures) ∙ ap handedTimer (sym (ap toldTimerRow (c .before .before .enum-told .given .1)) ∙ c .before .before .before .before .timer-row-of .ensures)
+returns-2 c = c .no-timer .ensures ∙ ap noTimer (c .before .plain .ensures) ∙ ap handedTimer (told-as toldTimerRow (c .before .before .before .before .timer-row-of .ensures) (c .before .before .enum-told .given .1))
 
 returns-3 : tie.Need-returns-3
-returns-3 c = c .no-timer2 .ensures ∙ ap noTimer (c .before .refused .ensures) ∙ ap handedTimer (sym (ap toldTimerRow (c .before .before .before .f .given .1)) ∙ c .before .before .before .before .before .timer-row-of .ensures)
+returns-3 c = c .no-timer2 .ensures ∙ ap noTimer (c .before .refused .ensures) ∙ ap handedTimer (told-as toldTimerRow (c .before .before .before .before .before .timer-row-of .ensures) (c .before .before .before .f .given .1))
 
 pub anow-row-timer-spec : {M : Type 1} → statement M
 anow-row-timer-spec =

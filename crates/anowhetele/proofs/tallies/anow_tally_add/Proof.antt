@@ -1,4 +1,5 @@
-use mathlib.Core.Path.{ap, sym, _∙_}
+use mathlib.Core.Path.{ap}
+use Rattle.wire.proofs.Steps.{told-as}
 use Rattle.anowhetele.specs.Answers.{handed}
 use Rattle.tally.specs.Told.{toldAdd}
 use borrow.Author.Needs.{needs}
@@ -42,31 +43,31 @@ same-length : tie.Need-same-length
 same-length c = search needs
 
 returns : tie.Need-returns
-returns c = let e = c .before .before .before .before .before .before .add .ensures in (rw (c .done .ensures) (ap handed (sym (ap toldAdd (c .before .before .n .given .1)) ∙ e .0)), e .1)
+returns c = let e = c .before .before .before .before .before .before .add .ensures in (rw (c .done .ensures) (ap handed (told-as toldAdd (e .0) (c .before .before .n .given .1))), e .1)
 
 same-length-2 : tie.Need-same-length-2
 same-length-2 c = search needs
 
 returns-2 : tie.Need-returns-2
-returns-2 c = let e = c .before .before .before .before .before .add .ensures in (rw (c .plain .ensures) (ap handed (sym (ap toldAdd (c .before .enum-told .given .1)) ∙ e .0)), e .1)
+returns-2 c = let e = c .before .before .before .before .before .add .ensures in (rw (c .plain .ensures) (ap handed (told-as toldAdd (e .0) (c .before .enum-told .given .1))), e .1)
 
 same-length-3 : tie.Need-same-length-3
 same-length-3 c = search needs
 
 returns-3 : tie.Need-returns-3
-returns-3 c = let e = c .before .before .before .before .before .add .ensures in (rw (c .plain2 .ensures) (ap handed (sym (ap toldAdd (c .before .enum-told2 .given .1)) ∙ e .0)), e .1)
+returns-3 c = let e = c .before .before .before .before .before .add .ensures in (rw (c .plain2 .ensures) (ap handed (told-as toldAdd (e .0) (c .before .enum-told2 .given .1))), e .1)
 
 same-length-4 : tie.Need-same-length-4
 same-length-4 c = search needs
 
 returns-4 : tie.Need-returns-4
-returns-4 c = let e = c .before .before .before .before .before .add .ensures in (rw (c .plain3 .ensures) (ap handed (sym (ap toldAdd (c .before .enum-told3 .given .1)) ∙ e .0)), e .1)
+returns-4 c = let e = c .before .before .before .before .before .add .ensures in (rw (c .plain3 .ensures) (ap handed (told-as toldAdd (e .0) (c .before .enum-told3 .given .1))), e .1)
 
 same-length-5 : tie.Need-same-length-5
 same-length-5 c = search needs
 
 returns-5 : tie.Need-returns-5
-returns-5 c = let e = c .before .before .before .before .before .add .ensures in (rw (c .plain4 .ensures) (ap handed (sym (ap toldAdd (c .before .enum-told4 .given .1)) ∙ e .0)), e .1)
+returns-5 c = let e = c .before .before .before .before .before .add .ensures in (rw (c .plain4 .ensures) (ap handed (told-as toldAdd (e .0) (c .before .enum-told4 .given .1))), e .1)
 
 pub anow-tally-add-spec : {M : Type 1} → statement M
 anow-tally-add-spec =

@@ -1,4 +1,5 @@
-use mathlib.Core.Path.{ap, sym, _∙_}
+use mathlib.Core.Path.{ap}
+use Rattle.wire.proofs.Steps.{told-as}
 use Rattle.anowhetele.specs.Answers.{handed, nothingWritten}
 use Rattle.tally.specs.Told.{toldCheck}
 use borrow.Author.Needs.{needs}
@@ -21,10 +22,10 @@ plain-requires : tie.Need-plain-requires
 plain-requires c κs = search needs
 
 returns : tie.Need-returns
-returns c = rw (c .done .ensures) (ap (λ r. handed (nothingWritten r)) (sym (ap toldCheck (c .before .enum-told .given .1)) ∙ c .before .before .before .check .ensures))
+returns c = rw (c .done .ensures) (ap (λ r. handed (nothingWritten r)) (told-as toldCheck (c .before .before .before .check .ensures) (c .before .enum-told .given .1)))
 
 returns-2 : tie.Need-returns-2
-returns-2 c = rw (c .plain .ensures) (ap (λ r. handed (nothingWritten r)) (sym (ap toldCheck (c .before .enum-told2 .given .1)) ∙ c .before .before .before .check .ensures))
+returns-2 c = rw (c .plain .ensures) (ap (λ r. handed (nothingWritten r)) (told-as toldCheck (c .before .before .before .check .ensures) (c .before .enum-told2 .given .1)))
 
 pub anow-tally-check-spec : {M : Type 1} → statement M
 anow-tally-check-spec =

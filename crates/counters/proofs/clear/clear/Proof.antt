@@ -1,12 +1,13 @@
 -- The invariant: clearing the ids of the rows that are left gives the answer.
 use borrow.Author.Needs.{needs}
-use mathlib.Core.Path.{_≡_, ap, sym, _∙_}
+use mathlib.Core.Path.{_≡_}
 use mathlib.Core.List.{[]}
 use native.Mathlib.Omega.{arith}
 use lib.ListN.{length, length-drop}
 use denote.Ref.{now}
 use Rattle.wire.specs.Lists.{rest-is}
 use Rattle.wire.specs.Read.{done, mapRead}
+use Rattle.wire.proofs.Steps.{told-as}
 use Rattle.mapblock.specs.Layout.{all, nameRow}
 use Rattle.mapblock.specs.Rows.{nameFields}
 use Rattle.mapblock.specs.Told.{toldName}
@@ -23,7 +24,7 @@ abbrev μ-loop : tie.MeasureT-loop
 
 -- the front row, as it was read
 row-is : (c : tie.After-row Inv-loop μ-loop) → done (c .row .given .0 .0) (c .row .given .0 .1 .0) ≡ mapRead nameFields (nameRow all [] .read (now (c .before .before .before .before .loop .rest)))
-row-is c = sym (ap toldName (c .row .given .1)) ∙ c .before .before .name-row .ensures
+row-is c = told-as toldName (c .before .before .name-row .ensures) (c .row .given .1)
 
 loop-holds : tie.Need-loop-holds Inv-loop μ-loop
 loop-holds c = clearing-start _ _ (λ i. c .shared-slice-known .given i .fits)
@@ -35,7 +36,7 @@ enum-told : tie.Need-enum-told Inv-loop μ-loop
 enum-told c = search needs
 
 returns : tie.Need-returns Inv-loop μ-loop
-returns c = clearing-none (c .before .before .before .before .loop .inv) (all-refused _ (sym (ap toldName (c .enum-told .given .1)) ∙ c .before .before .name-row .ensures))
+returns c = clearing-none (c .before .before .before .before .loop .inv) (all-refused _ (told-as toldName (c .before .before .name-row .ensures) (c .enum-told .given .1)))
 
 enum-known-row : tie.Need-enum-known-row Inv-loop μ-loop
 enum-known-row c = search needs

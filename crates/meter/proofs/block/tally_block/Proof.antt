@@ -3,9 +3,9 @@ use mathlib.Core.Bool.{Bool}
 use denote.Ref.{now}
 use mir.ValLaws.{toZ-ofZ}
 use borrow.Author.Tests.{not-true, not-false}
+use Rattle.wire.proofs.Steps.{told-as}
 use Rattle.position.specs.Keys.{splitOf, toldSplit}
 use Rattle.mapblock.specs.Scan.{toldScan}
-use Rattle.tally.proofs.FrontRows.{told-as}
 use Rattle.meter.specs.Standing.{goodPart}
 use Rattle.meter.specs.Adding.{part}
 use Rattle.meter.proofs.Tallied.{block-bad, block-astray, block-refuses, block-found, block-put}

@@ -1,7 +1,7 @@
 use borrow.Author.Needs.{needs}
 use mathlib.Core.Path.{sym}
 use Rattle.wire.specs.Told.{toldS64, toldU32}
-use Rattle.tally.proofs.FrontRows.{told-as}
+use Rattle.wire.proofs.Steps.{told-as}
 use Rattle.meter.proofs.Sheetcount.{twelve-no-key, twelve-no-length, twelve-done, unread, wanted, unwanted}
 use Rattle.meter.proofs.program.block_length.Statement.{statement}
 use Rattle.meter.proofs.program.block_length.Tie as tie

@@ -3,7 +3,7 @@ use Prim.Native.Nat.{ℕ}
 use mathlib.Core.Path.{refl}
 use mathlib.Core.List.{List}
 use denote.Ref.{now}
-use Rattle.tally.proofs.FrontRows.{told-as}
+use Rattle.wire.proofs.Steps.{told-as}
 use Rattle.meter.specs.Program.{toldLength}
 use Rattle.meter.specs.declared.sheet.SheetAnswer.the-variants as sheets
 use Rattle.meter.proofs.Nexts.{next-stops, next-misframed, next-refused, next-taken}

@@ -2,7 +2,7 @@ use mir.Syntax.{w64}
 use mir.ValLaws.{toZ-ofZ}
 use Rattle.wire.specs.Told.{toldS64, toldCounted}
 use Rattle.wire.specs.Read.{at-place}
-use Rattle.tally.proofs.FrontRows.{told-as}
+use Rattle.wire.proofs.Steps.{told-as}
 use Rattle.meter.proofs.Steps.{frame-short-key, frame-short-block, frame-read}
 use borrow.Author.Needs.{needs}
 use Rattle.meter.proofs.records.frame.Statement.{statement}

@@ -1,4 +1,5 @@
 use mir.ValLaws.{toZ-ofZ}
+use Rattle.wire.proofs.Steps.{told-as}
 use Rattle.position.specs.Keys.{splitOf}
 use Rattle.meter.specs.Sheet.{rises}
 use Rattle.meter.specs.Records.{lastOf, recordOf}
@@ -6,7 +7,6 @@ use mathlib.Core.Path.{_≡_, refl, sym, _∙_}
 use borrow.Author.Tests.{not-true, not-false}
 use Rattle.position.specs.Keys.{toldSplit}
 use Rattle.mapblock.specs.Scan.{toldScan}
-use Rattle.tally.proofs.FrontRows.{told-as}
 use Rattle.meter.proofs.Judging.{judged-astray, judged-falling, judged-refused, judged-taken}
 use borrow.Author.Needs.{needs}
 use Rattle.meter.proofs.records.judge_record.Statement.{statement}

@@ -1,5 +1,6 @@
 use borrow.Author.Needs.{needs}
-use mathlib.Core.Path.{ap, sym, _∙_}
+use mathlib.Core.Path.{ap, sym}
+use Rattle.wire.proofs.Steps.{told-as}
 use Rattle.mapblock.specs.Data.{NameRow}
 use Rattle.mapblock.specs.Told.{toldName}
 use Rattle.names.proofs.RowsAt.{row-beyond, row-refused, row-id}
@@ -31,10 +32,10 @@ cast-result : tie.Need-cast-result
 cast-result c = search needs
 
 returns-2 : tie.Need-returns-2
-returns-2 c = (ap (λ (r : NameRow). r .id) (sym (row-refused _ _ (sym (ap toldName (c .enum-told .given .1)) ∙ c .before .before .name-row .ensures))), search needs)
+returns-2 c = (ap (λ (r : NameRow). r .id) (sym (row-refused _ _ (told-as toldName (c .before .before .name-row .ensures) (c .enum-told .given .1)))), search needs)
 
 returns-3 : tie.Need-returns-3
-returns-3 c = (row-id _ _ (sym (ap toldName (c .before .before .row .given .1)) ∙ c .before .before .before .before .name-row .ensures), search needs)
+returns-3 c = (row-id _ _ (told-as toldName (c .before .before .before .before .name-row .ensures) (c .before .before .row .given .1)), search needs)
 
 pub id-at-spec : {M : Type 1} → statement M
 id-at-spec =

@@ -1,5 +1,6 @@
 use borrow.Author.Needs.{needs}
 use mathlib.Core.Path.{ap, sym, _∙_}
+use Rattle.wire.proofs.Steps.{told-as}
 use Rattle.mapblock.specs.Data.{NameRow}
 use Rattle.mapblock.specs.Told.{toldName}
 use Rattle.names.proofs.RowsAt.{row-beyond, row-refused, row-name}
@@ -37,10 +38,10 @@ cut-requires : tie.Need-cut-requires
 cut-requires c κs = search needs
 
 returns-2 : tie.Need-returns-2
-returns-2 c = ap (λ (r : NameRow). r .name) (sym (row-refused _ _ (sym (ap toldName (c .before .enum-told .given .1)) ∙ c .before .before .before .name-row .ensures)))
+returns-2 c = ap (λ (r : NameRow). r .name) (sym (row-refused _ _ (told-as toldName (c .before .before .before .name-row .ensures) (c .before .enum-told .given .1))))
 
 returns-3 : tie.Need-returns-3
-returns-3 c = c .cut .ensures ∙ row-name _ _ (sym (ap toldName (c .before .before .row .given .1)) ∙ c .before .before .before .before .name-row .ensures) (λ i. c .before .before .before .before .before .before .before .shared-slice-known .given i .fits)
+returns-3 c = c .cut .ensures ∙ row-name _ _ (told-as toldName (c .before .before .before .before .name-row .ensures) (c .before .before .row .given .1)) (λ i. c .before .before .before .before .before .before .before .shared-slice-known .given i .fits)
 
 pub name-at-spec : {M : Type 1} → statement M
 name-at-spec =

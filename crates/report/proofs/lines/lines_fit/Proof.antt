@@ -4,10 +4,10 @@ use Prim.Native.Nat.{_+_, _≤_}
 use native.Mathlib.Omega.{arith}
 use denote.Ref.{now}
 use lib.ListN.{length}
+use Rattle.wire.proofs.Steps.{told-as}
 use Rattle.tally.specs.Told.{toldRow}
 use Rattle.tally.specs.declared.rows.RowRead.the-variants as rows
 use Rattle.tally.proofs.Held.{row-inside}
-use Rattle.tally.proofs.FrontRows.{told-as}
 use Rattle.tally.proofs.Nexts.{Front}
 use Rattle.report.proofs.Decimals.{decimal-short}
 use Rattle.report.proofs.Passing.{behind-short, Measuring, measuring-start, measuring-end, measuring-full, measuring-on}

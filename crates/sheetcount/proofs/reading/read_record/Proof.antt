@@ -7,7 +7,7 @@ use lib.ListN.{length, take, drop, length-append, length-drop}
 use lib.Seq.{length-take-le}
 use denote.Ref.{now}
 use Rattle.wire.specs.Bytes.{bytes-take}
-use Rattle.tally.proofs.FrontRows.{told-as}
+use Rattle.wire.proofs.Steps.{told-as}
 use Rattle.meter.specs.Program.{mostBlock, toldLength}
 use Rattle.meter.proofs.Sheetcount.{length-most}
 use Rattle.sheetcount.specs.Reading.{longest}

@@ -6,11 +6,11 @@ use denote.Ref.{now}
 use lib.ListN.{take}
 use lib.Seq.{length-take-le}
 use Rattle.wire.specs.Answer.{good}
+use Rattle.wire.proofs.Steps.{told-as}
 use Rattle.tally.specs.Rows.{Row}
 use Rattle.tally.specs.Tally.{one}
 use Rattle.tally.specs.Operations.{checkOf}
 use Rattle.tally.specs.Told.{toldCheck}
-use Rattle.tally.proofs.FrontRows.{told-as}
 use Rattle.tally.proofs.Checks.{unchecked}
 use Rattle.tally.proofs.Adding.{add-long, add-beyond, add-malformed, nothing-added, may-add, row-added}
 use Rattle.tally.proofs.add.add.Statement.{statement}

@@ -6,10 +6,10 @@ use mathlib.Core.List.{[]}
 use native.Mathlib.Omega.{arith}
 use denote.Ref.{now}
 use lib.ListN.{length}
+use Rattle.wire.proofs.Steps.{told-as}
 use Rattle.tally.specs.Tally.{found, row, one}
 use Rattle.tally.specs.Told.{toldRow}
 use Rattle.tally.specs.declared.rows.RowRead.the-variants as rows
-use Rattle.tally.proofs.FrontRows.{told-as}
 use Rattle.tally.proofs.Seeking.{Seeking, seeking-start, seeking-end, seeking-inside, seeking-place, seeking-less, seeking-on, seeking-row, seeking-over}
 use Rattle.tally.proofs.add.seek.Statement.{statement}
 use Rattle.tally.proofs.add.seek.Tie as tie

@@ -8,12 +8,13 @@ use denote.Ref.{now}
 use borrow.Author.Tests.{not-true, not-false}
 use lib.ListN.{take, drop}
 use Rattle.wire.specs.Lists.{rest-is}
+use Rattle.wire.proofs.Steps.{told-as}
 use Rattle.tally.specs.Tally.{found, row, one}
 use Rattle.tally.specs.Told.{toldRow}
 use Rattle.tally.specs.Walks.{mayFollow}
 use Rattle.tally.specs.declared.rows.RowRead.the-variants as rows
 use Rattle.tally.proofs.Held.{row-inside}
-use Rattle.tally.proofs.FrontRows.{told-as, name-part}
+use Rattle.tally.proofs.FrontRows.{name-part}
 use Rattle.tally.proofs.Checking.{Checking, checking-start, checking-none, checking-falls, checking-on, checking-end}
 use Rattle.tally.proofs.check.are_rows.Statement.{statement}
 use Rattle.tally.proofs.check.are_rows.Tie as tie

@@ -4,8 +4,8 @@ use Prim.Native.Nat.{_≤_}
 use lib.ListN.{length}
 use Rattle.wire.specs.Lists.{rest-is}
 use Rattle.wire.specs.Formats.{headLength}
+use Rattle.wire.proofs.Steps.{told-as}
 use Rattle.tally.specs.Told.{toldCheck}
-use Rattle.tally.proofs.FrontRows.{told-as}
 use Rattle.tally.proofs.Checks.{check-long, rows-there, rows-nowhere}
 use borrow.Author.Needs.{needs}
 use Rattle.tally.proofs.check.rows_of.Statement.{statement}

@@ -11,7 +11,8 @@ use Prim.Native.Nat.{ℕ, _+_}
 use lib.ListN.{drop}
 use Rattle.wire.specs.Lists.{rest-is}
 use Rattle.wire.specs.Answer.{partOf}
-use Rattle.tally.proofs.FrontRows.{told-as, front-is, front-isnt}
+use Rattle.wire.proofs.Steps.{told-as}
+use Rattle.tally.proofs.FrontRows.{front-is, front-isnt}
 use borrow.Author.Needs.{needs}
 use Rattle.tally.proofs.rows.behind_row.Statement.{statement}
 use Rattle.tally.proofs.rows.behind_row.Tie as tie

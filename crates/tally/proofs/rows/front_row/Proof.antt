@@ -4,11 +4,12 @@ use denote.Ref.{now}
 use Rattle.wire.specs.Bytes.{Bytes}
 use Rattle.wire.specs.Told.{short, toldCounted, toldU64}
 use Rattle.wire.specs.Formats.{counted, u64}
+use Rattle.wire.proofs.Steps.{told-as}
 use mathlib.Core.Path.{_≡_}
 use lib.ListN.{drop}
 use Rattle.wire.specs.declared.fields.Counted.the-variants as runs
 use Rattle.wire.specs.declared.fields.U64.the-variants as u64s
-use Rattle.tally.proofs.FrontRows.{told-as, front-no-name, name-inside, front-no-count, front-none, front-some}
+use Rattle.tally.proofs.FrontRows.{front-no-name, name-inside, front-no-count, front-none, front-some}
 use borrow.Author.Needs.{needs}
 use Rattle.tally.proofs.rows.front_row.Statement.{statement}
 use Rattle.tally.proofs.rows.front_row.Tie as tie

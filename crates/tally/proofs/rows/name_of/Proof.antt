@@ -3,13 +3,14 @@ use mathlib.Core.List.{[]}
 use native.Mathlib.Omega.{arith}
 use denote.Ref.{now}
 use Rattle.wire.specs.Answer.{partOf}
+use Rattle.wire.proofs.Steps.{told-as}
 use Rattle.tally.specs.Tally.{found, row, one}
 use Rattle.tally.specs.Told.{toldRow}
 use Rattle.tally.specs.declared.rows.RowRead.the-variants as rows
 use Rattle.tally.proofs.Held.{row-inside}
 use Rattle.tally.specs.Tally.{KindRow}
 use Prim.Native.Nat.{ℕ}
-use Rattle.tally.proofs.FrontRows.{told-as, name-part, front-is, front-isnt}
+use Rattle.tally.proofs.FrontRows.{name-part, front-is, front-isnt}
 use borrow.Author.Needs.{needs}
 use Rattle.tally.proofs.rows.name_of.Statement.{statement}
 use Rattle.tally.proofs.rows.name_of.Tie as tie

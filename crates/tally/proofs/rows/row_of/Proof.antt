@@ -8,7 +8,8 @@ use Rattle.tally.specs.declared.rows.RowRead.the-variants as rows
 use Rattle.tally.proofs.Held.{row-inside}
 use Rattle.tally.specs.Told.{shownRow}
 use Rattle.wire.specs.Answer.{mapAnswer}
-use Rattle.tally.proofs.FrontRows.{told-as, front-empty, front-is, front-malformed}
+use Rattle.wire.proofs.Steps.{told-as}
+use Rattle.tally.proofs.FrontRows.{front-empty, front-is, front-malformed}
 use borrow.Author.Needs.{needs}
 use Rattle.tally.proofs.rows.row_of.Statement.{statement}
 use Rattle.tally.proofs.rows.row_of.Tie as tie
