@@ -8,13 +8,13 @@ use native.Mathlib.Nat.{zero-add}
 use native.Mathlib.Omega.{arith}
 use lib.Dec.{eqb}
 use borrow.Author.Tests.{eqb-true, eqb-false, ne-eqb}
-use Rattle.wire.specs.Order.{order}
+use Rattle.wire.specs.Order.{order, choose}
 use Rattle.wire.specs.declared.order.Order.{Order}
 use Rattle.wire.specs.declared.order.Order.the-variants.{Before, Same, After}
 use Rattle.mapblock.specs.Data.{NameRow}
 use Rattle.mapblock.specs.Valid.{Has, Distinct}
 use Rattle.mapblock.specs.Questions.{nameOf}
-use Rattle.tally.specs.Rows.{choose, countIn, isNamed}
+use Rattle.tally.specs.Rows.{countIn, isNamed}
 use Rattle.tally.specs.Tally.{ones}
 use Rattle.names.specs.Used.{heavy}
 use Rattle.counters.specs.Counting.{bit, cnt, byId, rowId, told}

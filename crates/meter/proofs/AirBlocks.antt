@@ -10,7 +10,7 @@ use lib.Signed.{mag}
 use lib.ListN.{length}
 use Rattle.wire.specs.Bytes.{Bytes}
 use Rattle.wire.specs.Choice.{yes-and}
-use Rattle.wire.specs.Order.{order, order-refl}
+use Rattle.wire.specs.Order.{order, order-refl, choose}
 use Rattle.wire.specs.Format.{run, nothing, such, _⨾_, along, items}
 use Rattle.wire.specs.Formats.{number, signed, half64, listed, counted as runs, behind}
 use Rattle.wire.specs.Answer.{good}
@@ -26,7 +26,6 @@ use Rattle.mapblock.specs.Questions.{nameAt}
 use Rattle.mapblock.specs.Valid.{Valid}
 use Rattle.mapblock.proofs.ValidOk.{valid-is-ok}
 use Rattle.mapblock.proofs.Taken.{airAt, air-valid}
-use Rattle.tally.specs.Rows.{choose}
 use Rattle.meter.specs.Standing.{Part, Placed, Node, inPart, nodeOf, nodesFrom, those, nodesIn}
 use Rattle.meter.specs.Counting.{amountOf, byOne}
 use Rattle.meter.specs.Tallying.{placed, placedAt}

@@ -7,10 +7,10 @@ use native.Mathlib.Omega.{arith}
 use lib.ListN.{length}
 use Rattle.wire.specs.Bytes.{Bytes}
 use Rattle.wire.specs.Choice.{yes-and}
-use Rattle.wire.specs.Order.{order, order-same}
+use Rattle.wire.specs.Order.{order, order-same, choose}
 use Rattle.wire.specs.declared.order.Order.{Order}
 use Rattle.wire.specs.declared.order.Order.the-variants.{Before, Same, After}
-use Rattle.tally.specs.Rows.{isName, choose, joined, addRow, plus, countIn, Canonical}
+use Rattle.tally.specs.Rows.{isName, joined, addRow, plus, countIn, Canonical}
 use Rattle.tally.specs.Tally.{KindRow, limited}
 use Rattle.tally.proofs.Canon.{count-plus, canonical-add, canonical-plus, determined, count-head, count-above, count-past}
 use Rattle.meter.specs.Standing.{Node, those}

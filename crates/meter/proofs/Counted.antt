@@ -9,7 +9,7 @@ use lib.Dec.{eqb}
 use lib.ListN.{length, getD, length-replicate}
 use lib.Seq.{ext-getD}
 use borrow.Author.Tests.{eqb-true, eqb-false}
-use Rattle.wire.specs.Order.{order}
+use Rattle.wire.specs.Order.{order, choose}
 use Rattle.wire.specs.declared.order.Order.{Order}
 use Rattle.wire.specs.declared.order.Order.the-variants.{Before, Same, After}
 use Rattle.position.specs.Lots.{inLot}
@@ -22,7 +22,7 @@ use Rattle.mapblock.specs.Questions.{nameOf, nameAt}
 use Rattle.mapblock.specs.Table.{unmarked}
 use Rattle.mapblock.specs.Valid.{Has, Each, NameGood, Valid}
 use Rattle.mapblock.proofs.BlockAnswers.{zeros-at}
-use Rattle.tally.specs.Rows.{isNamed, choose, countIn}
+use Rattle.tally.specs.Rows.{isNamed, countIn}
 use Rattle.tally.specs.Tally.{ones}
 use Rattle.names.specs.Used.{usedIn, counted, heavy}
 use Rattle.counters.specs.Counting.{bit, cnt, inLotAt, byId, rowId, told}

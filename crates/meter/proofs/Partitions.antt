@@ -6,9 +6,9 @@ use mathlib.Core.List.{List, [], _∷_, _++_}
 use native.Mathlib.Omega.{arith}
 use lib.ListN.{length}
 use Rattle.wire.specs.Choice.{and-yes, yes-and}
-use Rattle.wire.specs.Order.{order}
+use Rattle.wire.specs.Order.{order, choose}
 use Rattle.wire.specs.Answer.{good}
-use Rattle.tally.specs.Rows.{choose, plus, countIn, Canonical}
+use Rattle.tally.specs.Rows.{plus, countIn, Canonical}
 use Rattle.tally.specs.Tally.{tally}
 use Rattle.tally.specs.Theorems.{merged, Merges, AllTallies, sumOf, Fits}
 use Rattle.tally.proofs.Canon.{count-plus, canonical-plus, determined, plus-unit}

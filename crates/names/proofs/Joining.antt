@@ -8,20 +8,17 @@ use native.Mathlib.Numerals.{add-one}
 use native.Mathlib.Omega.{arith}
 use lib.Dec.{ltb}
 use lib.ListN.{length, drop, take, getD, set, length-drop, length-set, take-append-drop, drop-of-length-le}
-use lib.Seq.{take-all, take-suc, take-suc-set, drop-cons, getD-drop, getD-take, length-take-le, slice, slice-empty}
+use lib.Seq.{take-all, take-suc, take-suc-set, getD-drop, getD-take, length-take-le, slice, slice-empty}
 use borrow.Author.Tests.{ltb-true, ltb-false, lt-ltb, le-ltb}
 use Rattle.wire.specs.Choice.{cond-yes, no-true, no-false}
-use Rattle.wire.specs.Order.{order, flip, order-flip, order-same, order-trans}
+use Rattle.wire.specs.Order.{order, flip, order-flip, order-same, order-trans, isBefore}
+use Rattle.wire.specs.Lists.{drop-next}
 use Rattle.wire.specs.declared.order.Order.{Order}
 use Rattle.wire.specs.declared.order.Order.the-variants.{Before, Same, After}
-use Rattle.tally.specs.Rows.{choose}
 use Rattle.names.specs.Places.{rowAt}
 use Rattle.names.specs.Order.{comesBefore, Low, Rising, total, Arranged, leftAt, Joins}
 
 -- ---- names that do not fall
-abbrev pub isBefore : Order → Bool
-isBefore w = choose w true false false
-
 -- of two names one does not come before the other
 not-after : (a b : List ℕ) → isBefore (order a b) ≡ true → isBefore (order b a) ≡ false
 not-after a b e = go (order a b) refl
@@ -79,9 +76,6 @@ total-append f (x ∷ xs) ys = let h = total-append f xs ys in omega arith
 -- a sum over places and over the two parts of a cut
 pub total-cut : (f : ℕ → ℕ) (n : ℕ) (l : List ℕ) → total f (take n l) + total f (drop n l) ≡ total f l
 total-cut f n l = sym (total-append f (take n l) (drop n l)) ∙ ap (total f) (take-append-drop n l)
-
-drop-next : (l : List ℕ) (i : ℕ) → i < length l → drop i l ≡ getD l i 0 ∷ drop (i + 1) l
-drop-next l i h = rw (add-one, drop-cons l i 0)
 
 pub front-is : (i : ℕ) (l : List ℕ) → getD (drop i l) 0 0 ≡ getD l i 0
 front-is i l = rw (getD-drop, add-zero)

@@ -7,8 +7,8 @@ use native.Mathlib.Omega.{arith}
 use lib.Dec.{eqb}
 use lib.ListN.{length}
 use borrow.Author.Tests.{eqb-false, ne-eqb}
-use Rattle.wire.specs.Order.{order}
-use Rattle.tally.specs.Rows.{choose, countIn}
+use Rattle.wire.specs.Order.{order, choose}
+use Rattle.tally.specs.Rows.{countIn}
 use Rattle.tally.specs.Tally.{ones}
 use Rattle.names.specs.Places.{rowAt, countAt, run}
 use Rattle.names.specs.Order.{total, Arranged}

@@ -5,13 +5,12 @@ use mathlib.Core.Bool.{Bool, true, false, cond}
 use mathlib.Core.List.{List, [], _∷_}
 use lib.Dec.{ltb}
 use lib.ListN.{length, take, drop, getD}
-use Rattle.wire.specs.Order.{order}
-use Rattle.tally.specs.Rows.{choose}
+use Rattle.wire.specs.Order.{order, isBefore}
 use Rattle.names.specs.Places.{rowAt}
 
 -- whether the name at p comes before that at q
 abbrev pub comesBefore : List ℕ → ℕ → ℕ → Bool
-comesBefore s p q = choose (order (rowAt s p .name) (rowAt s q .name)) true false false
+comesBefore s p q = isBefore (order (rowAt s p .name) (rowAt s q .name))
 
 -- no name of the places comes before that at p
 abbrev pub Low : List ℕ → ℕ → List ℕ → Type 0

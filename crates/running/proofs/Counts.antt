@@ -7,10 +7,10 @@ use native.Mathlib.Nat.{zero-add}
 use native.Mathlib.Omega.{arith}
 use borrow.Author.Tests.{leb-true, le-leb, lt-leb}
 use Rattle.wire.specs.Choice.{yes-and}
-use Rattle.wire.specs.Order.{order, order-trans}
+use Rattle.wire.specs.Order.{order, order-trans, choose}
 use Rattle.wire.specs.declared.order.Order.{Order}
 use Rattle.wire.specs.declared.order.Order.the-variants.{Before, Same, After}
-use Rattle.tally.specs.Rows.{Row, Rows, choose, joined, addRow, plus, countIn, Canonical}
+use Rattle.tally.specs.Rows.{Row, Rows, joined, addRow, plus, countIn, Canonical}
 use Rattle.tally.specs.Tally.{ones, one, limited, most}
 use Rattle.tally.specs.Sought.{Below}
 use Rattle.running.specs.Running.{tooHeavy}

@@ -23,7 +23,7 @@ use Rattle.running.specs.declared.absorb.Group.{Group}
 use Rattle.running.specs.declared.absorb.Gap.{Gap}
 use Rattle.running.proofs.Measures.{fresh-there, fresh-new, fresh-none, agree-above, fresh-agree}
 use Rattle.running.proofs.Groups.{left-end}
-use Rattle.running.proofs.Raising.{Under, under-none, under-passed, may-next}
+use Rattle.running.proofs.Raising.{Under, under-none, under-passed, first-rest, first-may}
 
 -- no bytes are no rows
 no-bytes : (F : Rows ones) → length (rowsBytes one F) ≡ 0 → F ≡ []
@@ -81,10 +81,10 @@ module _ (s c ps t₀ : List ℕ) (b n i : ℕ) (gap : Gap) (t : List ℕ) (x : 
       first = q .first (now .H) (now .left) (now .light)
 
       rest : Canonical ones (next ∷ first .H)
-      rest = rw (first .split) at (now .left .canonical)
+      rest = first-rest first (now .left .canonical)
 
       may : May next (now .D)
-      may = may-next next (now .D) (first .H) rest (rw (first .split) at (now .under))
+      may = first-may first (now .left .canonical) (now .D) (now .under)
 
       there-is : has (now .L) (next .name) ≡ true → fresh (now .L) (now .H) ≡ fresh (now .L) (first .H)
       there-is e = ap (fresh (now .L)) (first .split) ∙ fresh-there (now .L) next (first .H) e

@@ -3,23 +3,22 @@ use Prim.Native.Nat.{ℕ, _+_, _%_, _^_, _<_, _≤_}
 use mathlib.Core.Path.{_≡_, refl, ap, ap₂, sym, _∙_}
 use mathlib.Core.Bool.{true, false}
 use mathlib.Core.List.{List, [], _∷_}
-use native.Mathlib.Numerals.{add-one}
 use native.Mathlib.Omega.{arith}
 use lib.ListN.{length, getD, drop, drop-of-length-le}
-use lib.Seq.{drop-cons}
 use borrow.Author.Tests.{le-leb}
 use Rattle.wire.specs.Bytes.{Bytes, bytes-nil, bytes-drop}
 use Rattle.wire.specs.Choice.{no-false}
-use Rattle.wire.specs.Order.{order, flip, order-same, order-flip, order-trans}
+use Rattle.wire.specs.Order.{order, flip, order-same, order-flip, order-trans, choose}
 use Rattle.wire.specs.declared.order.Order.{Order}
 use Rattle.wire.specs.declared.order.Order.the-variants.{Before, Same, After}
 use Rattle.wire.specs.Format.{run as runs, such, _⨾_, along}
 use Rattle.wire.specs.Formats.{number, counted}
 use Rattle.wire.specs.Read.{Read, done, refused}
+use Rattle.wire.specs.Lists.{drop-next}
 use Rattle.mapblock.specs.Data.{NameRow}
 use Rattle.mapblock.specs.Layout.{all, nameRow}
 use Rattle.mapblock.specs.declared.fault.Fault.{Fault}
-use Rattle.tally.specs.Rows.{Row, Rows, isName, choose, joined, addRow, plus, Above, Canonical}
+use Rattle.tally.specs.Rows.{Row, Rows, isName, joined, addRow, plus, Above, Canonical}
 use Rattle.tally.specs.Tally.{ones}
 use Rattle.tally.proofs.Canon.{count-plus, canonical-add, canonical-plus, determined}
 use Rattle.tally.proofs.Steps.{add-front, above-plus}
@@ -132,9 +131,6 @@ gathered-nil s c = refl
 above-gathered : (s c ps n : List ℕ) → Above ones n (run s c ps) → Above ones n (gathered s c ps)
 unfolding gathered
 above-gathered s c ps n h = above-plus ones n (run s c ps) [] h tt
-
-drop-next : (ps : List ℕ) (i : ℕ) → i < length ps → drop i ps ≡ getD ps i 0 ∷ drop (i + 1) ps
-drop-next ps i h = rw (add-one i) (drop-cons ps i 0 h)
 
 module _ (s c ps : List ℕ) (i : ℕ) where
   pub gathering-start : (count : ℕ) → count ≡ countAt s c (getD ps i 0) → i < length ps → Gathering s c ps i count (i + 1)

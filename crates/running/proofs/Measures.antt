@@ -8,10 +8,10 @@ use native.Mathlib.Omega.{arith}
 use lib.Dec.{leb}
 use lib.ListN.{length, length-append}
 use borrow.Author.Tests.{leb-true}
-use Rattle.wire.specs.Order.{order, flip, order-same, order-flip}
+use Rattle.wire.specs.Order.{order, flip, order-same, order-flip, choose}
 use Rattle.wire.specs.declared.order.Order.{Order}
 use Rattle.wire.specs.declared.order.Order.the-variants.{Before, Same, After}
-use Rattle.tally.specs.Rows.{Row, Rows, choose, joined, addRow, plus, countIn, Above, Canonical}
+use Rattle.tally.specs.Rows.{Row, Rows, joined, addRow, plus, countIn, Above, Canonical}
 use Rattle.tally.specs.Tally.{ones, one, fields}
 use Rattle.tally.specs.Walks.{rowsBytes}
 use Rattle.tally.proofs.Canon.{count-plus, count-above, count-cons, above-weak, canonical-plus}

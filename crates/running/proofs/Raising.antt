@@ -44,8 +44,16 @@ pub under-passed : (g : Row ℕ) (D H : Rows ones) → Passed g D → Above ones
 under-passed g D [] p a = tt
 under-passed g D (x ∷ H) p a = p (x .name) (a .0)
 
-pub may-next : (g : Row ℕ) (D H : Rows ones) → Canonical ones (g ∷ H) → Under D (g ∷ H) → May g D
+may-next : (g : Row ℕ) (D H : Rows ones) → Canonical ones (g ∷ H) → Under D (g ∷ H) → May g D
 may-next g D H c u = record { name = c .0; bytes = c .1; stands = leb-true 1 (g .count) (c .2); below = u }
+
+-- of the rows left, the first and those behind it
+module _ {s c ps : List ℕ} {i : ℕ} {g : Group} {G : Rows ones} (f : First s c ps i g G) (h : Canonical ones G) where
+  pub first-rest : Canonical ones (named s ps i (g .count) ∷ f .H)
+  first-rest = rw (f .split) at h
+
+  pub first-may : (D : Rows ones) → Under D G → May (named s ps i (g .count)) D
+  first-may D u = may-next (named s ps i (g .count)) D (f .H) first-rest (rw (f .split) at u)
 
 -- ---- a name that has a row: adding to it gives no name a row
 has-add : (g : Row ℕ) (W : Rows ones) → has W (g .name) ≡ true → (n : List ℕ) → has (addRow ones g W) n ≡ has W n
@@ -128,10 +136,10 @@ module _ (s c ps t₀ : List ℕ) (n i at b k : ℕ) (t : List ℕ) (x : Raising
       first = q .first (now .H) (now .left) (omega (arith, now .light))
 
       rest : Canonical ones (next ∷ first .H)
-      rest = rw (first .split) at (now .left .canonical)
+      rest = first-rest first (now .left .canonical)
 
       may : May next (now .D)
-      may = may-next next (now .D) (first .H) rest (rw (first .split) at (now .under))
+      may = first-may first (now .left .canonical) (now .D) (now .under)
 
       weight : heavy (now .D ++ now .L) + (g .count + heavy (first .H)) < tooHeavy
       weight = omega (arith, now .light, ap heavy (first .split))

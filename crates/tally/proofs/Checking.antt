@@ -11,13 +11,13 @@ use lib.Dec.{eqb}
 use lib.ListN.{length, take, drop, length-drop}
 use borrow.Author.Tests.{eq-eqb, ne-eqb, eqb-true, eqb-false}
 use Rattle.wire.specs.Choice.{yes-and, and-no}
-use Rattle.wire.specs.Order.{order}
+use Rattle.wire.specs.Order.{order, choose}
 use Rattle.wire.specs.declared.order.Order.{Order}
 use Rattle.wire.specs.Read.{Read, done, refused}
 use Rattle.wire.specs.Format.{items, readItems}
 use Rattle.wire.proofs.Joints.{such-done, such-passes}
 use Rattle.wire.proofs.Items.{after, items-start, items-on, items-refused, items-end}
-use Rattle.tally.specs.Rows.{Row, Rows, choose}
+use Rattle.tally.specs.Rows.{Row, Rows}
 use Rattle.tally.specs.Tally.{Malformed, malformed, rises, found, fields, mayStand, row, ones, one}
 use Rattle.tally.specs.Told.{toldRow}
 use Rattle.tally.specs.Walks.{mayFollow, isSome, takes}

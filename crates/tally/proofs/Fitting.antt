@@ -11,10 +11,10 @@ use lib.ListN.{length, drop, length-append}
 use borrow.Author.Tests.{leb-true, leb-false, le-leb, lt-leb}
 use Rattle.wire.specs.Answer.{good, plain, noRoom, tallyMalformed, tooMany, Answered, room-short, room-put}
 use Rattle.wire.specs.Choice.{and-yes, yes-and}
-use Rattle.wire.specs.Order.{order, order-same}
+use Rattle.wire.specs.Order.{order, order-same, choose}
 use Rattle.wire.specs.declared.order.Order.{Order}
 use Rattle.wire.specs.declared.order.Order.the-variants.{Before, Same, After}
-use Rattle.tally.specs.Rows.{choose, joined, addRow, plus, Canonical}
+use Rattle.tally.specs.Rows.{joined, addRow, plus, Canonical}
 use Rattle.tally.specs.Tally.{Kind, KindRow, KindRows, fields, tally, rowsOf, limited, countable, mostRows}
 use Rattle.tally.specs.Operations.{tallied, mergeOf}
 use Rattle.tally.specs.Theorems.{Fits}

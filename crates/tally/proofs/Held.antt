@@ -11,12 +11,12 @@ use lib.Seq.{drop-append-seam, take-at, drop-at}
 use borrow.Author.Tests.{le-leb, leb-true, eqb-true, eq-eqb}
 use Rattle.wire.specs.Choice.{no-true, and-yes, yes-and, three-yes, yes-three}
 use Rattle.wire.specs.Bytes.{Bytes, spell, spell-length, bytes-nil, bytes-cons}
-use Rattle.wire.specs.Order.{order}
+use Rattle.wire.specs.Order.{order, choose}
 use Rattle.wire.specs.Read.{Read, done, refused}
 use Rattle.wire.specs.Format.{run, such, _⨾_, along, items, OkItems, encodeItems, ends-in}
 use Rattle.wire.specs.Formats.{number, counted, listed, behind, headLength}
 use Rattle.wire.proofs.EveryFormat.{every-format}
-use Rattle.tally.specs.Rows.{Row, Rows, isName, choose, Above, Canonical}
+use Rattle.tally.specs.Rows.{Row, Rows, isName, Above, Canonical}
 use Rattle.tally.specs.Tally.{Malformed, malformed, Kind, KindRow, KindRows, tallyMark, headBytes, rises, found, whole, fields, mayStand, row, tally, rowsOf, limited, countable, ones, one, mostRows}
 use Rattle.tally.specs.Told.{toldRow}
 use Rattle.tally.specs.Walks.{rowsBytes, Holds}

@@ -70,14 +70,11 @@ module _ {s name rest : List ℕ} {at : ℕ} (w : Seeking s name rest at) where
 
   -- a row of n bytes of name stands there
   module _ (n c : ℕ) (e : toldRow rest (rows.Row n c) ≡ found (row one [] .read rest)) where
-    pub seeking-inside : n + 10 ≤ length rest
-    seeking-inside = row-inside rest n c e
-
     pub seeking-place : at + (n + 10) ≤ length s
-    seeking-place = omega (arith, w .size, seeking-inside)
+    seeking-place = omega (arith, w .size, row-inside rest n c e)
 
     pub seeking-less : length (take (length rest - (n + 10)) (drop (n + 10) rest)) < length rest
-    seeking-less = rw (rest-is (n + 10) rest, length-drop) (omega (arith, seeking-inside))
+    seeking-less = rw (rest-is (n + 10) rest, length-drop) (omega (arith, row-inside rest n c e))
 
     first : (L : Rows ones) (h : Holds one s L) → FirstRow rest n c (w .passed L h .R)
     first L h = first-row rest n c (w .passed L h .R) e (w .passed L h .left)
@@ -91,7 +88,7 @@ module _ {s name rest : List ℕ} {at : ℕ} (w : Seeking s name rest at) where
 
     pub seeking-on : Before ≡ order (take ((n + 2) - 2) (drop 2 rest)) name → Seeking s name (take (length rest - (n + 10)) (drop (n + 10) rest)) (at + (n + 10))
     seeking-on k = rw (rest-is (n + 10) rest) record {
-      size = rw length-drop (omega (arith, w .size, seeking-inside));
+      size = rw length-drop (omega (arith, w .size, row-inside rest n c e));
       passed = λ L h.
           let p = w .passed L h in
           let f = first L h in
@@ -107,7 +104,7 @@ module _ {s name rest : List ℕ} {at : ℕ} (w : Seeking s name rest at) where
 
     pub seeking-row : Same ≡ order (take ((n + 2) - 2) (drop 2 rest)) name → Sought s name (founds.Row at c)
     seeking-row k =
-        let long : length name ≡ n = ap length (sym (order-same (take n (drop 2 rest)) name (named k))) ∙ length-take-le n (drop 2 rest) (rw length-drop (omega (arith, seeking-inside))) in (
+        let long : length name ≡ n = ap length (sym (order-same (take n (drop 2 rest)) name (named k))) ∙ length-take-le n (drop 2 rest) (rw length-drop (omega (arith, row-inside rest n c e))) in (
           omega (arith, long, seeking-place),
           λ L h.
               let p = w .passed L h in

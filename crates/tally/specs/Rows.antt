@@ -7,9 +7,8 @@ use mathlib.Core.List.{List, [], _∷_}
 use lib.Dec.{leb}
 use lib.ListN.{length}
 use Rattle.wire.specs.Bytes.{Bytes}
-use Rattle.wire.specs.Order.{order}
-use Rattle.wire.specs.declared.order.Order.{Order}
-use Rattle.wire.specs.declared.order.Order.the-variants.{Before, Same, After}
+use Rattle.wire.specs.Order.{order, choose}
+use Rattle.wire.specs.declared.order.Order.the-variants.{Before}
 
 -- Counts: nothing, their sum, and which of them may stand in a row.
 pub record Counts : Type 1 where
@@ -30,12 +29,6 @@ pub record Row (C : Type 0) : Type 0 where
 -- the names that may stand in a tally: those whose length a u16 holds
 abbrev pub isName : List ℕ → Bool
 isName n = leb (length n) 65535
-
--- one of three, by how a name stands to another
-abbrev pub choose {ℓ} : {A : Type ℓ} → Order → A → A → A → A
-choose Before x y z = x
-choose Same x y z = y
-choose After x y z = z
 
 -- whether m is the name n
 abbrev pub isNamed : List ℕ → List ℕ → Bool

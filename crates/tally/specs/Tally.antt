@@ -1,7 +1,7 @@
 -- The bytes of a tally: document 01, 'Tallies, lots, spans, sheets'.
 use Prim.Native.Nat.{ℕ, _+_, _^_, _<_}
 use mathlib.Core.Path.{_≡_, refl}
-use mathlib.Core.Bool.{Bool, true, false, cond, _&&_}
+use mathlib.Core.Bool.{Bool, true, cond, _&&_}
 use mathlib.Core.List.{List, [], _∷_, _++_}
 use mathlib.Core.Logic.{_↔_}
 use mathlib.Core.Option.{Option, some, none}
@@ -10,11 +10,11 @@ use lib.Dec.{leb, eqb, lit<}
 use lib.ListN.{length}
 use borrow.Author.Tests.{leb-true, le-leb}
 use Rattle.wire.specs.Bytes.{spell, spell-length}
-use Rattle.wire.specs.Order.{order}
+use Rattle.wire.specs.Order.{order, isBefore}
 use Rattle.wire.specs.Read.{Read, done, refused}
 use Rattle.wire.specs.Format.{Format, such, run, along}
 use Rattle.wire.specs.Formats.{_▹_, u64, number, counted, listed, headed, into, Shape}
-use Rattle.tally.specs.Rows.{Counts, Row, Rows, isName, choose}
+use Rattle.tally.specs.Rows.{Counts, Row, Rows, isName}
 
 -- The one fault of a tally: document 01 gives 13 no offset and tells no two of them apart.
 pub data Malformed : Type 0 where
@@ -45,7 +45,7 @@ mostRows = 4294967295
 -- a name may follow the rows before it, the last one first: names rise strictly
 abbrev pub rises : {C : Type 0} → List (Row C) → List ℕ → Bool
 rises [] n = true
-rises (r ∷ seen) n = choose (order (r .name) n) true false false
+rises (r ∷ seen) n = isBefore (order (r .name) n)
 
 abbrev pub rowParts : {C : Type 0} → Shape (List ℕ × C) (Row C)
 rowParts {C} = record {

@@ -5,18 +5,18 @@ use mathlib.Core.Bool.{Bool, true, false, cond}
 use mathlib.Core.List.{List, [], _∷_, _++_}
 use mathlib.Core.Option.{Option, some, none}
 use lib.ListN.{length, drop}
-use Rattle.wire.specs.Order.{order}
+use Rattle.wire.specs.Order.{order, isBefore}
 use Rattle.wire.specs.Format.{items}
 use Rattle.wire.specs.Store.{stored}
 use Rattle.wire.specs.Formats.{headLength}
 use Rattle.wire.specs.declared.heads.HeadRead.{HeadRead}
 use Rattle.wire.specs.declared.heads.HeadRead.the-variants as heads
-use Rattle.tally.specs.Rows.{Row, Canonical, isName, choose}
+use Rattle.tally.specs.Rows.{Row, Canonical, isName}
 use Rattle.tally.specs.Tally.{Form, Kind, KindRows, whole, fields, row, rowsOf, limited, one}
 
 -- a name after the last one, unless it is the first
 abbrev pub mayFollow : Bool → List ℕ → List ℕ → Bool
-mayFollow first last name = cond first true (choose (order last name) true false false)
+mayFollow first last name = cond first true (isBefore (order last name))
 
 -- the format takes the bytes to their end
 abbrev pub isSome : {A : Type 0} → Option A → Bool

@@ -15,6 +15,15 @@ order [] (y ∷ ys) = Before
 order (x ∷ xs) [] = After
 order (x ∷ xs) (y ∷ ys) = cond (ltb x y) Before (cond (ltb y x) After (order xs ys))
 
+-- one of three, by how the bytes stand to others
+abbrev pub choose {ℓ} : {A : Type ℓ} → Order → A → A → A → A
+choose Before x y z = x
+choose Same x y z = y
+choose After x y z = z
+
+abbrev pub isBefore : Order → Bool
+isBefore w = choose w true false false
+
 -- ---- it is a total order
 -- the first of two bytes is less, equal or more
 data Sides (x y : ℕ) : Type 0 where

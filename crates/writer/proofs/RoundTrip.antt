@@ -3,7 +3,7 @@ use Prim.Native.Nat.{ℕ, _%_, _<_, _≤_}
 use mathlib.Core.Path.{_≡_, refl, ap, sym, _∙_}
 use mathlib.Core.Option.{Option, some, none}
 use mathlib.Core.List.{List, [], _∷_, _++_}
-use mathlib.Core.Bool.{true}
+use mathlib.Core.Bool.{Bool, true, false}
 use native.Mathlib.Omega.{arith}
 use lib.Dec.{lit<, lit≤}
 use lib.ListN.{length, getD, take, drop, length-append}
@@ -12,7 +12,7 @@ use borrow.Author.Tests.{le-leb}
 use Rattle.wire.specs.Choice.{no-true, yes-and}
 use Rattle.wire.specs.Bytes.{Bytes}
 use Rattle.wire.specs.Read.{Read, done, refused}
-use Rattle.wire.specs.Answer.{Answer, good, no-good, test-good, map-good, room-good, mapAnswer, lent, versionOutside}
+use Rattle.wire.specs.Answer.{Answer, good, refusal, no-good, test-good, map-good, room-good, mapAnswer, lent, versionOutside}
 use Rattle.wire.specs.Format.{such, _⨾_, along, items, run, encodeItems}
 use Rattle.wire.specs.Formats.{number, listed}
 use Rattle.wire.proofs.EveryFormat.{every-format}

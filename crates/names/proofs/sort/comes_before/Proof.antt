@@ -1,7 +1,6 @@
 use borrow.Author.Needs.{needs}
 use mathlib.Core.Path.{ap, ap₂, sym, _∙_}
-use Rattle.wire.specs.Order.{order}
-use Rattle.names.proofs.Joining.{isBefore}
+use Rattle.wire.specs.Order.{order, isBefore}
 use Rattle.names.proofs.sort.comes_before.Statement.{statement}
 use Rattle.names.proofs.sort.comes_before.Tie as tie
 

@@ -10,7 +10,8 @@ use Rattle.wire.proofs.Steps.{told-as}
 use Rattle.tally.specs.Tally.{found, row, one}
 use Rattle.tally.specs.Told.{toldRow}
 use Rattle.tally.specs.declared.rows.RowRead.the-variants as rows
-use Rattle.tally.proofs.Seeking.{Seeking, seeking-start, seeking-end, seeking-inside, seeking-place, seeking-less, seeking-on, seeking-row, seeking-over}
+use Rattle.tally.proofs.Held.{row-inside}
+use Rattle.tally.proofs.Seeking.{Seeking, seeking-start, seeking-end, seeking-place, seeking-less, seeking-on, seeking-row, seeking-over}
 use Rattle.tally.proofs.add.seek.Statement.{statement}
 use Rattle.tally.proofs.add.seek.Tie as tie
 
@@ -30,7 +31,7 @@ no-row c = told-as (toldRow (now (c .before .before .before .loop .rest))) (c .b
 
 -- it lies in the bytes that are left, and in all of them
 inside : (c : tie.After-known-told Inv-loop μ-loop) → c .before .n .given .0 .0 + 10 ≤ length (now (c .before .before .before .before .loop .rest))
-inside c = seeking-inside (c .before .before .before .before .loop .inv) _ _ (a-row c)
+inside c = row-inside _ _ _ (a-row c)
 
 place : (c : tie.After-known-told Inv-loop μ-loop) → (let p = c .before .before .before .before in p .loop .at + (c .before .n .given .0 .0 + 10) ≤ length (now (p .before .before .before .args .s)))
 place c = seeking-place (c .before .before .before .before .loop .inv) _ _ (a-row c)
