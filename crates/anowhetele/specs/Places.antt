@@ -3,6 +3,7 @@ use Prim.Native.Nat.{ℕ}
 use mathlib.Core.Bool.{Bool, cond}
 use lib.IntN.{ℤ, pos}
 use Rattle.wire.specs.Answer.{Answer, good, refusal, plain, badPart}
+use Rattle.wire.specs.Choice.{bit}
 use Rattle.position.specs.declared.key.Coordinates.{Coordinates}
 use Rattle.position.specs.declared.lot.Lot.{Lot}
 use Rattle.position.specs.declared.span.Span.{Span}
@@ -31,5 +32,5 @@ handedCoordinates (good c) = record { number = 0; x = c .x; y = c .y; z = c .z }
 handedCoordinates (refusal n r o) = record { number = n; x = pos 0; y = pos 0; z = pos 0 }
 
 abbrev pub handedInside : Answer Bool → AnowInside
-handedInside (good b) = record { number = 0; inside = cond b 1 0 }
+handedInside (good b) = record { number = 0; inside = bit b }
 handedInside (refusal n r o) = record { number = n; inside = 0 }

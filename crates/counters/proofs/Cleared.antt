@@ -73,7 +73,7 @@ cleared-length t [] = refl
 cleared-length t (r ∷ l) = cleared-length (set t (r .id) 0) l ∙ length-set t (r .id) 0
 
 -- ---- a table that was clear before it was counted in
-module _ {v : ℕ} {s : List ℕ} {lot : Lot} {at : Coordinates} {old new : List ℕ} (c : Counted v s lot at old new) (zeros : (k : ℕ) → getD old k 0 ≡ 0) where
+module _ (v : ℕ) (s : List ℕ) (lot : Lot) (at : Coordinates) {old new : List ℕ} (c : Counted v s lot at old new) (zeros : (k : ℕ) → getD old k 0 ≡ 0) where
   pub fresh : (k : ℕ) → k < 65536 → getD new k 0 ≡ byId (inLotAt lot at) (idIn v s) k
   fresh k h = omega (arith, c .each k h, zeros k, by-id-bound (inLotAt lot at) (idIn v s) k)
 

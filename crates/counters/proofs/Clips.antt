@@ -17,8 +17,8 @@ use Rattle.position.specs.Nodes.{nodeOn}
 use Rattle.position.specs.declared.key.Coordinates.{Coordinates}
 use Rattle.position.specs.declared.lot.Lot.{Lot}
 use Rattle.position.proofs.Nodes.{node-is}
-use Rattle.counters.specs.Counting.{inLotAt, inLotWith, Counted}
-use Rattle.counters.specs.Table.{Raised, isAt}
+use Rattle.counters.specs.Counting.{inLotAt, inLotWith, Counted, Raised}
+use Rattle.counters.specs.Table.{isAt}
 use Rattle.counters.specs.Clips.{clampOf, belowOf, uptoOf, clipOf, within, inClip, clipWith, Sides}
 use Rattle.counters.specs.declared.clip.Clip.{Clip}
 use Rattle.counters.proofs.Raises.{raised-as}
@@ -91,8 +91,7 @@ clip-sides l c = record {
 -- the counters of a clip are those of the lot
 pub lot-counted : (v : ℕ) (s : List ℕ) (l : Lot) (c : Coordinates) {b : Clip} {old new : List ℕ} → b ≡ clipOf l c → Raised (clipWith b (idIn v s)) 0 4096 old new → Counted v s l c old new
 lot-counted v s l c e r =
-    let w = raised-as (inLotWith v s l c) (clipWith (clipOf l c) (idIn v s)) 0 4096 (rw e at r) (λ k i h g. ap (λ (x : Bool). x && isAt (idIn v s) k i) (clip-is-lot l c i (omega arith))) in
-    record { long = w .long; each = w .each }
+    raised-as (inLotWith v s l c) (clipWith (clipOf l c) (idIn v s)) 0 4096 (rw e at r) (λ k i h g. ap (λ (x : Bool). x && isAt (idIn v s) k i) (clip-is-lot l c i (omega arith)))
 
 -- ---- no step overflows
 pub record Fine (v b : ℤ) : Type 0 where

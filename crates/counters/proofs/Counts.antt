@@ -5,7 +5,8 @@ use mathlib.Core.Bool.{Bool, true, false}
 use native.Mathlib.Nat.{add-zero, add-suc, add-assoc}
 use native.Mathlib.Numerals.{add-one}
 use native.Mathlib.Omega.{arith}
-use Rattle.counters.specs.Counting.{bit, cnt}
+use Rattle.wire.specs.Choice.{bit}
+use Rattle.counters.specs.Counting.{cnt}
 
 pub cnt-zero : (p : ℕ → Bool) (a : ℕ) → cnt p a 0 ≡ 0
 unfolding cnt

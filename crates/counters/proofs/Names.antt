@@ -9,6 +9,7 @@ use native.Mathlib.Omega.{arith}
 use lib.Dec.{eqb}
 use borrow.Author.Tests.{eqb-true, eqb-false, ne-eqb}
 use Rattle.wire.specs.Order.{order, choose}
+use Rattle.wire.specs.Choice.{bit}
 use Rattle.wire.specs.declared.order.Order.{Order}
 use Rattle.wire.specs.declared.order.Order.the-variants.{Before, Same, After}
 use Rattle.mapblock.specs.Data.{NameRow}
@@ -17,7 +18,7 @@ use Rattle.mapblock.specs.Questions.{nameOf}
 use Rattle.tally.specs.Rows.{countIn, isNamed}
 use Rattle.tally.specs.Tally.{ones}
 use Rattle.names.specs.Used.{heavy}
-use Rattle.counters.specs.Counting.{bit, cnt, byId, rowId, told}
+use Rattle.counters.specs.Counting.{cnt, byId, rowId, told}
 use Rattle.counters.proofs.Counts.{bit-le, cnt-le}
 
 -- the sum of f over the ids of those rows that pass the test

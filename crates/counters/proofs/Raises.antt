@@ -8,8 +8,8 @@ use lib.Dec.{eqb}
 use lib.ListN.{getD, set, length-set}
 use lib.Seq.{getD-set-same, getD-set-other}
 use borrow.Author.Tests.{eqb-true, eqb-false, eq-eqb, ne-eqb}
-use Rattle.counters.specs.Counting.{cnt}
-use Rattle.counters.specs.Table.{Table, Raised, isAt}
+use Rattle.counters.specs.Counting.{cnt, Raised}
+use Rattle.counters.specs.Table.{Table, isAt}
 use Rattle.counters.proofs.Counts.{cnt-zero, cnt-add, cnt-same, cnt-none, cnt-all}
 
 pub raised-table : {p : ℕ → ℕ → Bool} {a n : ℕ} {old new : List ℕ} → Table old → Raised p a n old new → Table new

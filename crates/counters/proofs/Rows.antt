@@ -7,8 +7,9 @@ use mathlib.Core.Logic.{_⊎_, inl, inr}
 use native.Mathlib.Omega.{arith}
 use lib.Dec.{leb}
 use borrow.Author.Tests.{le-leb, lt-leb, lt-ltb, le-ltb}
-use Rattle.counters.specs.Table.{Table, Raised, isAt}
+use Rattle.counters.specs.Table.{Table, isAt}
 use Rattle.counters.specs.Clips.{within, clipWith, Sides}
+use Rattle.counters.specs.Counting.{Raised}
 use Rattle.counters.specs.declared.clip.Clip.{Clip}
 use Rattle.counters.proofs.Raises.{raised-none, raised-skip, raised-as, raised-on}
 

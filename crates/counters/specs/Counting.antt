@@ -1,10 +1,11 @@
 -- Counting the nodes of a block that lie in a lot: document 01, 'Tallies, lots, spans, sheets'.
 use Prim.Native.Nat.{ℕ, zero, suc, _+_, _%_, _<_}
 use mathlib.Core.Path.{_≡_}
-use mathlib.Core.Bool.{Bool, true, false, _&&_}
+use mathlib.Core.Bool.{Bool, _&&_}
 use mathlib.Core.List.{List, [], _∷_}
 use lib.Dec.{eqb}
 use lib.ListN.{length, getD}
+use Rattle.wire.specs.Choice.{bit}
 use Rattle.position.specs.Nodes.{nodeAt}
 use Rattle.position.specs.Lots.{inLot}
 use Rattle.position.specs.declared.key.Coordinates.{Coordinates}
@@ -13,10 +14,6 @@ use Rattle.mapblock.specs.Data.{NameRow}
 use Rattle.mapblock.specs.Params.{idIn}
 use Rattle.tally.specs.Rows.{Rows}
 use Rattle.tally.specs.Tally.{ones}
-
-abbrev pub bit : Bool → ℕ
-bit true = 1
-bit false = 0
 
 -- how many i with a ≤ i < a + n pass the test
 unfoldable pub cnt : (ℕ → Bool) → ℕ → ℕ → ℕ
@@ -32,10 +29,14 @@ inLotAt l c i = let n = nodeAt c i in inLot l (n .x) (n .y) (n .z)
 abbrev pub inLotWith : ℕ → List ℕ → Lot → Coordinates → ℕ → ℕ → Bool
 inLotWith v s l c k i = inLotAt l c i && eqb (idIn v s i) k
 
--- the counters, after the nodes in the lot each raised that of their id by one
-pub record Counted (v : ℕ) (s : List ℕ) (l : Lot) (c : Coordinates) (old new : List ℕ) : Type 0 where
+-- the counters, after each i with a ≤ i < a + n raised by one those whose test it passes
+pub record Raised (p : ℕ → ℕ → Bool) (a n : ℕ) (old new : List ℕ) : Type 0 where
   pub long : length new ≡ length old
-  pub each : (k : ℕ) → k < 65536 → getD new k 0 ≡ (getD old k 0 + cnt (inLotWith v s l c k) 0 4096) % 65536
+  pub each : (k : ℕ) → k < 65536 → getD new k 0 ≡ (getD old k 0 + cnt (p k) a n) % 65536
+
+-- after the nodes in the lot each raised that of their id by one
+abbrev pub Counted : ℕ → List ℕ → Lot → Coordinates → List ℕ → List ℕ → Type 0
+Counted v s l c old new = Raised (inLotWith v s l c) 0 4096 old new
 
 -- ---- by name
 -- how many of a block's nodes pass a test and have the content id k

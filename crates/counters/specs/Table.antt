@@ -1,22 +1,16 @@
 -- The table of counters, one of sixteen bits for each content id.
-use Prim.Native.Nat.{ℕ, _+_, _*_, _%_, _<_}
+use Prim.Native.Nat.{ℕ, _+_, _*_, _<_}
 use mathlib.Core.Path.{_≡_}
 use mathlib.Core.Bool.{Bool}
 use mathlib.Core.List.{List}
 use lib.Dec.{eqb}
 use lib.ListN.{length, getD}
 use Rattle.mapblock.specs.Block.{contentId}
-use Rattle.counters.specs.Counting.{cnt}
 
 -- 65,536 counters that fit
 pub record Table (t : List ℕ) : Type 0 where
   pub size : length t ≡ 65536
   pub fits : (k : ℕ) → k < 65536 → getD t k 0 < 65536
-
--- the counters, after each i with a ≤ i < a + n raised by one those whose test it passes
-pub record Raised (p : ℕ → ℕ → Bool) (a n : ℕ) (old new : List ℕ) : Type 0 where
-  pub long : length new ≡ length old
-  pub each : (k : ℕ) → k < 65536 → getD new k 0 ≡ (getD old k 0 + cnt (p k) a n) % 65536
 
 -- the node at the index i has the content id k
 abbrev pub isAt : (ℕ → ℕ) → ℕ → ℕ → Bool

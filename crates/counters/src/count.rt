@@ -14,8 +14,8 @@ ghost use Prim.Native.Nat.{_+_, _-_, _*_, _<_, _≤_};
 ghost use lib.ListN.{length};
 ghost use Rattle.mapblock.specs.Layout.{width};
 ghost use Rattle.mapblock.specs.Params.{idIn, holdsLists};
-ghost use Rattle.counters.specs.Counting.{Counted};
-ghost use Rattle.counters.specs.Table.{Table, Raised, isAt, wideId, narrowId};
+ghost use Rattle.counters.specs.Counting.{Counted, Raised};
+ghost use Rattle.counters.specs.Table.{Table, isAt, wideId, narrowId};
 ghost use Rattle.counters.specs.Clips.{clipWith, Sides};
 
 // The content id of the node at an index, where it has two bytes.

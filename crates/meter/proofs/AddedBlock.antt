@@ -112,7 +112,7 @@ module _ {s c t : List ℕ} {w : Found} {v : Running} {b : Block} {R : Rows ones
     places = usedIn c₁ (b .names) 0
 
     pub places-few : length places ≤ 4096
-    places-few = counted-few at b p _ _ c₁ valid ids from-clear
+    places-few = counted-few at b p (w .head .version) (lists s w b y (a .found)) c₁ valid ids from-clear
 
     places-run : run names c₁ places ≡ counted c₁ (b .names)
     places-run = used-run names c₁ (b .names) (found-names s w b y (a .found))
@@ -120,7 +120,7 @@ module _ {s c t : List ℕ} {w : Found} {v : Running} {b : Block} {R : Rows ones
     -- the same places in order
     module _ (ps : List ℕ) (o : Arranged names places ps) where
       light : heavy (run names c₁ ps) ≤ 4096
-      light = omega (arith, arranged-heavy o c₁, ap heavy places-run, counted-light at b p _ _ c₁ valid ids from-clear)
+      light = omega (arith, arranged-heavy o c₁, ap heavy places-run, counted-light at b p (w .head .version) (lists s w b y (a .found)) c₁ valid ids from-clear)
 
       pub may-absorb : Absorbs names c₁ ps t v R
       may-absorb = record {
@@ -137,13 +137,13 @@ module _ {s c t : List ℕ} {w : Found} {v : Running} {b : Block} {R : Rows ones
           (canonical-plus ones (tallyOf byOne (nodesIn p (placed at b ∷ []))) R (rows-canonical byOne p (placed at b ∷ []) (valid, tt)) (a .runs .canonical))
           (λ n.
           count-plus ones (run names c₁ ps) R n
-          ∙ ap (λ (i : ℕ). i + countIn ones R n) (arranged-count o c₁ n ∙ ap (λ (l : Rows ones). countIn ones l n) places-run ∙ counted-amount at b p _ _ c₁ valid ids from-clear in-span n ∙ sym (count-tally byOne (nodesIn p (placed at b ∷ [])) n))
+          ∙ ap (λ (i : ℕ). i + countIn ones R n) (arranged-count o c₁ n ∙ ap (λ (l : Rows ones). countIn ones l n) places-run ∙ counted-amount at b p (w .head .version) (lists s w b y (a .found)) c₁ valid ids from-clear in-span n ∙ sym (count-tally byOne (nodesIn p (placed at b ∷ [])) n))
           ∙ sym (count-plus ones (tallyOf byOne (nodesIn p (placed at b ∷ []))) R n))
 
       -- c₂ are the counters after they were cleared by the names
       pub added-some : {t′ c₂ : List ℕ} {r : Running} → Absorbed t t′ r R (plus ones (run names c₁ ps) R) → c₂ ≡ unmarked c₁ (b .names) → Added c₂ t t′ r R (withBlock p at b R)
       added-some {t′} {c₂} {r} q e = record {
-        clear = e ∙ counted-clear at b p _ _ c₁ valid ids from-clear;
+        clear = e ∙ counted-clear at b p (w .head .version) (lists s w b y (a .found)) c₁ valid ids from-clear;
         absorbed = subst (Absorbed t t′ r R) (sum-is (q .runs .canonical)) q;
       }
 

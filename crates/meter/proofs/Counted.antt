@@ -10,6 +10,7 @@ use lib.ListN.{length, getD, length-replicate}
 use lib.Seq.{ext-getD}
 use borrow.Author.Tests.{eqb-true, eqb-false}
 use Rattle.wire.specs.Order.{order, choose}
+use Rattle.wire.specs.Choice.{bit}
 use Rattle.wire.specs.declared.order.Order.{Order}
 use Rattle.wire.specs.declared.order.Order.the-variants.{Before, Same, After}
 use Rattle.position.specs.Lots.{inLot}
@@ -25,7 +26,7 @@ use Rattle.mapblock.proofs.BlockAnswers.{zeros-at}
 use Rattle.tally.specs.Rows.{isNamed, countIn}
 use Rattle.tally.specs.Tally.{ones}
 use Rattle.names.specs.Used.{usedIn, counted, heavy}
-use Rattle.counters.specs.Counting.{bit, cnt, inLotAt, byId, rowId, told}
+use Rattle.counters.specs.Counting.{cnt, inLotAt, byId, rowId, told}
 use Rattle.counters.specs.Counting as counting
 use Rattle.counters.proofs.Counts.{cnt-add, cnt-zero, cnt-one, cnt-same}
 use Rattle.counters.proofs.Names.{by-name, counted-bound}
@@ -139,7 +140,7 @@ module _ (c : Coordinates) (b : Block) (p : Part) (v : ℕ) (s t : List ℕ) (va
 
   tells : (l : List NameRow) → Each NameGood l → Tells t (byId (inLotAt (p .lot) c) (idIn v s)) l
   tells [] h = tt
-  tells (r ∷ l) h = (fresh k clear-zero (r .id) (h .0 .id), tells l (h .1))
+  tells (r ∷ l) h = (fresh v s (p .lot) c k clear-zero (r .id) (h .0 .id), tells l (h .1))
 
   -- they are light and few
   pub counted-light : heavy (counted t (b .names)) ≤ 4096
@@ -160,4 +161,4 @@ module _ (c : Coordinates) (b : Block) (p : Part) (v : ℕ) (s t : List ℕ) (va
   pub counted-clear : unmarked t (b .names) ≡ clearTable
   counted-clear =
       let size : length (unmarked t (b .names)) ≡ length clearTable = cleared-length t (b .names) ∙ k .long in
-      ext-getD 0 _ _ size (λ i h. clear-again k clear-zero clear-long (b .names) mapped i ∙ sym (clear-zero i))
+      ext-getD 0 _ _ size (λ i h. clear-again v s (p .lot) c k clear-zero clear-long (b .names) mapped i ∙ sym (clear-zero i))

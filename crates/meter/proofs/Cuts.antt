@@ -8,7 +8,7 @@ use lib.Dec.{leb, ltb}
 use lib.IntN.{ℤ, pos, _+ℤ_}
 use lib.Signed.{leZ}
 use borrow.Author.Tests.{leb-true, ltb-true, ltb-false, le-leb, lt-leb, lt-ltb}
-use Rattle.wire.specs.Choice.{and-yes, yes-and}
+use Rattle.wire.specs.Choice.{and-yes, yes-and, bit}
 use Rattle.wire.specs.Ints.{up, down, plus-is, le-yes, le-no, yes-le, no-le}
 use Rattle.position.specs.Keys.{between}
 use Rattle.position.specs.Lots.{axis, inLot, goodLot}
@@ -16,18 +16,18 @@ use Rattle.position.specs.Spans.{goodSpan}
 use Rattle.position.proofs.Ranges.{between-yes}
 use Rattle.position.proofs.Lots.{axis-yes, yes-axis}
 use Rattle.meter.specs.Standing.{Part, goodPart, Node, inPart}
-use Rattle.meter.specs.Cuts.{Cut, on-x, on-y, on-z, at-second, bothIn, allowed, lower, upper, Cuts, uncut, cut, once, shares, allGood, Partition}
+use Rattle.meter.specs.Cuts.{Cut, on-x, on-y, on-z, at-second, bothIn, allowed, lower, upper, Cuts, uncut, cut, shares, allGood, Partition}
 
 -- ---- one test in the place of two: exactly one of them holds where it does
 record Either (a b c : Bool) : Type 0 where
-  one : once a ≡ once b + once c
+  one : bit a ≡ bit b + bit c
 
 -- with another test beside them
 beside : (r : Bool) {a b c : Bool} → Either a b c → Either (r && a) (r && b) (r && c)
 beside true e = record { one = e .one }
 beside false e = record { one = refl }
 
-before-left : (a b c r : Bool) → once a ≡ once b + once c → once (a && r) ≡ once (b && r) + once (c && r)
+before-left : (a b c r : Bool) → bit a ≡ bit b + bit c → bit (a && r) ≡ bit (b && r) + bit (c && r)
 before-left true true true r e = absurd (omega arith)
 before-left true true false r e = omega arith
 before-left true false true r e = omega arith
@@ -47,7 +47,7 @@ module _ (a c b : ℤ) (h : bothIn a c b ≡ true) where
   high : up c + down b < up b + down c
   high = omega (arith, between-yes a (c +ℤ pos 1) b (and-yes (between a c b) (between a (c +ℤ pos 1) b) h .1) .1, plus-is c (pos 1))
 
-  between-one : (x : ℤ) (t : Bool) → leZ x c ≡ t → once (between a x b) ≡ once (between a x c) + once (between (c +ℤ pos 1) x b)
+  between-one : (x : ℤ) (t : Bool) → leZ x c ≡ t → bit (between a x b) ≡ bit (between a x c) + bit (between (c +ℤ pos 1) x b)
   unfolding between
   between-one x true e =
       let k = le-yes x c e in
@@ -67,7 +67,7 @@ module _ (f s u : ℕ) (h : (leb f s && leb s u) ≡ true) where
   not-above : s ≤ u
   not-above = leb-true s u (and-yes (leb f s) (leb s u) h .1)
 
-  second-one : (t : ℕ) (b : Bool) → ltb t s ≡ b → once (leb f t && ltb t u) ≡ once (leb f t && ltb t s) + once (leb s t && ltb t u)
+  second-one : (t : ℕ) (b : Bool) → ltb t s ≡ b → bit (leb f t && ltb t u) ≡ bit (leb f t && ltb t s) + bit (leb s t && ltb t u)
   second-one t true e =
       let k = ltb-true t s e in
       rw (e, lt-ltb t u (omega (arith, not-above)), lt-leb s t (omega arith)) (omega arith)
@@ -148,7 +148,7 @@ both-good (at-second s) p h = both-beside (goodLot (p .lot)) record { same = spa
 module _ (c : Cut) (p : Part) (h : allowed c p ≡ true) (back : List Part) where
   cut-shares : (front : List Part) (x : Node) → shares (front ++ lower c p ∷ upper c p ∷ back) x ≡ shares (front ++ p ∷ back) x
   cut-shares [] x = omega (arith, in-one c p h x .one)
-  cut-shares (q ∷ front) x = ap (λ (n : ℕ). once (inPart q x) + n) (cut-shares front x)
+  cut-shares (q ∷ front) x = ap (λ (n : ℕ). bit (inPart q x) + n) (cut-shares front x)
 
   cut-good : (front : List Part) → allGood (front ++ lower c p ∷ upper c p ∷ back) ≡ allGood (front ++ p ∷ back)
   cut-good [] = sym (ap (λ (t : Bool). t && allGood back) (both-good c p h .same) ∙ and-assoc (goodPart (lower c p)) (goodPart (upper c p)) (allGood back))

@@ -5,7 +5,7 @@ use mathlib.Core.Bool.{Bool, true, false, cond}
 use mathlib.Core.List.{List, [], _∷_, _++_}
 use native.Mathlib.Omega.{arith}
 use lib.ListN.{length}
-use Rattle.wire.specs.Choice.{and-yes, yes-and}
+use Rattle.wire.specs.Choice.{and-yes, yes-and, bit}
 use Rattle.wire.specs.Order.{order, choose}
 use Rattle.wire.specs.Answer.{good}
 use Rattle.tally.specs.Rows.{plus, countIn, Canonical}
@@ -16,7 +16,7 @@ use Rattle.tally.proofs.Fitting.{fits-left, fits-right}
 use Rattle.tally.proofs.MergeLaw.{merge-law, empty-changes-nothing}
 use Rattle.meter.specs.Standing.{Part, goodPart, Placed, Node, inPart, those, standing, nodesIn}
 use Rattle.meter.specs.Counting.{Measure, MeasureRows, amountOf}
-use Rattle.meter.specs.Cuts.{Cuts, uncut, cut, lower, upper, once, shares, allGood, Partition}
+use Rattle.meter.specs.Cuts.{Cuts, uncut, cut, lower, upper, shares, allGood, Partition}
 use Rattle.meter.specs.Theorems.{Source, blocksOf, SpareFits, IsBytes, Gives, tallied, Talliable, AllGive, Outputs, EveryCut, PartitionLaw, Demand3}
 use Rattle.meter.proofs.Amounts.{first-amount, count-tally}
 use Rattle.meter.proofs.Blocks.{AllValid, held, rows-canonical}
@@ -52,7 +52,7 @@ module _ (m : Measure) where
   owns-none c x [] h = refl
   owns-none c x (p ∷ ps) h = go (inPart p x) refl h (owns-none c x ps)
     where
-      go : (b : Bool) → inPart p x ≡ b → once b + shares ps x ≡ 0 → (shares ps x ≡ 0 → owns c x ps ≡ none) → add (cond b c none) (owns c x ps) ≡ none
+      go : (b : Bool) → inPart p x ≡ b → bit b + shares ps x ≡ 0 → (shares ps x ≡ 0 → owns c x ps ≡ none) → add (cond b c none) (owns c x ps) ≡ none
       go true e k ih = absurd (omega arith)
       go false e k ih = m .kind .counts .add-none _ ∙ ih (omega arith)
 
@@ -60,11 +60,11 @@ module _ (m : Measure) where
   owns-one c x [] h = absurd (omega arith)
   owns-one c x (p ∷ ps) h = go (inPart p x) refl h (owns-one c x ps)
     where
-      go : (b : Bool) → inPart p x ≡ b → once b + shares ps x ≡ 1 → (shares ps x ≡ 1 → owns c x ps ≡ c) → add (cond b c none) (owns c x ps) ≡ c
+      go : (b : Bool) → inPart p x ≡ b → bit b + shares ps x ≡ 1 → (shares ps x ≡ 1 → owns c x ps ≡ c) → add (cond b c none) (owns c x ps) ≡ c
       go true e k ih = ap (add c) (owns-none c x ps (omega arith)) ∙ m .kind .counts .add-comm c none ∙ m .kind .counts .add-none c
       go false e k ih = m .kind .counts .add-none _ ∙ ih (omega arith)
 
-  owns-as : (c : C) (x : Node) (ps : List Part) (b : Bool) → shares ps x ≡ once b → owns c x ps ≡ cond b c none
+  owns-as : (c : C) (x : Node) (ps : List Part) (b : Bool) → shares ps x ≡ bit b → owns c x ps ≡ cond b c none
   owns-as c x ps true h = owns-one c x ps h
   owns-as c x ps false h = owns-none c x ps h
 
@@ -98,7 +98,7 @@ module _ (m : Measure) where
   unfolding those
   nothing-there n p = m .total-none
 
-  amounts-whole : (n : List ℕ) (whole : Part) (ps : List Part) → ((x : Node) → shares ps x ≡ once (inPart whole x)) → (l : List Node)
+  amounts-whole : (n : List ℕ) (whole : Part) (ps : List Part) → ((x : Node) → shares ps x ≡ bit (inPart whole x)) → (l : List Node)
       → amounts n l ps ≡ amountOf m n (those (inPart whole) l)
   amounts-whole n whole ps h [] = amounts-nothing n ps ∙ sym (nothing-there n whole)
   amounts-whole n whole ps h (x ∷ l) =

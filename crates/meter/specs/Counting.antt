@@ -8,7 +8,7 @@ use native.Mathlib.Omega.{arith}
 use lib.ListN.{length}
 use borrow.Author.Tests.{le-leb}
 use Rattle.tally.specs.Rows.{addRow, isNamed}
-use Rattle.tally.specs.Tally.{Kind, KindRow, KindRows, one}
+use Rattle.tally.specs.Tally.{Kind, KindRow, KindRows, most, one}
 use Rattle.meter.specs.Standing.{Node, those}
 
 -- the nodes that bear a name
@@ -47,7 +47,7 @@ module _ (m : Measure) where
 
 -- ---- version 1: every node counts one, so that an amount is a number of positions
 pub light-one : (n : ℕ) → n < 9223372036854775808 → one .limit n ≡ true
-light-one n h = le-leb n 18446744073709551615 (omega arith)
+light-one n h = le-leb n most (omega arith)
 
 abbrev pub byOne : Measure
 byOne = record {

@@ -1,10 +1,11 @@
 -- Cuts: document 01, 'Cuts and merges'.
 use Prim.Native.Nat.{ℕ, _+_}
 use mathlib.Core.Path.{_≡_}
-use mathlib.Core.Bool.{Bool, true, cond, _&&_}
+use mathlib.Core.Bool.{Bool, true, _&&_}
 use mathlib.Core.List.{List, [], _∷_, _++_}
 use lib.Dec.{leb}
 use lib.IntN.{ℤ, pos, _+ℤ_}
+use Rattle.wire.specs.Choice.{bit}
 use Rattle.position.specs.Keys.{between}
 use Rattle.position.specs.Lots.{lotAt}
 use Rattle.position.specs.Spans.{spanAt}
@@ -53,18 +54,15 @@ pub data Cuts (whole : Part) : List Part → Type 0 where
       → Cuts whole (front ++ lower c p ∷ upper c p ∷ back)
 
 -- ---- what cuts leave: parts of which each node of the whole lies in exactly one, and no other node in any
-abbrev pub once : Bool → ℕ
-once b = cond b 1 0
-
 -- in how many of the parts a node lies
 abbrev pub shares : List Part → Node → ℕ
 shares [] x = 0
-shares (p ∷ ps) x = once (inPart p x) + shares ps x
+shares (p ∷ ps) x = bit (inPart p x) + shares ps x
 
 abbrev pub allGood : List Part → Bool
 allGood [] = true
 allGood (p ∷ ps) = goodPart p && allGood ps
 
 pub record Partition (whole : Part) (parts : List Part) : Type 0 where
-  pub shared : (x : Node) → shares parts x ≡ once (inPart whole x)
+  pub shared : (x : Node) → shares parts x ≡ bit (inPart whole x)
   pub good : allGood parts ≡ goodPart whole

@@ -1,9 +1,13 @@
--- The laws of tests that proofs cite.
+-- A test as a number, and the laws of tests that proofs cite.
 use Prim.Native.Nat.{ℕ}
 use mathlib.Core.Path.{_≡_, refl, sym}
 use mathlib.Core.Bool.{Bool, true, false, cond, _&&_}
 use mathlib.Core.Logic.{_⊎_, inl, inr}
 use native.Mathlib.Omega.{arith}
+
+-- 1 where it holds, else 0
+abbrev pub bit : Bool → ℕ
+bit b = cond b 1 0
 
 pub no-true {ℓ} : {C : Type ℓ} → false ≡ true → C
 no-true e = let z : _≡_ {A = ℕ} 0 1 = cc in absurd (omega arith)

@@ -2,12 +2,12 @@
 -- cite.
 use Prim.Native.Nat.{ℕ, _-_}
 use mathlib.Core.Path.{_≡_}
-use mathlib.Core.Bool.{Bool, cond}
 use mathlib.Core.List.{List, [], _∷_, _++_, map}
 use lib.IntN.{ℤ, pos, negsuc}
 use lib.ListN.{length, take}
 use Rattle.wire.specs.Read.{Read, done, refused}
 use Rattle.wire.specs.Answer.{Answer, good, refusal}
+use Rattle.wire.specs.Choice.{bit}
 use Rattle.position.specs.Keys.{joinOf, splitOf}
 use Rattle.position.specs.Spans.{inSpan, spanAt}
 use Rattle.position.specs.declared.key.Coordinates.{Coordinates}
@@ -35,9 +35,6 @@ minus n = negsuc (n - 1)
 abbrev pub counts : List ℕ → List ℤ
 counts [] = []
 counts (n ∷ l) = pos n ∷ counts l
-
-abbrev pub flag : Bool → ℕ
-flag b = cond b 1 0
 
 -- of an answer its number, and on 0 its values
 abbrev pub answer : {A : Type 0} → (A → List ℤ) → Answer A → List ℤ
@@ -79,7 +76,7 @@ sums =
     ∷ sum 9 (counts (contentId 23 255 240 ∷ [])) (pos 4095 ∷ [])
     ∷ sum 10 (counts (lightCount 0xFFFE ∷ [])) (pos 1 ∷ [])
     ∷ sum 11 (counts (lightCount 0xF000 ∷ [])) (pos 12 ∷ [])
-    ∷ sum 12 (counts (flag (inSpan (spanAt 0 1_000_000) 999_998) ∷ flag (inSpan (spanAt 0 1_000_000) 1_000_000) ∷ [])) (pos 1 ∷ pos 0 ∷ [])
+    ∷ sum 12 (counts (bit (inSpan (spanAt 0 1_000_000) 999_998) ∷ bit (inSpan (spanAt 0 1_000_000) 1_000_000) ∷ [])) (pos 1 ∷ pos 0 ∷ [])
     ∷ sum 13 (answer bytes (mergeOf one 9 emptyTally emptyTally)) (counts (0 ∷ 9 ∷ 84 ∷ 76 ∷ 89 ∷ 0 ∷ 1 ∷ 0 ∷ 0 ∷ 0 ∷ 0 ∷ []))
     ∷ sum 14 (ending (inventory .read (listLine ++ endLine))) (counts (0 ∷ 30 ∷ []))
     ∷ []

@@ -3,7 +3,8 @@ use borrow.Author.Needs.{needs}
 use Prim.Native.Nat.{_-_, _≤_}
 use mathlib.Core.Path.{_≡_}
 use native.Mathlib.Omega.{arith}
-use Rattle.counters.specs.Table.{Raised, isAt, wideId}
+use Rattle.counters.specs.Table.{isAt, wideId}
+use Rattle.counters.specs.Counting.{Raised}
 use Rattle.counters.proofs.Raises.{raised-none, raised-one}
 use Rattle.counters.proofs.count.count_each.Statement.{statement}
 use Rattle.counters.proofs.count.count_each.Tie as tie

@@ -3,8 +3,8 @@ use Prim.Native.Nat.{_-_, _*_, _≤_}
 use mathlib.Core.Path.{refl}
 use native.Mathlib.Omega.{arith}
 use Rattle.mapblock.specs.Params.{idIn}
-use Rattle.counters.specs.Table.{Raised}
 use Rattle.counters.specs.Clips.{clipWith}
+use Rattle.counters.specs.Counting.{Raised}
 use Rattle.counters.proofs.Raises.{raised-table}
 use Rattle.counters.proofs.Rows.{layer-first, layer-on, layer-last}
 use Rattle.counters.proofs.count.count_layer.Statement.{statement}

@@ -4,7 +4,8 @@ use Prim.Native.Nat.{_+_, _-_, _≤_, _<_}
 use mathlib.Core.Path.{_≡_}
 use native.Mathlib.Omega.{arith}
 use Rattle.mapblock.proofs.Entries.{content-below}
-use Rattle.counters.specs.Table.{Raised, isAt, narrowId}
+use Rattle.counters.specs.Table.{isAt, narrowId}
+use Rattle.counters.specs.Counting.{Raised}
 use Rattle.counters.proofs.Raises.{raised-none, raised-one}
 use Rattle.counters.proofs.count.count_narrow.Statement.{statement}
 use Rattle.counters.proofs.count.count_narrow.Tie as tie

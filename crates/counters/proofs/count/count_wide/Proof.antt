@@ -2,7 +2,8 @@
 use Prim.Native.Nat.{_+_, _-_, _≤_}
 use mathlib.Core.Path.{_≡_}
 use native.Mathlib.Omega.{arith}
-use Rattle.counters.specs.Table.{Raised, isAt, wideId}
+use Rattle.counters.specs.Table.{isAt, wideId}
+use Rattle.counters.specs.Counting.{Raised}
 use Rattle.counters.proofs.Raises.{raised-none, raised-on, raised-table}
 use Rattle.counters.proofs.count.count_wide.Statement.{statement}
 use Rattle.counters.proofs.count.count_wide.Tie as tie
