@@ -2,6 +2,7 @@
 // never do, since a block has 4,096 nodes.
 use crate::clip::Clip;
 use crate::clip::clip_to;
+use mapblock::nodes::IDS;
 use mapblock::nodes::NODES;
 use mapblock::nodes::content_id;
 use mapblock::nodes::width;
@@ -28,7 +29,7 @@ fn wide_id(lists: &[u8], i: usize) -> usize
 }
 
 // The nodes at from..until, one by one.
-fn count_each(lists: &[u8], from: usize, until: usize, counts: &mut [u16; 65536])
+fn count_each(lists: &[u8], from: usize, until: usize, counts: &mut [u16; IDS])
     requires { ⌜ (2 * until ≤ length (now lists)) × Table (now counts) ⌝ }
     ensures { λ _. ⌜ Raised (isAt (wideId (now (lists .entry)))) from (until - from) (now (counts .entry)) (now (counts .exit)) ⌝ }
 {
@@ -41,7 +42,7 @@ fn count_each(lists: &[u8], from: usize, until: usize, counts: &mut [u16; 65536]
 }
 
 // Four nodes. Neighbours mostly have the same id: a counter that is raised once for them is not waited for.
-fn count_four(lists: &[u8], i: usize, counts: &mut [u16; 65536])
+fn count_four(lists: &[u8], i: usize, counts: &mut [u16; IDS])
     requires { ⌜ (2 * i + 8 ≤ length (now lists)) × Table (now counts) ⌝ }
     ensures { λ _. ⌜ Raised (isAt (wideId (now (lists .entry)))) i 4 (now (counts .entry)) (now (counts .exit)) ⌝ }
 {
@@ -57,7 +58,7 @@ fn count_four(lists: &[u8], i: usize, counts: &mut [u16; 65536])
 }
 
 // The row of nodes at from..until, with content ids of two bytes.
-fn count_wide(lists: &[u8], from: usize, until: usize, counts: &mut [u16; 65536])
+fn count_wide(lists: &[u8], from: usize, until: usize, counts: &mut [u16; IDS])
     requires { ⌜ (2 * until ≤ length (now lists)) × Table (now counts) ⌝ }
     ensures { λ _. ⌜ Raised (isAt (wideId (now (lists .entry)))) from (until - from) (now (counts .entry)) (now (counts .exit)) ⌝ }
 {
@@ -73,7 +74,7 @@ fn count_wide(lists: &[u8], from: usize, until: usize, counts: &mut [u16; 65536]
 }
 
 // The same with param0 of one byte.
-fn count_narrow(version: u8, lists: &[u8], from: usize, until: usize, counts: &mut [u16; 65536])
+fn count_narrow(version: u8, lists: &[u8], from: usize, until: usize, counts: &mut [u16; IDS])
     requires { ⌜ (8192 + until ≤ length (now lists)) × Table (now counts) ⌝ }
     ensures { λ _. ⌜ Raised (isAt (narrowId version (now (lists .entry)))) from (until - from) (now (counts .entry)) (now (counts .exit)) ⌝ }
 {
@@ -86,7 +87,7 @@ fn count_narrow(version: u8, lists: &[u8], from: usize, until: usize, counts: &m
 }
 
 // The width is the same for all of a block's nodes, so it is asked once for each row.
-fn count_row(version: u8, lists: &[u8], from: usize, until: usize, counts: &mut [u16; 65536])
+fn count_row(version: u8, lists: &[u8], from: usize, until: usize, counts: &mut [u16; IDS])
     requires { ⌜ (until ≤ 4096) × (4096 * width version + 8192 ≤ length (now lists)) × Table (now counts) ⌝ }
     ensures { λ _. ⌜ Raised (isAt (idIn version (now (lists .entry)))) from (until - from) (now (counts .entry)) (now (counts .exit)) ⌝ }
 {
@@ -98,7 +99,7 @@ fn count_row(version: u8, lists: &[u8], from: usize, until: usize, counts: &mut 
 }
 
 // The rows of one z.
-fn count_layer(version: u8, lists: &[u8], b: Clip, z: usize, counts: &mut [u16; 65536])
+fn count_layer(version: u8, lists: &[u8], b: Clip, z: usize, counts: &mut [u16; IDS])
     requires { ⌜ (b .z0 ≤ z) × (z < b .z1) × Sides b × (4096 * width version + 8192 ≤ length (now lists)) × Table (now counts) ⌝ }
     ensures { λ _. ⌜ Raised (clipWith b (idIn version (now (lists .entry)))) (z * 256) 256 (now (counts .entry)) (now (counts .exit)) ⌝ }
 {
@@ -111,7 +112,7 @@ fn count_layer(version: u8, lists: &[u8], b: Clip, z: usize, counts: &mut [u16; 
 }
 
 // The nodes of a clip lie in rows: no node is tested.
-fn count_clip(version: u8, lists: &[u8], b: Clip, counts: &mut [u16; 65536])
+fn count_clip(version: u8, lists: &[u8], b: Clip, counts: &mut [u16; IDS])
     requires { ⌜ Sides b × (4096 * width version + 8192 ≤ length (now lists)) × Table (now counts) ⌝ }
     ensures { λ _. ⌜ Raised (clipWith b (idIn version (now (lists .entry)))) 0 4096 (now (counts .entry)) (now (counts .exit)) ⌝ }
 {
@@ -123,7 +124,7 @@ fn count_clip(version: u8, lists: &[u8], b: Clip, counts: &mut [u16; 65536])
 }
 
 // A table has the length that its type says, and its counters fit; this says so to proofs, and does nothing.
-fn sized(counts: &[u16; 65536])
+fn sized(counts: &[u16; IDS])
     ensures { λ _. ⌜ Table (now (counts .entry)) ⌝ }
 {
     let whole: &[u16] = counts;
@@ -132,7 +133,7 @@ fn sized(counts: &[u16; 65536])
 
 // The nodes of a block that lie in a lot: `lists` are the bytes of its param lists, `at` is where the block stands.
 // Bytes that do not hold the lists have no nodes.
-pub fn count_in(version: u8, lists: &[u8], at: Coordinates, lot: Lot, counts: &mut [u16; 65536])
+pub fn count_in(version: u8, lists: &[u8], at: Coordinates, lot: Lot, counts: &mut [u16; IDS])
     ensures { λ _. ⌜ (holdsLists version (now (lists .entry)) ≡ true → Counted version (now (lists .entry)) lot at (now (counts .entry)) (now (counts .exit))) ⌝ }
     ensures { λ _. ⌜ (holdsLists version (now (lists .entry)) ≡ false → now (counts .exit) ≡ now (counts .entry)) ⌝ }
 {

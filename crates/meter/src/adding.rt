@@ -3,6 +3,8 @@ use counters::clear::clear;
 use counters::count::count_in;
 use mapblock::head::Part;
 use mapblock::head::cut;
+use mapblock::nodes::IDS;
+use mapblock::nodes::NODES;
 use mapblock::scan::Found;
 use names::sort::sort;
 use names::used::sized;
@@ -23,19 +25,19 @@ ghost use Rattle.meter.specs.Adding.{part, MayAdd, UsedAdded, Adds, Adde
 // The counted names at the first n places, put in order and added.
 fn add_used(
     names: &[u8],
-    counts: &[u16; 65536],
+    counts: &[u16; IDS],
     places: &mut [usize],
     n: usize,
-    room: &mut [usize],
+    scratch: &mut [usize],
     t: &mut [u8],
     w: Running,
 ) -> Running
-    requires { ⌜ (n ≤ length (now places)) × (n ≤ length (now room)) ⌝ }
+    requires { ⌜ (n ≤ length (now places)) × (n ≤ length (now scratch)) ⌝ }
     ensures { λ _. ⌜ length (now (t .exit)) ≡ length (now (t .entry)) ⌝ }
     ensures { λ r. ⌜ ((R : Rows ones) → MayAdd (now (names .entry)) (now (counts .entry)) (take n (now (places .entry))) (now (t .entry)) w R
         → UsedAdded (now (names .entry)) (now (counts .entry)) (take n (now (places .entry))) (now (t .entry)) (now (t .exit)) r R) ⌝ }
 {
-    sort(names, &mut places[..n], room);
+    sort(names, &mut places[..n], scratch);
     absorb(names, counts, &places[..n], t, w)
 }
 
@@ -47,9 +49,9 @@ pub(crate) fn add_block(
     at: Coordinates,
     lot: Lot,
     span: Span,
-    counts: &mut [u16; 65536],
-    places: &mut [usize; 4096],
-    room: &mut [usize; 4096],
+    counts: &mut [u16; IDS],
+    places: &mut [usize; NODES],
+    scratch: &mut [usize; NODES],
     t: &mut [u8],
     w: Running,
 ) -> Running
@@ -73,8 +75,8 @@ pub(crate) fn add_block(
     count_in(head.version, lists, at, lot, counts);
     let n = used(names, counts, places);
     sized(places);
-    sized(room);
-    let r = add_used(names, counts, places, n, room, t, w);
+    sized(scratch);
+    let r = add_used(names, counts, places, n, scratch, t, w);
     clear(names, counts);
     r
 }

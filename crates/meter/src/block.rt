@@ -2,6 +2,8 @@
 use crate::adding::add_block;
 use crate::part::is_part;
 use mapblock::fault::Fault;
+use mapblock::nodes::IDS;
+use mapblock::nodes::NODES;
 use mapblock::scan::Found;
 use mapblock::scan::Judged;
 use mapblock::scan::scan;
@@ -44,9 +46,9 @@ fn put_tally(
     requires { ⌜ ((b : Block) × FoundAs (now block) found b) ⌝ }
     ensures { λ r. ⌜ ((b : Block) → FoundAs (now (block .entry)) found b → PutAs (part lot span) at b (now (out .entry)) (now (out .exit)) r) ⌝ }
 {
-    let mut counts = [0u16; 65536];
-    let mut places = [0usize; 4096];
-    let mut room = [0usize; 4096];
+    let mut counts = [0u16; IDS];
+    let mut places = [0usize; NODES];
+    let mut scratch = [0usize; NODES];
     if out.len() < HEAD {
         return BlockAnswer::NoRoom;
     }
@@ -58,7 +60,7 @@ fn put_tally(
         span,
         &mut counts,
         &mut places,
-        &mut room,
+        &mut scratch,
         &mut out[HEAD..],
         empty(),
     );
@@ -75,7 +77,7 @@ pub fn tally_block(key: i64, block: &[u8], lot: Lot, span: Span, out: &mut [u8])
     ensures { λ _. ⌜ now (out .exit) ≡ lent (tallyBlockOf byOne key (now (block .entry)) (part lot span) (length (now (out .entry)))) (now (out .entry)) ⌝ }
 {
     // The table comes first, here and in put_tally, as in the tally of a sheet.
-    let mut ids = [0u8; 65536];
+    let mut ids = [0u8; IDS];
     if !is_part(lot, span) {
         return BlockAnswer::BadPart;
     }

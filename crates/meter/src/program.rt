@@ -6,6 +6,8 @@ use crate::stream::Progress;
 use crate::stream::TakeAnswer;
 use crate::stream::finish;
 use crate::stream::take_record;
+use mapblock::nodes::IDS;
+use mapblock::nodes::NODES;
 use position::lot::Lot;
 use position::span::Span;
 use wire::fields::S64;
@@ -57,15 +59,15 @@ pub enum Next {
     Stop(SheetAnswer),
 }
 
-// Takes the record at the front of some bytes, unless its block is too long. The spare, `places` and `room` are as after a step.
+// Takes the record at the front of some bytes, unless its block is too long. The spare, `places` and `scratch` are as after a step.
 pub fn take_next(
     p: Progress,
     s: &[u8],
     spare: &mut [u8],
-    ids: &mut [u8; 65536],
-    counts: &mut [u16; 65536],
-    places: &mut [usize; 4096],
-    room: &mut [usize; 4096],
+    ids: &mut [u8; IDS],
+    counts: &mut [u16; IDS],
+    places: &mut [usize; NODES],
+    scratch: &mut [usize; NODES],
 ) -> Next
     ensures { λ _. ⌜ length (now (spare .exit)) ≡ length (now (spare .entry)) ⌝ }
     ensures { λ _. ⌜ now (ids .exit) ≡ now (ids .entry) ⌝ }
@@ -84,7 +86,7 @@ pub fn take_next(
             ids,
             counts,
             places,
-            room,
+            scratch,
         ) {
             TakeAnswer::Misframed(i) => Next::Stop(SheetAnswer::Malformed(i)),
             TakeAnswer::Refused(f, i) => Next::Stop(SheetAnswer::Record(f, i)),

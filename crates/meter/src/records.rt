@@ -1,5 +1,6 @@
 // A sheet's records, one at a time.
 use mapblock::fault::Fault;
+use mapblock::nodes::IDS;
 use mapblock::scan::Found;
 use mapblock::scan::Judged;
 use mapblock::scan::scan;
@@ -68,7 +69,7 @@ pub enum RecordAnswer {
 }
 
 // A record judged against the last key. The table of ids is clear, and comes back as it was.
-pub fn judge_record(last: LastKey, key: i64, block: &[u8], ids: &mut [u8; 65536]) -> RecordAnswer
+pub fn judge_record(last: LastKey, key: i64, block: &[u8], ids: &mut [u8; IDS]) -> RecordAnswer
     ensures { λ _. ⌜ now (ids .exit) ≡ now (ids .entry) ⌝ }
     ensures { λ r. ⌜ (now (ids .entry) ≡ clearTable → RecordTold (now (block .entry)) r (judgeRecord (lastOf last) (recordOf key (now (block .entry))))) ⌝ }
 {

@@ -8,6 +8,8 @@ use crate::stream::TakeAnswer;
 use crate::stream::finish;
 use crate::stream::start;
 use crate::stream::take_record;
+use mapblock::nodes::IDS;
+use mapblock::nodes::NODES;
 use position::lot::Lot;
 use position::span::Span;
 use wire::heads::HEAD;
@@ -39,10 +41,10 @@ fn take_records(
     span: Span,
     spare: &mut [u8],
     p: Progress,
-    ids: &mut [u8; 65536],
-    counts: &mut [u16; 65536],
-    places: &mut [usize; 4096],
-    room: &mut [usize; 4096],
+    ids: &mut [u8; IDS],
+    counts: &mut [u16; IDS],
+    places: &mut [usize; NODES],
+    scratch: &mut [usize; NODES],
 ) -> Records
     ensures { λ _. ⌜ length (now (spare .exit)) ≡ length (now (spare .entry)) ⌝ }
     ensures { λ r. ⌜ (now (ids .entry) ≡ clearTable → now (counts .entry) ≡ clearTable → (w : State byOne) → Carries (now (spare .entry)) p w → Numbered w count
@@ -52,7 +54,7 @@ fn take_records(
     let mut left = count;
     let mut now = p;
     while 0 < left {
-        match take_record(now, rest, lot, span, spare, ids, counts, places, room) {
+        match take_record(now, rest, lot, span, spare, ids, counts, places, scratch) {
             TakeAnswer::Misframed(i) => {
                 return Records::Malformed(i);
             }
@@ -104,10 +106,10 @@ fn from_start(
     out: &mut [u8],
     spare: &mut [u8],
     p: Progress,
-    ids: &mut [u8; 65536],
-    counts: &mut [u16; 65536],
-    places: &mut [usize; 4096],
-    room: &mut [usize; 4096],
+    ids: &mut [u8; IDS],
+    counts: &mut [u16; IDS],
+    places: &mut [usize; NODES],
+    scratch: &mut [usize; NODES],
 ) -> SheetAnswer
     ensures { λ _. ⌜ length (now (spare .exit)) ≡ length (now (spare .entry)) ⌝ }
     ensures { λ r. ⌜ (now (ids .entry) ≡ clearTable → now (counts .entry) ≡ clearTable → Carries (now (spare .entry)) p (noRecords byOne) → length (now (out .entry)) ≤ length (now (spare .entry))
@@ -126,7 +128,7 @@ fn from_start(
         ids,
         counts,
         places,
-        room,
+        scratch,
     ) {
         Records::Malformed(i) => SheetAnswer::Malformed(i),
         Records::Refused(f, i) => SheetAnswer::Record(f, i),
@@ -147,10 +149,10 @@ pub fn tally_sheet(
     ensures { λ _. ⌜ length (now (spare .exit)) ≡ length (now (spare .entry)) ⌝ }
 {
     // The tables come first and are cleared once: a large frame that is set up behind a test has lost a register's value in compiled code.
-    let mut ids = [0u8; 65536];
-    let mut counts = [0u16; 65536];
-    let mut places = [0usize; 4096];
-    let mut room = [0usize; 4096];
+    let mut ids = [0u8; IDS];
+    let mut counts = [0u16; IDS];
+    let mut places = [0usize; NODES];
+    let mut scratch = [0usize; NODES];
     match start(lot, span, out.len(), spare.len()) {
         StartAnswer::BadPart => SheetAnswer::BadPart,
         StartAnswer::Misfit => SheetAnswer::Misfit,
@@ -164,7 +166,7 @@ pub fn tally_sheet(
             &mut ids,
             &mut counts,
             &mut places,
-            &mut room,
+            &mut scratch,
         ),
     }
 }

@@ -2,6 +2,7 @@
 use mapblock::head::cut;
 use mapblock::names::NameRead;
 use mapblock::names::name_row;
+use mapblock::nodes::IDS;
 ghost use mathlib.Core.Path.{_≡_};
 ghost use Prim.Native.Nat.{_<_};
 ghost use Rattle.names.specs.Places.{rowAt, countAt};
@@ -41,7 +42,7 @@ fn wide(n: u16) -> u64
 }
 
 // What the counters tell of the id in the row at a place.
-pub fn count_at(s: &[u8], counts: &[u16; 65536], p: usize) -> u64
+pub fn count_at(s: &[u8], counts: &[u16; IDS], p: usize) -> u64
     ensures { λ r. ⌜ r ≡ countAt (now (s .entry)) (now (counts .entry)) p ⌝ }
 {
     wide(counts[id_at(s, p)])

@@ -70,39 +70,39 @@ fn take_back(a: &mut [usize], b: &[usize])
 }
 
 // Puts two runs, each in order, in order as a whole: nothing is moved where the second starts no lower than the first ends.
-fn join_halves(s: &[u8], places: &mut [usize], mid: usize, room: &mut [usize])
-    requires { ⌜ (0 < mid) × (mid < length (now places)) × Joins (now s) (now places) mid (now room) ⌝ }
+fn join_halves(s: &[u8], places: &mut [usize], mid: usize, scratch: &mut [usize])
+    requires { ⌜ (0 < mid) × (mid < length (now places)) × Joins (now s) (now places) mid (now scratch) ⌝ }
     ensures { λ _. ⌜ Arranged (now (s .entry)) (now (places .entry)) (now (places .exit)) ⌝ }
 {
     if comes_before(s, places[mid], places[mid - 1]) {
-        join(s, places, mid, room);
-        take_back(places, room);
+        join(s, places, mid, scratch);
+        take_back(places, scratch);
     }
 }
 
 // The sort itself: each half, and then the whole.
-fn sort_halves(s: &[u8], places: &mut [usize], room: &mut [usize])
-    requires { ⌜ length (now places) ≤ length (now room) ⌝ }
+fn sort_halves(s: &[u8], places: &mut [usize], scratch: &mut [usize])
+    requires { ⌜ length (now places) ≤ length (now scratch) ⌝ }
     ensures { λ _. ⌜ Arranged (now (s .entry)) (now (places .entry)) (now (places .exit)) ⌝ }
 {
     if places.len() < 2 {
         return;
     }
     let mid = places.len() / 2;
-    sort_halves(s, &mut places[..mid], room);
-    sort_halves(s, &mut places[mid..], room);
-    join_halves(s, places, mid, room);
+    sort_halves(s, &mut places[..mid], scratch);
+    sort_halves(s, &mut places[mid..], scratch);
+    join_halves(s, places, mid, scratch);
 }
 
-// Puts places in the order of the names that stand there; they stay as they are where the room is shorter. Places of one name may change
-// among themselves, since their counts are added up; what `room` holds afterwards is open: it is a table to work in.
-pub fn sort(s: &[u8], places: &mut [usize], room: &mut [usize])
+// Puts places in the order of the names that stand there; they stay as they are where the scratch is shorter. Places of one name may change
+// among themselves, since their counts are added up; what `scratch` holds afterwards is open: it is a table to work in.
+pub fn sort(s: &[u8], places: &mut [usize], scratch: &mut [usize])
     ensures { λ _. ⌜ length (now (places .exit)) ≡ length (now (places .entry)) ⌝ }
-    ensures { λ _. ⌜ (length (now (places .entry)) ≤ length (now (room .entry)) → Arranged (now (s .entry)) (now (places .entry)) (now (places .exit))) ⌝ }
-    ensures { λ _. ⌜ (length (now (room .entry)) < length (now (places .entry)) → now (places .exit) ≡ now (places .entry)) ⌝ }
+    ensures { λ _. ⌜ (length (now (places .entry)) ≤ length (now (scratch .entry)) → Arranged (now (s .entry)) (now (places .entry)) (now (places .exit))) ⌝ }
+    ensures { λ _. ⌜ (length (now (scratch .entry)) < length (now (places .entry)) → now (places .exit) ≡ now (places .entry)) ⌝ }
 {
-    if room.len() < places.len() {
+    if scratch.len() < places.len() {
         return;
     }
-    sort_halves(s, places, room);
+    sort_halves(s, places, scratch);
 }

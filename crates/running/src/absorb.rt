@@ -2,6 +2,7 @@
 // have a row, and where names are new a second one puts their rows, so that no row moves more than twice. Sums wrap where the
 // rows are not those of a running tally, of which alone something is promised: no caller has to bound a count.
 use crate::running::Running;
+use mapblock::nodes::IDS;
 use names::places::count_at;
 use names::places::name_at;
 use std::num::wrapping_add_u64;
@@ -32,7 +33,7 @@ pub struct Group {
 }
 
 // The places from the i-th on that have its name.
-fn group_at(s: &[u8], counts: &[u16; 65536], places: &[usize], i: usize) -> Group
+fn group_at(s: &[u8], counts: &[u16; IDS], places: &[usize], i: usize) -> Group
     requires { ⌜ i < length (now places) ⌝ }
     ensures { λ r. ⌜ Grouped (now (s .entry)) (now (counts .entry)) (now (places .entry)) i r ⌝ }
 {
@@ -90,7 +91,7 @@ pub enum Raised {
 }
 
 // The first pass.
-fn raise(s: &[u8], counts: &[u16; 65536], places: &[usize], t: &mut [u8], size: usize) -> Raised
+fn raise(s: &[u8], counts: &[u16; IDS], places: &[usize], t: &mut [u8], size: usize) -> Raised
     requires { ⌜ size ≤ length (now t) ⌝ }
     ensures { λ r. ⌜ RaisedAs (now (s .entry)) (now (counts .entry)) (now (places .entry)) (now (t .entry)) (now (t .exit)) size r ⌝ }
 {
@@ -177,7 +178,7 @@ fn fill_row(t: &mut [u8], gap: Gap, end: usize, name: &[u8], count: u64) -> Gap
 }
 
 // The second pass, until the gap is closed: it is as long as the rows that are missing.
-fn fill(s: &[u8], counts: &[u16; 65536], places: &[usize], t: &mut [u8], missing: usize, end: usize)
+fn fill(s: &[u8], counts: &[u16; IDS], places: &[usize], t: &mut [u8], missing: usize, end: usize)
     requires { ⌜ (missing ≤ end) × (end ≤ length (now t)) ⌝ }
     ensures { λ _. ⌜ ((G W T : Rows ones) → Fills (now (s .entry)) (now (counts .entry)) (now (places .entry)) (now (t .entry)) missing end G W T
         → Filled (now (t .entry)) (now (t .exit)) end T) ⌝ }
@@ -201,7 +202,7 @@ fn fill(s: &[u8], counts: &[u16; 65536], places: &[usize], t: &mut [u8], missing
 // Makes room for the rows that are missing, and puts them there.
 fn spread(
     s: &[u8],
-    counts: &[u16; 65536],
+    counts: &[u16; IDS],
     places: &[usize],
     t: &mut [u8],
     size: usize,
@@ -218,13 +219,7 @@ fn spread(
     fill(s, counts, places, t, missing, size + missing);
 }
 
-pub fn absorb(
-    s: &[u8],
-    counts: &[u16; 65536],
-    places: &[usize],
-    t: &mut [u8],
-    w: Running,
-) -> Running
+pub fn absorb(s: &[u8], counts: &[u16; IDS], places: &[usize], t: &mut [u8], w: Running) -> Running
     ensures { λ _. ⌜ length (now (t .exit)) ≡ length (now (t .entry)) ⌝ }
     ensures { λ r. ⌜ ((R : Rows ones) → Absorbs (now (s .entry)) (now (counts .entry)) (now (places .entry)) (now (t .entry)) w R
         → Absorbed (now (t .entry)) (now (t .exit)) r R (plus ones (run (now (s .entry)) (now (counts .entry)) (now (places .entry))) R)) ⌝ }

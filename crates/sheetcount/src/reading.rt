@@ -1,5 +1,7 @@
 // A sheet read from standard input, a record at a time.
 use libc::STDIN_FILENO;
+use mapblock::nodes::IDS;
+use mapblock::nodes::NODES;
 use meter::head::sheet_head;
 use meter::program::LengthRead;
 use meter::program::MOST_BLOCK;
@@ -48,10 +50,10 @@ fn take_all(
     p: Progress,
     bytes: &mut [u8],
     spare: &mut [u8],
-    ids: &mut [u8; 65536],
-    counts: &mut [u16; 65536],
-    places: &mut [usize; 4096],
-    room: &mut [usize; 4096],
+    ids: &mut [u8; IDS],
+    counts: &mut [u16; IDS],
+    places: &mut [usize; NODES],
+    scratch: &mut [usize; NODES],
 ) -> Next
     requires { ⌜ (length (now bytes) ≡ longest) × Begins (now spare) p (now ids) (now counts) ⌝ }
     ensures { λ _. ⌜ length (now (spare .exit)) ≡ length (now (spare .entry)) ⌝ }
@@ -61,7 +63,7 @@ fn take_all(
     let mut now = p;
     while 0 < left {
         let n = read_record(bytes);
-        match take_next(now, &bytes[..n], spare, ids, counts, places, room) {
+        match take_next(now, &bytes[..n], spare, ids, counts, places, scratch) {
             Next::Stop(a) => {
                 return Next::Stop(a);
             }
@@ -80,10 +82,10 @@ fn read_sheet(
     bytes: &mut [u8],
     out: &mut [u8],
     spare: &mut [u8],
-    ids: &mut [u8; 65536],
-    counts: &mut [u16; 65536],
-    places: &mut [usize; 4096],
-    room: &mut [usize; 4096],
+    ids: &mut [u8; IDS],
+    counts: &mut [u16; IDS],
+    places: &mut [usize; NODES],
+    scratch: &mut [usize; NODES],
 ) -> SheetAnswer
     requires { ⌜ Ready (now bytes) (now out) (now spare) (now ids) (now counts) × Carries (now spare) p (noRecords byOne) ⌝ }
     ensures { λ r. ⌜ CountedInto (now (out .entry)) (now (out .exit)) r ⌝ }
@@ -92,7 +94,7 @@ fn read_sheet(
     let HeadRead::Number(count) = sheet_head(&bytes[..got]) else {
         return SheetAnswer::Malformed(0);
     };
-    match take_all(count, p, bytes, spare, ids, counts, places, room) {
+    match take_all(count, p, bytes, spare, ids, counts, places, scratch) {
         Next::Stop(a) => a,
         Next::On(q) => {
             let more = io::read_full(STDIN_FILENO, &mut bytes[..1]);
@@ -106,10 +108,10 @@ fn count_into(
     bytes: &mut [u8],
     out: &mut [u8],
     spare: &mut [u8],
-    ids: &mut [u8; 65536],
-    counts: &mut [u16; 65536],
-    places: &mut [usize; 4096],
-    room: &mut [usize; 4096],
+    ids: &mut [u8; IDS],
+    counts: &mut [u16; IDS],
+    places: &mut [usize; NODES],
+    scratch: &mut [usize; NODES],
 ) -> SheetAnswer
     requires { ⌜ Ready (now bytes) (now out) (now spare) (now ids) (now counts) ⌝ }
     ensures { λ r. ⌜ CountedInto (now (out .entry)) (now (out .exit)) r ⌝ }
@@ -117,7 +119,7 @@ fn count_into(
     match start(Lot::whole_world(), Span::all_time(), out.len(), spare.len()) {
         StartAnswer::BadPart => SheetAnswer::BadPart,
         StartAnswer::Misfit => SheetAnswer::Misfit,
-        StartAnswer::Started(p) => read_sheet(p, bytes, out, spare, ids, counts, places, room),
+        StartAnswer::Started(p) => read_sheet(p, bytes, out, spare, ids, counts, places, scratch),
     }
 }
 
@@ -132,10 +134,10 @@ pub(crate) fn count_sheet() -> Counted
     ensures { λ r. ⌜ CountedAs (r .out) (r .answer) ⌝ }
 {
     // The tables come first, as in the tally of a sheet.
-    let mut ids = [0u8; 65536];
-    let mut counts = [0u16; 65536];
-    let mut places = [0usize; 4096];
-    let mut room = [0usize; 4096];
+    let mut ids = [0u8; IDS];
+    let mut counts = [0u16; IDS];
+    let mut places = [0usize; NODES];
+    let mut scratch = [0usize; NODES];
     // A record, the running tally and the tally.
     let mut bytes = [0u8; BLOCK_AT + MOST_BLOCK];
     let mut spare = [0u8; MOST_TALLY];
@@ -147,7 +149,7 @@ pub(crate) fn count_sheet() -> Counted
         &mut ids,
         &mut counts,
         &mut places,
-        &mut room,
+        &mut scratch,
     );
     Counted { answer, out }
 }

@@ -91,7 +91,7 @@ sort-halves-sort-halves-requires t c κs =
     let h = half-is (x .places .now) in
     let many : 2 ≤ length (x .places .now) = c .before .before .if1 .left in
     let below : length (take (length (x .places .now) / 2) (x .places .now)) < t = omega (arith, c .before .before .before .before .before .before .pre .0) in
-    let room : length (take (length (x .places .now) / 2) (x .places .now)) ≤ length (x .room .now) = omega (arith, c .before .before .before .before .before .before .pre .1) in
+    let room : length (take (length (x .places .now) / 2) (x .places .now)) ≤ length (x .scratch .now) = omega (arith, c .before .before .before .before .before .before .pre .1) in
     (below, room)
 
 sort-halves-mul-sort-halves : (t : ℕ) → sort-halves-lts.Need-mul-sort-halves (
