@@ -171,17 +171,18 @@ listed {A = A} k item = along (OkListed k item) (λ (x : ℕ × List A). x .1) (
 abbrev pub times : {E : Type 0} {ends : E} {A : Type 0} → ℕ → Format E ends A → Format E ends (List A)
 times n f = items (λ seen. f) n
 
--- ---- heads: document 01's tallies and sheets begin with one
+-- ---- the heads of tallies and sheets: document 01, 'Tallies, lots, spans, sheets'
 -- the bytes of the mark m and the version v as a u16, else the fault e; then f
 abbrev pub headed : {E : Type 0} {ends : E} {A : Type 0} → List ℕ → ℕ → E → Format E ends A → Format E ends A
 headed m v e f = mark m e (fixed 2 v e f)
 
-abbrev pub headLength : ℕ
-headLength = 9
-
--- the mark m of three bytes, version 1 and a u32 number
+-- the mark m, version 1 and a u32 number
 abbrev pub head : {E : Type 0} {ends : E} → List ℕ → Format E ends ℕ
 head {ends = ends} m = headed m 1 ends u32
+
+-- its bytes, where the mark has three
+abbrev pub headLength : ℕ
+headLength = 9
 
 -- ---- what may be left out
 -- f where the test holds; else nothing, and the value that stands for it

@@ -31,14 +31,14 @@ abbrev pub reach : {E A : Type 0} → Read E A → ℕ
 reach (done a n) = n
 reach (refused e p) = p
 
--- refused, whatever the fault and its place
-pub data Misread {E A : Type 0} (r : Read E A) : Type 0 where
-  at-place : {e : E} (p : ℕ) → r ≡ refused e p → Misread r
-
 -- the same with one fault for every fault
 abbrev pub blaming : {E F A : Type 0} → F → Read E A → Read F A
 blaming f (done a n) = done a n
 blaming f (refused e p) = refused f p
+
+-- refused, whatever the fault and its place
+pub data Misread {E A : Type 0} (r : Read E A) : Type 0 where
+  at-place : {e : E} (p : ℕ) → r ≡ refused e p → Misread r
 
 -- ---- taking apart what was read
 pub never : {E A C : Type 0} {e : E} {a : A} {p n : ℕ} → refused e p ≡ done a n → C

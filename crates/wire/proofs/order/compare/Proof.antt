@@ -1,9 +1,10 @@
 use borrow.Author.Needs.{needs}
 use Prim.Native.Nat.{_-_, _≤_}
-use mathlib.Core.Path.{_≡_, refl, ap, ap₂, sym, _∙_}
+use mathlib.Core.Path.{_≡_, refl, ap₂, sym, _∙_}
 use native.Mathlib.Omega.{arith}
 use denote.Ref.{now}
 use lib.ListN.{length, take, drop}
+use Rattle.wire.proofs.Steps.{told-as}
 use Rattle.wire.specs.Order.{order}
 use Rattle.wire.specs.Lists.{rest-is}
 use Rattle.wire.specs.Told.{toldU64}
@@ -20,10 +21,10 @@ abbrev μ-loop : tie.MeasureT-loop
 
 -- the words at the place
 first : (c : tie.After-known-told Inv-loop μ-loop) → Word (now (c .before .before .before .before .before .before .before .args .a)) (c .before .before .before .before .loop .i) (c .before .x .given .0 .0)
-first c = word-at _ _ _ (λ j. c .before .before .before .before .before .before .shared-slice-known .given j .fits) (sym (ap toldU64 (c .before .x .given .1)) ∙ c .before .before .before .u64-at .ensures)
+first c = word-at _ _ _ (λ j. c .before .before .before .before .before .before .shared-slice-known .given j .fits) (told-as toldU64 (c .before .before .before .u64-at .ensures) (c .before .x .given .1))
 
 second : (c : tie.After-known-told2 Inv-loop μ-loop) → Word (now (c .before .before .before .before .before .before .before .before .before .before .before .args .b)) (c .before .before .before .before .before .before .before .before .loop .i) (c .before .y .given .0 .0)
-second c = word-at _ _ _ (λ j. c .before .before .before .before .before .before .before .before .before .shared-slice-known2 .given j .fits) (sym (ap toldU64 (c .before .y .given .1)) ∙ c .before .before .before .u64-at2 .ensures)
+second c = word-at _ _ _ (λ j. c .before .before .before .before .before .before .before .before .before .shared-slice-known2 .given j .fits) (told-as toldU64 (c .before .before .before .u64-at2 .ensures) (c .before .y .given .1))
 
 -- what is left, as the code slices it
 left : (c : tie.At-loop Inv-loop μ-loop) {r : Order} → let a = now (c .before .before .before .args .a) in let b = now (c .before .before .before .args .b) in let i = c .loop .i in
