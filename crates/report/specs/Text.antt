@@ -2,13 +2,13 @@
 use Prim.Native.Nat.{ℕ, zero, suc, _+_, _/_, _%_}
 use mathlib.Core.Bool.{cond}
 use mathlib.Core.List.{List, [], _∷_, _++_}
+use mathlib.Core.Option.{Option, some, none}
 use lib.Dec.{ltb}
 use lib.ListN.{length}
 use Rattle.wire.specs.Answer.{Answer, good, refusal, inRoom}
 use Rattle.tally.specs.Rows.{Row, Rows}
 use Rattle.tally.specs.Tally.{ones, one, rowsOf}
 use Rattle.tally.specs.Operations.{withRows}
-use Rattle.tally.specs.Theorems.{rowsIn}
 
 -- ---- numbers
 abbrev pub digit : ℕ → ℕ  -- the ASCII code
@@ -67,7 +67,11 @@ tallyTextOf room t = withRows (rowsOf one t) λ l. inRoom room (tallyText l)
 unfoldable pub refusalTextOf : ℕ → ℕ → ℕ → Answer (List ℕ)
 refusalTextOf room n i = inRoom room (refusalText n i)
 
--- ---- what the program prints of the tally, or of the refusal, that its input comes to
+-- ---- what the program prints of the tally, or of the refusal, that its input comes to; nothing of bytes that are no tally, to which it never does
+abbrev pub rowsText : Option (Rows ones) → List ℕ
+rowsText none = []
+rowsText (some l) = tallyText l
+
 unfoldable pub printed : Answer (List ℕ) → List ℕ
-printed (good t) = tallyText (rowsIn one t)
+printed (good t) = rowsText (rowsOf one t)
 printed (refusal n i o) = refusalText n i

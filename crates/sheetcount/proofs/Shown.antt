@@ -79,7 +79,8 @@ text-fits : (s t : List ℕ) → Bytes s → sheetcountOf s ≡ good t → tally
 unfolding printed
 text-fits s t b h =
     let y = told-tallied byOne (whole-sheet s mostTally) everything mostTally t b (sheetcount .tallied s t b h) in
-    tally-text-fits mostText t (is-tally byOne b y) (omega (arith, y .can .fits .1, ap length (y .bytes))) ∙ rw h
+    let k = is-tally byOne b y in
+    tally-text-fits mostText t k (omega (arith, y .can .fits .1, ap length (y .bytes))) ∙ rw (h, k .1 .1)
 
 pub tally-shown : {out : List ℕ} {answer : SheetAnswer} (c : CountedAs out answer) {n : ℕ} (h : toldSheet answer ≡ good n) (a : TextAnswer) (r : ℕ) (old text : List ℕ) → length old ≡ mostText → r ≡ lengthPut a
     → toldText a ≡ mapAnswer length (tallyTextOf (length old) (take n out)) → text ≡ lent (tallyTextOf (length old) (take n out)) old → Shows r text (c .into .s)
