@@ -41,6 +41,7 @@ fn upto(v: i32, block: i32) -> usize
     clamp16(v as i64 - block as i64 * 16 + 1)
 }
 
+// The part of a lot that lies in a block; it may be turned round, and then no node does.
 pub(crate) fn clip_to(lot: Lot, at: Coordinates) -> Clip
     ensures { λ r. ⌜ r ≡ clipOf lot at ⌝ }
 {

@@ -52,6 +52,7 @@ fn old_metadata(version: u8, s: &[u8]) -> Reach
     }
 }
 
+// Step 5 of the layout, where it ends.
 pub(crate) fn metadata_list(version: u8, s: &[u8]) -> Reach
     ensures { λ r. ⌜ toldReach r ≡ ended (metadata version .read (now (s .entry))) ⌝ }
 {
@@ -68,6 +69,7 @@ pub(crate) fn metadata_list(version: u8, s: &[u8]) -> Reach
     )
 }
 
+// Step 6.
 pub(crate) fn object_list(version: u8, s: &[u8]) -> Reach
     ensures { λ r. ⌜ toldReach r ≡ ended (objects .read (now (s .entry))) ⌝ }
 {

@@ -29,6 +29,7 @@ pub enum NameRowAnswer {
     Refused(Fault, usize),
 }
 
+// The front row of a part of names, judged alone.
 pub fn name_row_of(part: &[u8]) -> NameRowAnswer
     ensures { λ r. ⌜ toldNameRow r ≡ nameRowOf (now (part .entry)) ⌝ }
 {
@@ -51,6 +52,7 @@ pub fn name_of(part: &[u8]) -> &[u8]
     }
 }
 
+// What remains behind it.
 pub fn behind_name_row(part: &[u8]) -> &[u8]
     ensures { λ r. ⌜ now r ≡ rowsBehind (now (part .entry)) (nameRowOf (now (part .entry))) ⌝ }
 {
@@ -68,6 +70,7 @@ pub enum MetadataRowAnswer {
     Refused(Fault, usize),
 }
 
+// The front row of a part of metadata, judged alone; how a row is laid out depends on the version.
 pub fn metadata_row_of(version: u8, part: &[u8]) -> MetadataRowAnswer
     ensures { λ r. ⌜ toldMetadataRow r ≡ metadataRowOf version (now (part .entry)) ⌝ }
 {
@@ -113,6 +116,7 @@ pub fn metadata_inventory_of(version: u8, part: &[u8]) -> &[u8]
     }
 }
 
+// What remains behind it.
 pub fn behind_metadata_row(version: u8, part: &[u8]) -> &[u8]
     ensures { λ r. ⌜ now r ≡ rowsBehind (now (part .entry)) (metadataRowOf version (now (part .entry))) ⌝ }
 {
@@ -129,6 +133,7 @@ pub enum ObjectRowAnswer {
     Refused(Fault, usize),
 }
 
+// The front row of a part of static objects, judged alone.
 pub fn object_row_of(part: &[u8]) -> ObjectRowAnswer
     ensures { λ r. ⌜ toldObjectRow r ≡ objectRowOf (now (part .entry)) ⌝ }
 {
@@ -151,6 +156,7 @@ pub fn object_content_of(part: &[u8]) -> &[u8]
     }
 }
 
+// What remains behind it.
 pub fn behind_object_row(part: &[u8]) -> &[u8]
     ensures { λ r. ⌜ now r ≡ rowsBehind (now (part .entry)) (objectRowOf (now (part .entry))) ⌝ }
 {
@@ -167,6 +173,7 @@ pub enum TimerRowAnswer {
     Refused(Fault, usize),
 }
 
+// The front row of a part of timers, judged alone.
 pub fn timer_row_of(part: &[u8]) -> TimerRowAnswer
     ensures { λ r. ⌜ toldTimerRow r ≡ timerRowOf (now (part .entry)) ⌝ }
 {
@@ -179,6 +186,7 @@ pub fn timer_row_of(part: &[u8]) -> TimerRowAnswer
     }
 }
 
+// What remains behind it.
 pub fn behind_timer_row(part: &[u8]) -> &[u8]
     ensures { λ r. ⌜ now r ≡ rowsBehind (now (part .entry)) (timerRowOf (now (part .entry))) ⌝ }
 {

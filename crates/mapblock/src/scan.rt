@@ -352,6 +352,7 @@ pub fn scan(s: &[u8], ids: &mut [u8; IDS]) -> Judged
         FrontRead::Refused(f, p) => Judged::Refused(f, p),
         FrontRead::Fields(w) => {
             let r = behind_front(s, w, ids);
+            // Version 29's names: their rows stand behind step 1 and the list's head. Before it there are none here.
             unmark(&s[11..], w.count, ids);
             r
         }

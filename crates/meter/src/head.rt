@@ -4,6 +4,7 @@ use wire::heads::read_head;
 ghost use Rattle.wire.specs.Told.{HeadTold};
 ghost use Rattle.meter.specs.Sheet.{misframed, sheetMark};
 
+// The number of records that it states.
 pub fn sheet_head(s: &[u8]) -> HeadRead
     ensures { λ r. ⌜ HeadTold misframed sheetMark (now (s .entry)) r ⌝ }
 {

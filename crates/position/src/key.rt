@@ -72,6 +72,7 @@ fn key_of(x: i64, y: i64, z: i64) -> i64
     z * Z_STEP + y * Y_STEP + x
 }
 
+// The key of a block, by its coordinates.
 pub fn join(x: i32, y: i32, z: i32) -> JoinAnswer
     ensures { λ r. ⌜ toldJoin r ≡ joinOf x y z ⌝ }
 {
@@ -104,6 +105,7 @@ fn low(field: u64) -> i32
     field as i32 - HALF
 }
 
+// The coordinates of the block that has a key. The range is judged first: near 2^63 the shift would not fit.
 pub fn split(key: i64) -> SplitAnswer
     ensures { λ r. ⌜ toldSplit r ≡ splitOf key ⌝ }
 {

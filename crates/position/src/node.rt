@@ -21,6 +21,7 @@ fn on_axis(c: i32, step: usize) -> i32
     c * 16 + step as i32
 }
 
+// Where the node at an index of a block stands.
 pub fn node(block: Coordinates, index: usize) -> NodeAnswer
     ensures { λ r. ⌜ toldNode r ≡ nodeOf block index ⌝ }
 {

@@ -84,6 +84,7 @@ fn put_opening(out: &mut [u8], rows: u32) -> usize
     end + 1
 }
 
+// The text of a tally: a line with the number of rows, and a line for each. It is measured before a byte is written.
 pub fn tally_text(t: &[u8], out: &mut [u8]) -> TextAnswer
     ensures { λ r. ⌜ toldText r ≡ mapAnswer length (tallyTextOf (length (now (out .entry))) (now (t .entry))) ⌝ }
     ensures { λ _. ⌜ now (out .exit) ≡ lent (tallyTextOf (length (now (out .entry))) (now (t .entry))) (now (out .entry)) ⌝ }

@@ -219,6 +219,7 @@ fn spread(
     fill(s, counts, places, t, missing, size + missing);
 }
 
+// Adds the counted names to the running tally. Nothing is put in before the rows of new names are known to fit.
 pub fn absorb(s: &[u8], counts: &[u16; IDS], places: &[usize], t: &mut [u8], w: Running) -> Running
     ensures { λ _. ⌜ length (now (t .exit)) ≡ length (now (t .entry)) ⌝ }
     ensures { λ r. ⌜ ((R : Rows ones) → Absorbs (now (s .entry)) (now (counts .entry)) (now (places .entry)) (now (t .entry)) w R

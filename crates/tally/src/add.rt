@@ -31,6 +31,7 @@ pub enum Found {
     Place(usize),
 }
 
+// A name among rows in order: its row and its count, or the place where its row would be.
 pub fn seek(s: &[u8], name: &[u8]) -> Found
     ensures { λ r. ⌜ Sought (now (s .entry)) (now (name .entry)) r ⌝ }
 {

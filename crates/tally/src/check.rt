@@ -60,6 +60,7 @@ fn are_rows(s: &[u8], count: u32) -> bool
     rest.len() == 0
 }
 
+// Whether bytes are a tally, and of how many rows: the whole of it is judged, so that whoever walks its rows afterwards need not.
 pub fn check(t: &[u8]) -> CheckAnswer
     ensures { λ r. ⌜ toldCheck r ≡ checkOf one (now (t .entry)) ⌝ }
 {

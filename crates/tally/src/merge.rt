@@ -170,6 +170,7 @@ fn merge_rows(a: &[u8], b: &[u8], out: &mut [u8]) -> MergeAnswer
     MergeAnswer::Merged(size + HEAD)
 }
 
+// The sum of two tallies, by name. It is measured before a byte is written, so that a refusal leaves the output as it was.
 pub fn merge(a: &[u8], b: &[u8], out: &mut [u8]) -> MergeAnswer
     ensures { λ r. ⌜ toldMerge r ≡ mapAnswer length (mergeOf one (length (now (out .entry))) (now (a .entry)) (now (b .entry))) ⌝ }
     ensures { λ _. ⌜ now (out .exit) ≡ lent (mergeOf one (length (now (out .entry))) (now (a .entry)) (now (b .entry))) (now (out .entry)) ⌝ }

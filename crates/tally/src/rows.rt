@@ -60,6 +60,7 @@ pub enum RowAnswer {
     Malformed,
 }
 
+// The front row of a part, its count and its length. Whether rows are in order is asked of the whole tally.
 pub fn row_of(part: &[u8]) -> RowAnswer
     ensures { λ r. ⌜ toldFront r ≡ mapAnswer shownRow (frontOf one (now (part .entry))) ⌝ }
 {
@@ -82,6 +83,7 @@ pub fn name_of(part: &[u8]) -> &[u8]
     }
 }
 
+// What remains behind the front row.
 pub fn behind_row(part: &[u8]) -> &[u8]
     ensures { λ r. ⌜ now r ≡ partOf (λ (x : KindRow one × ℕ). drop (x .1) (now (part .entry))) (frontOf one (now (part .entry))) ⌝ }
 {

@@ -27,6 +27,7 @@ pub enum HeadRead {
     Malformed,
 }
 
+// The number that the head with this mark states.
 pub fn read_head(s: &[u8], mark: &[u8; 3]) -> HeadRead
     ensures { λ r. ⌜ HeadTold short (now (mark .entry)) (now (s .entry)) r ⌝ }
 {
