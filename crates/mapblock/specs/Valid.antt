@@ -22,15 +22,15 @@ abbrev pub Each : {A : Type 0} → (A → Type 0) → List A → Type 0
 Each Good [] = Unit {0}
 Each Good (a ∷ l) = Good a × Each Good l
 
--- Some element has the number n.
-abbrev pub Has : {A : Type 0} → (A → ℕ) → ℕ → List A → Type 0
-Has number n [] = ⊥
-Has number n (a ∷ l) = (number a ≡ n) ⊎ Has number n l
+-- Some element has the key k.
+abbrev pub Has : {A K : Type 0} → (A → K) → K → List A → Type 0
+Has key k [] = ⊥
+Has key k (a ∷ l) = (key a ≡ k) ⊎ Has key k l
 
--- No two elements have the same number.
-abbrev pub Distinct : {A : Type 0} → (A → ℕ) → List A → Type 0
-Distinct number [] = Unit {0}
-Distinct number (a ∷ l) = (Has number (number a) l → ⊥) × Distinct number l
+-- No two elements have the same key.
+abbrev pub Distinct : {A K : Type 0} → (A → K) → List A → Type 0
+Distinct key [] = Unit {0}
+Distinct key (a ∷ l) = (Has key (key a) l → ⊥) × Distinct key l
 
 -- ---- fields
 -- what a u8, a u16, a u32 and an s32 can hold; `negsuc n` is -(n + 1)

@@ -2,6 +2,7 @@
 use Prim.Native.Nat.{ℕ, zero, suc, _+_, _≤_, _<_}
 use mathlib.Core.Path.{_≡_, sym, ap, subst⁻¹, _∙_}
 use mathlib.Core.Bool.{Bool, true, false, cond}
+use mathlib.Core.Logic.{_⊎_, inl, inr}
 use mathlib.Core.List.{List, [], _∷_, _++_}
 use mathlib.Core.Option.{Option, some, none}
 use native.Mathlib.Omega.{arith}
@@ -13,73 +14,81 @@ use Rattle.wire.specs.Answer.{good, map-good}
 use Rattle.position.specs.Keys.{splitOf}
 use Rattle.position.specs.declared.key.Coordinates.{Coordinates}
 use Rattle.position.proofs.Theorems.{inverse, nodes-apart}
+use Rattle.mapblock.specs.Valid.{Has, Distinct}
 use Rattle.meter.specs.Standing.{Placed, Node, inPart, nodeOf, nodesFrom, standing, those}
 use Rattle.meter.specs.Sheet.{rises, recordsFrom}
 use Rattle.meter.specs.Tallying.{placedAt}
-use Rattle.meter.specs.Theorems.{one-block, whole-sheet, Elsewhere, Apart, PositionsApart}
+use Rattle.meter.specs.Theorems.{one-block, whole-sheet, placeOf, PositionsApart}
 use Rattle.meter.proofs.Steps.{judge-taken, first-taken, none-taken}
 use Rattle.meter.proofs.SheetTaken.{sheet-opened}
 
 -- ---- some of the nodes
-elsewhere-those : (test : Node → Bool) (n : Node) (l : List Node) → Elsewhere n l → Elsewhere n (those test l)
+has-those : (test : Node → Bool) (c : Coordinates) (l : List Node) → Has placeOf c (those test l) → Has placeOf c l
 unfolding those
-elsewhere-those test n [] h = tt
-elsewhere-those test n (x ∷ l) h = go (test x) (elsewhere-those test n l (h .1))
+has-those test c [] h = h
+has-those test c (x ∷ l) h = go (test x) h (has-those test c l)
   where
-    go : (b : Bool) → Elsewhere n (those test l) → Elsewhere n (cond b (x ∷ those test l) (those test l))
-    go true k = (h .0, k)
-    go false k = k
+    on : (x .place ≡ c) ⊎ Has placeOf c (those test l) → (Has placeOf c (those test l) → Has placeOf c l) → (x .place ≡ c) ⊎ Has placeOf c l
+    on (inl e) ih = inl e
+    on (inr k) ih = inr (ih k)
 
-apart-those : (test : Node → Bool) (l : List Node) → Apart l → Apart (those test l)
+    go : (b : Bool) → Has placeOf c (cond b (x ∷ those test l) (those test l)) → (Has placeOf c (those test l) → Has placeOf c l) → (x .place ≡ c) ⊎ Has placeOf c l
+    go true k ih = on k ih
+    go false k ih = inr (ih k)
+
+apart-those : (test : Node → Bool) (l : List Node) → Distinct placeOf l → Distinct placeOf (those test l)
 unfolding those
 apart-those test [] h = tt
 apart-those test (x ∷ l) h = go (test x) (apart-those test l (h .1))
   where
-    go : (b : Bool) → Apart (those test l) → Apart (cond b (x ∷ those test l) (those test l))
-    go true k = (elsewhere-those test x l (h .0), k)
+    go : (b : Bool) → Distinct placeOf (those test l) → Distinct placeOf (cond b (x ∷ those test l) (those test l))
+    go true k = (λ z. h .0 (has-those test (x .place) l z), k)
     go false k = k
 
-elsewhere-append : (n : Node) (a b : List Node) → Elsewhere n a → Elsewhere n b → Elsewhere n (a ++ b)
-elsewhere-append n [] b h k = k
-elsewhere-append n (x ∷ a) b h k = (h .0, elsewhere-append n a b (h .1) k)
+-- in neither of two lists, in neither behind the other
+has-append : (c : Coordinates) (a b : List Node) → (Has placeOf c a → ⊥) → (Has placeOf c b → ⊥) → Has placeOf c (a ++ b) → ⊥
+has-append c [] b h k z = k z
+has-append c (x ∷ a) b h k z = go z (has-append c a b (λ y. h (inr y)) k)
+  where
+    go : (x .place ≡ c) ⊎ Has placeOf c (a ++ b) → (Has placeOf c (a ++ b) → ⊥) → ⊥
+    go (inl e) ih = h (inl e)
+    go (inr y) ih = ih y
 
 -- ---- the nodes of a block, before others
-own-elsewhere : (x : Placed) (j n i : ℕ) → j < i → i + n ≤ 4096 → Elsewhere (nodeOf x j) (nodesFrom x n i)
+-- a place that is none of a block's from an index on
+has-block : (y : Placed) (c : Coordinates) (n i : ℕ) → i + n ≤ 4096 → ((m : ℕ) → i ≤ m → m < 4096 → nodeOf y m .place ≡ c → ⊥) → Has placeOf c (nodesFrom y n i) → ⊥
 unfolding nodesFrom
-own-elsewhere x j zero i h k = tt
-own-elsewhere x j (suc n) i h k =
-    (λ e. let q = nodes-apart (x .at) (x .at) j i (omega arith) (omega arith) e .1 in omega arith, own-elsewhere x j n (suc i) (omega arith) (omega arith))
+has-block y c zero i k d z = z
+has-block y c (suc n) i k d z = go z (has-block y c n (suc i) (omega arith) (λ m g. d m (omega arith)))
+  where
+    go : (nodeOf y i .place ≡ c) ⊎ Has placeOf c (nodesFrom y n (suc i)) → (Has placeOf c (nodesFrom y n (suc i)) → ⊥) → ⊥
+    go (inl e) ih = d i (omega arith) (omega arith) e
+    go (inr w) ih = ih w
 
-other-elsewhere : (x y : Placed) (j n i : ℕ) → (x .at ≡ y .at → ⊥) → j < 4096 → i + n ≤ 4096 → Elsewhere (nodeOf x j) (nodesFrom y n i)
-unfolding nodesFrom
-other-elsewhere x y j zero i d h k = tt
-other-elsewhere x y j (suc n) i d h k =
-    (λ e. d (nodes-apart (x .at) (y .at) j i h (omega arith) e .0), other-elsewhere x y j n (suc i) d h (omega arith))
-
-apart-before : (x : Placed) (n i : ℕ) (l : List Node) → i + n ≤ 4096 → ((j : ℕ) → j < 4096 → Elsewhere (nodeOf x j) l) → Apart l → Apart (nodesFrom x n i ++ l)
+apart-before : (x : Placed) (n i : ℕ) (l : List Node) → i + n ≤ 4096 → ((j : ℕ) → j < 4096 → Has placeOf (nodeOf x j .place) l → ⊥) → Distinct placeOf l → Distinct placeOf (nodesFrom x n i ++ l)
 unfolding nodesFrom
 apart-before x zero i l h d k = k
 apart-before x (suc n) i l h d k = (
-  elsewhere-append (nodeOf x i) (nodesFrom x n (suc i)) l (own-elsewhere x i n (suc i) (omega arith) (omega arith)) (d i (omega arith)),
+  has-append (nodeOf x i .place) (nodesFrom x n (suc i)) l
+      (has-block x (nodeOf x i .place) n (suc i) (omega arith) (λ m g f e. let q = nodes-apart (x .at) (x .at) m i f (omega arith) e .1 in omega arith))
+      (d i (omega arith)),
   apart-before x n (suc i) l (omega arith) d k,
 )
 
 -- ---- blocks at different places
-abbrev Away : Coordinates → List Placed → Type 0
-Away c [] = Unit {0}
-Away c (y ∷ l) = (c ≡ y .at → ⊥) × Away c l
+abbrev blockPlace : Placed → Coordinates
+blockPlace x = x .at
 
-abbrev AllAway : List Placed → Type 0
-AllAway [] = Unit {0}
-AllAway (x ∷ l) = Away (x .at) l × AllAway l
-
-away-elsewhere : (x : Placed) (j : ℕ) (l : List Placed) → Away (x .at) l → j < 4096 → Elsewhere (nodeOf x j) (standing l)
+away-elsewhere : (x : Placed) (j : ℕ) (l : List Placed) → (Has blockPlace (x .at) l → ⊥) → j < 4096 → Has placeOf (nodeOf x j .place) (standing l) → ⊥
 unfolding standing
-away-elsewhere x j [] d h = tt
-away-elsewhere x j (y ∷ l) d h =
-    elsewhere-append (nodeOf x j) (nodesFrom y 4096 0) (standing l) (other-elsewhere x y j 4096 0 (d .0) h (omega arith)) (away-elsewhere x j l (d .1) h)
+away-elsewhere x j [] d h z = z
+away-elsewhere x j (y ∷ l) d h z =
+    has-append (nodeOf x j .place) (nodesFrom y 4096 0) (standing l)
+    (has-block y (nodeOf x j .place) 4096 0 (omega arith) (λ m g f e. d (inl (nodes-apart (y .at) (x .at) m j f h e .0))))
+    (away-elsewhere x j l (λ w. d (inr w)) h)
+    z
 
-standing-apart : (l : List Placed) → AllAway l → Apart (standing l)
+standing-apart : (l : List Placed) → Distinct blockPlace l → Distinct placeOf (standing l)
 unfolding standing
 standing-apart [] d = tt
 standing-apart (x ∷ l) d = apart-before x 4096 0 (standing l) (omega arith) (λ j h. away-elsewhere x j l (d .0) h) (standing-apart l (d .1))
@@ -106,12 +115,15 @@ one-key c a b h k =
     let e : good a ≡ good b = sym p ∙ q in
     cc
 
-risen-away : (a last : ℤ) (c : Coordinates) (l : List Placed) → splitOf a ≡ good c → leZ a last ≡ true → Risen (some last) l → Away c l
-risen-away a last c [] h le r = tt
-risen-away a last c (y ∷ l) h le (k, at, up, more) =
-    (λ e. let q = one-key c a k h (at ∙ ap good (sym e)) in omega ints, risen-away a k c l h (omega ints) more)
+risen-away : (a last : ℤ) (c : Coordinates) (l : List Placed) → splitOf a ≡ good c → leZ a last ≡ true → Risen (some last) l → Has blockPlace c l → ⊥
+risen-away a last c [] h le r z = z
+risen-away a last c (y ∷ l) h le (k, at, up, more) z = go z (risen-away a k c l h (omega ints) more)
+  where
+    go : (y .at ≡ c) ⊎ Has blockPlace c l → (Has blockPlace c l → ⊥) → ⊥
+    go (inl e) ih = let q = one-key c a k h (at ∙ ap good e) in omega ints
+    go (inr w) ih = ih w
 
-all-away : (last : Option ℤ) (l : List Placed) → Risen last l → AllAway l
+all-away : (last : Option ℤ) (l : List Placed) → Risen last l → Distinct blockPlace l
 all-away last [] r = tt
 all-away last (x ∷ l) (k, at, up, more) = (risen-away k k (x .at) l at (omega ints) more, all-away (some k) l more)
 
@@ -119,7 +131,7 @@ all-away last (x ∷ l) (k, at, up, more) = (risen-away k k (x .at) l at (omega 
 pub positions-apart : PositionsApart
 positions-apart (one-block key s) p l h =
     let x = map-good (λ (x : Placed). x ∷ []) (placedAt key s) l h in
-    apart-those (inPart p) (standing l) (standing-apart l (subst⁻¹ AllAway (sym (x .2)) (tt, tt)))
+    apart-those (inPart p) (standing l) (standing-apart l (subst⁻¹ (Distinct blockPlace) (sym (x .2)) (λ z. z, tt)))
 positions-apart (whole-sheet s spare) p l h =
     let x = sheet-opened s l h in
     apart-those (inPart p) (standing l) (standing-apart l (all-away none l (records-risen (x .0) 0 none (drop (x .1) s) l (x .3))))

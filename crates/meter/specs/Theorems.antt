@@ -15,11 +15,12 @@ use Rattle.wire.specs.Format.{encodeItems}
 use Rattle.wire.specs.Answer.{Answer, good, refusal, mapAnswer, lent, sheetMalformed, thenAnswer}
 use Rattle.position.specs.Keys.{splitOf}
 use Rattle.position.specs.Spans.{inSpan}
+use Rattle.position.specs.declared.key.Coordinates.{Coordinates}
 use Rattle.mapblock.specs.Data.{Block}
 use Rattle.mapblock.specs.Layout.{all}
 use Rattle.mapblock.specs.Block.{block}
 use Rattle.mapblock.specs.Questions.{blockOf, nameAt}
-use Rattle.mapblock.specs.Valid.{Valid}
+use Rattle.mapblock.specs.Valid.{Distinct, Valid}
 use Rattle.tally.specs.Rows.{countIn}
 use Rattle.tally.specs.Tally.{tally, rowsOf}
 use Rattle.tally.specs.Theorems.{Merger, merged, Merges, MergeLaw, EmptyChangesNothing, sumOf, Fits}
@@ -96,16 +97,11 @@ IsBytes (one-block key s) = Bytes s
 IsBytes (whole-sheet s spare) = Bytes s
 
 -- ---- a node position is counted once: no two nodes of what stands in a part have one place
-abbrev pub Elsewhere : Node → List Node → Type 0
-Elsewhere n [] = Unit {0}
-Elsewhere n (x ∷ l) = (n .place ≡ x .place → ⊥) × Elsewhere n l
-
-abbrev pub Apart : List Node → Type 0
-Apart [] = Unit {0}
-Apart (n ∷ l) = Elsewhere n l × Apart l
+abbrev pub placeOf : Node → Coordinates
+placeOf n = n .place
 
 abbrev pub PositionsApart : Type 0
-PositionsApart = (x : Source) (p : Part) (l : List Placed) → blocksOf x ≡ good l → Apart (nodesIn p l)
+PositionsApart = (x : Source) (p : Part) (l : List Placed) → blocksOf x ≡ good l → Distinct placeOf (nodesIn p l)
 
 -- ---- tallying
 -- what tallying a part answers, and what the output lent holds then

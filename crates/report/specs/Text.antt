@@ -67,7 +67,7 @@ tallyTextOf room t = withRows (rowsOf one t) λ l. inRoom room (tallyText l)
 unfoldable pub refusalTextOf : ℕ → ℕ → ℕ → Answer (List ℕ)
 refusalTextOf room n i = inRoom room (refusalText n i)
 
--- ---- what the program prints of the tally, or of the refusal, that its input comes to; nothing of bytes that are no tally, to which it never does
+-- ---- what the program prints of the tally, or of the refusal, that its input comes to; of bytes that are no tally, which an answer never has, nothing
 abbrev pub rowsText : Option (Rows ones) → List ℕ
 rowsText none = []
 rowsText (some l) = tallyText l
