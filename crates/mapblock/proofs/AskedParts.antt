@@ -1,24 +1,28 @@
 -- Row questions: the answer by what the reader says of the front row, and the parts that are handed back.
-use Prim.Native.Nat.{ℕ, _-_, _≤_}
-use mathlib.Core.Path.{_≡_, ap, sym, _∙_}
+use Prim.Native.Nat.{ℕ, zero-le, _+_, _-_, _≤_}
+use mathlib.Core.Path.{_≡_, ap, sym, subst, _∙_}
 use mathlib.Core.Logic.{⊎-elim}
 use mathlib.Core.List.{List, [], _∷_}
 use mathlib.Core.Bool.{Bool, true, false, cond}
+use native.Mathlib.Nat.{min-eq-left}
 use native.Mathlib.Omega.{arith}
 use lib.Dec.{eqb}
 use lib.ListN.{length, take, drop}
 use borrow.Author.Tests.{eq-eqb, ne-eqb}
 use denote.Enum.Declared.{tagOf}
+use denote.Ref.{RefT, now, ptr}
 use types.Run.{OneOf}
 use Rattle.wire.specs.Lists.{rest-is}
+use Rattle.wire.specs.Places.{placeIn, startTold, place-is, place-first}
 use Rattle.wire.specs.Read.{Read, done, refused, mapRead}
 use Rattle.wire.specs.Format.{run}
 use Rattle.wire.specs.Answer.{Answer, good, refusal, plain, versionOutside, noSuch, no-good}
 use Rattle.mapblock.specs.Inventory.{Form}
 use Rattle.mapblock.specs.Layout.{isVersion, metadataRow}
-use Rattle.mapblock.specs.Rows.{metadataFields}
+use Rattle.mapblock.specs.Rows.{partTold, metadataFields}
+use Rattle.mapblock.specs.Sections.{IsPart}
 use Rattle.mapblock.specs.Numbers.{answerOf}
-use Rattle.mapblock.specs.RowQuestions.{frontRow, metadataRowOf, runOf, rowsBehind}
+use Rattle.mapblock.specs.RowQuestions.{frontRow, metadataRowOf, rowsBehind}
 use Rattle.mapblock.specs.AskedRows.{toldNameRow, toldMetadataRow, toldObjectRow, toldTimerRow}
 use Rattle.mapblock.specs.declared.fault.Fault.{Fault}
 use Rattle.mapblock.specs.declared.head.Part.{Part}
@@ -77,14 +81,15 @@ abbrev pub Refusal : {A : Type 0} → Answer A → Type 0
 Refusal (good a) = ⊥
 Refusal (refusal n r o) = Unit {0}
 
-module _ {A : Type 0} (s : List ℕ) where
-  pub empty-run : (run : A → Part) (x : Answer (A × ℕ)) {y : Answer (A × ℕ)} → x ≡ y → Refusal x → [] ≡ runOf run s y
-  empty-run run (good a) e k = absurd k
-  empty-run run (refusal n r o) e k = rw (← e)
+module _ {A : Type 0} (s : RefT (List ℕ)) where
+  -- the part that an answer tells, and the front of s, with no bytes, where it tells none
+  pub part-told : (which : A → Part) {a : A} {y : Answer A} {r : RefT (List ℕ)} → good a ≡ y → IsPart s (which a) r → IsPart s (partTold which y) r
+  part-told which {r = r} h k = subst (λ (x : Answer A). IsPart s (partTold which x) r) h k
 
-  pub empty-behind : (x : Answer (A × ℕ)) {y : Answer (A × ℕ)} → x ≡ y → Refusal x → [] ≡ rowsBehind s y
-  empty-behind (good a) e k = absurd k
-  empty-behind (refusal n r o) e k = rw (← e)
+  pub none-told : (which : A → Part) (x : Answer A) {y : Answer A} (r : RefT (List ℕ)) → x ≡ y → Refusal x → [] ≡ now r → ptr s ≡ ptr r → IsPart s (partTold which y) r
+  none-told which (good a) r e k b p = absurd k
+  none-told which (refusal n o q) r e k b p =
+      subst (λ (x : Answer A). IsPart s (partTold which x) r) e record { bytes = sym b; place = sym p ∙ place-first s (sym (min-eq-left zero-le)) }
 
 -- answers other than the first
 pub no-name : (r : NameRowAnswer) → OneOf (1 ∷ 2 ∷ []) (tagOf names.the-type r) → Refusal (toldNameRow r)
@@ -92,9 +97,8 @@ no-name (name.Row f n) k = ⊎-elim (λ w. omega arith) (λ w. omega arith) k
 no-name name.NoSuchRow k = tt
 no-name (name.Refused f p) k = tt
 
-pub no-metadata : (r : MetadataRowAnswer) → OneOf (1 ∷ 2 ∷ 3 ∷ []) (tagOf metadatas.the-type r) → Refusal (toldMetadataRow r)
-no-metadata (metadata.Row f n) k = ⊎-elim (λ w. omega arith) (⊎-elim (λ w. omega arith) (λ w. omega arith)) k
-no-metadata metadata.BadVersion k = tt
+pub no-metadata : (r : MetadataRowAnswer) → OneOf (1 ∷ 2 ∷ []) (tagOf metadatas.the-type r) → Refusal (toldMetadataRow r)
+no-metadata (metadata.Row f n) k = ⊎-elim (λ w. omega arith) (λ w. omega arith) k
 no-metadata metadata.NoSuchRow k = tt
 no-metadata (metadata.Refused f p) k = tt
 
@@ -113,6 +117,13 @@ module _ (s : List ℕ) where
   pub row-fits : {A B : Type 0} (to : A → B) (f : Form A) {b : B} {n : ℕ} → good (b, n) ≡ frontRow s (mapRead to (f .read s)) → n ≤ length s
   row-fits to f h = told-in to f s (asked-done s (mapRead to (f .read s)) h)
 
-  -- the rows behind it
-  pub behind-told : {A : Type 0} {a : A} {n : ℕ} {y : Answer (A × ℕ)} → good (a, n) ≡ y → take (length s - n) (drop n s) ≡ rowsBehind s y
-  behind-told {n = n} h = rest-is n s ∙ ap (rowsBehind s) h
+-- ---- the rows behind a row: their bytes, and where they lie
+module _ {A : Type 0} (s : RefT (List ℕ)) where
+  pub behind-told : {a : A} {n : ℕ} {y : Answer (A × ℕ)} → good (a, n) ≡ y
+      → (take (length (now s) - n) (drop n (now s)) ≡ rowsBehind (now s) y) × ((ptr s .0, n + ptr s .1) ≡ placeIn s (startTold (λ (x : A × ℕ). x .1) y))
+  behind-told {n = n} h = (rest-is n (now s) ∙ ap (rowsBehind (now s)) h, place-is s (ap (startTold (λ (x : A × ℕ). x .1)) h))
+
+  pub none-behind : (x : Answer (A × ℕ)) {y : Answer (A × ℕ)} → x ≡ y → Refusal x
+      → ([] ≡ rowsBehind (now s) y) × (ptr s ≡ placeIn s (startTold (λ (x : A × ℕ). x .1) y))
+  none-behind (good a) e k = absurd k
+  none-behind (refusal n r o) e k = (ap (rowsBehind (now s)) e, place-first s (ap (startTold (λ (x : A × ℕ). x .1)) e))

@@ -20,7 +20,7 @@ use Rattle.mapblock.specs.Rows.{nowhere}
 use Rattle.mapblock.specs.Sections.{found, within}
 use Rattle.mapblock.specs.Table.{freeIn}
 use Rattle.mapblock.specs.Numbers.{number}
-use Rattle.mapblock.specs.Questions.{areWhole, blockAnswer, blockOf, shown, sectionsOf, readOf, partsOf, sectionOf}
+use Rattle.mapblock.specs.Questions.{areWhole, blockAnswer, blockOf, shown, sectionsOf, readOf, partsOf}
 use Rattle.mapblock.specs.declared.fault.Fault.{Fault}
 use Rattle.mapblock.specs.declared.head.Head.{Head}
 use Rattle.mapblock.specs.declared.head.Part.{Part}
@@ -98,15 +98,6 @@ module _ (s : List ℕ) where
   pub parts-inside : {x : Sections} → Bytes s → x ≡ partsOf (sectionsOf s) → AllInside x
   unfolding blockOf
   parts-inside y h = subst⁻¹ AllInside h (inside-by (verdict all s) refl y)
-
-  -- the bytes r of a section that lies where x says
-  pub section-told : (which : Sections → Part) {x : Sections} {r : List ℕ} → which (partsOf (plain 0)) ≡ nowhere → r ≡ within s (which x) → x ≡ partsOf (sectionsOf s)
-      → r ≡ sectionOf which s (sectionsOf s)
-  section-told which e g h = g ∙ ap (λ (y : Sections). within s (which y)) h ∙ go (sectionsOf s)
-    where
-      go : (a : Answer (Head × Sections)) → within s (which (partsOf a)) ≡ sectionOf which s a
-      go (good x) = refl
-      go (refusal n r o) = ap (within s) e
 
 -- ---- the reader; a, b and c are the lengths of the lists lent
 pub whole-are : {a b c : ℕ} → areWhole a b c ≡ true → (a ≡ 4096) × (b ≡ 4096) × (c ≡ 4096)

@@ -27,6 +27,7 @@ pub mod Rests
 -- Well formed, and taken.
 pub mod Keyed
 pub mod GoodRows
+pub mod NamesMarked
 pub mod ValidOk
 pub mod Taken
 -- Sections, rows and names.

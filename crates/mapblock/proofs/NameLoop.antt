@@ -83,6 +83,7 @@ pub record Named (t₀ s : List ℕ) (count : ℕ) (t rest : List ℕ) (at left 
   pub fronts : (m : ℕ) → frontRows (count - left + m) s ≡ pre ++ frontRows m rest
   pub few : left ≤ count
   pub size : at + length rest ≡ length s
+  pub whole : length t₀ ≡ 65536
 
 pub named-start : (t₀ s : List ℕ) (count : ℕ) → length t₀ ≡ 65536 → Named t₀ s count t₀ s 0 count
 unfolding unused
@@ -97,6 +98,7 @@ named-start t₀ s count h = record {
   fronts = λ m. let z : count - count + m ≡ m = omega arith in ap (λ (k : ℕ). frontRows k s) z;
   few = omega arith;
   size = zero-add (length s);
+  whole = h;
 }
 
 module _ {t₀ s : List ℕ} {count : ℕ} {t rest : List ℕ} {at left : ℕ} (w : Named t₀ s count t rest at left) where
@@ -158,4 +160,5 @@ module _ {t₀ s : List ℕ} {count : ℕ} {t rest : List ℕ} {at left : ℕ} (
               ∙ sym (append-assoc (w .pre) (a ∷ []) (frontRows m (drop n rest)));
           few = omega (arith, w .few);
           size = rw length-drop (omega (arith, w .size));
+          whole = w .whole;
         }

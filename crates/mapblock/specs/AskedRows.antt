@@ -1,6 +1,6 @@
 -- What the code's answers to row questions say: document 01, 'Order', "Row question: 2, then 16 for an empty part, then the reader's 1, 3 or 4".
 use Prim.Native.Nat.{ℕ}
-use Rattle.wire.specs.Answer.{Answer, good, refusal, plain, versionOutside, noSuch}
+use Rattle.wire.specs.Answer.{Answer, good, refusal, plain, noSuch}
 use Rattle.mapblock.specs.Numbers.{number}
 use Rattle.mapblock.specs.declared.names.NameFields.{NameFields}
 use Rattle.mapblock.specs.declared.metadata.MetadataFields.{MetadataFields}
@@ -22,7 +22,6 @@ toldNameRow (name.Refused f p) = refusal (number f) 0 p
 
 abbrev pub toldMetadataRow : MetadataRowAnswer → Answer (MetadataFields × ℕ)
 toldMetadataRow (metadata.Row r n) = good (r, n)
-toldMetadataRow metadata.BadVersion = plain versionOutside
 toldMetadataRow metadata.NoSuchRow = plain noSuch
 toldMetadataRow (metadata.Refused f p) = refusal (number f) 0 p
 

@@ -7,14 +7,14 @@ use lib.Dec.{leb, eqb}
 use lib.ListN.{length}
 use Rattle.wire.specs.Read.{Read, done, refused}
 use Rattle.wire.specs.Format.{encodeItems}
-use Rattle.wire.specs.Answer.{Answer, good, refusal, plain, mapAnswer, thenAnswer, partOf, partsMisfit, noSuch}
+use Rattle.wire.specs.Answer.{Answer, good, refusal, plain, mapAnswer, thenAnswer, partsMisfit, noSuch}
 use Rattle.mapblock.specs.Data.{NameRow, Block}
 use Rattle.mapblock.specs.Layout.{all, nameRow}
 use Rattle.mapblock.specs.Block.{idAt, verdict}
 use Rattle.mapblock.specs.Numbers.{number}
 use Rattle.mapblock.specs.Rows.{part, nowhere}
 use Rattle.mapblock.specs.Valid.{Each, NameGood}
-use Rattle.mapblock.specs.Sections.{sections, namesPart, within}
+use Rattle.mapblock.specs.Sections.{sections, namesPart}
 use Rattle.mapblock.specs.declared.fault.Fault.{Fault}
 use Rattle.mapblock.specs.declared.head.Head.{Head}
 use Rattle.mapblock.specs.declared.head.Part.{Part}
@@ -54,10 +54,6 @@ abbrev pub partsOf : Answer (Head × Sections) → Sections
 partsOf (good x) = x .1
 partsOf (refusal n r o) = record { names = nowhere; metadata = nowhere; objects = nowhere; timers = nowhere }
 
--- a section as a part of the block, empty when refused
-abbrev pub sectionOf : (Sections → Part) → List ℕ → Answer (Head × Sections) → List ℕ
-sectionOf which s a = partOf (λ (x : Head × Sections). within s (which (x .1))) a
-
 -- ---- the name of a node
 -- the name that an id has in the rows
 abbrev pub nameOf : List NameRow → ℕ → List ℕ
@@ -82,10 +78,6 @@ nodeOn i a = thenAnswer a λ b. cond (leb i 4095) (good (nameSpot b i)) (plain n
 
 abbrev pub nodeOf : List ℕ → ℕ → Answer Part
 nodeOf s i = nodeOn i (blockOf s)
-
--- the very bytes in the block, empty when refused
-abbrev pub nodeNameOf : List ℕ → Answer Part → List ℕ
-nodeNameOf s a = partOf (within s) a
 
 -- bytes that are the rows of names
 pub record NameRun (s : List ℕ) (l : List NameRow) : Type 0 where

@@ -9,9 +9,7 @@ use Rattle.wire.specs.Answer.{Answer, plain, partOf, versionOutside, noSuch}
 use Rattle.mapblock.specs.Layout.{all, isVersion, nameRow, metadataRow, objectRow, timerRow}
 use Rattle.mapblock.specs.Numbers.{answerOf}
 use Rattle.mapblock.specs.Rows.{nameFields, metadataFields, objectFields, timerFields}
-use Rattle.mapblock.specs.Sections.{within}
 use Rattle.mapblock.specs.declared.fault.Fault.{Fault}
-use Rattle.mapblock.specs.declared.head.Part.{Part}
 use Rattle.mapblock.specs.declared.names.NameFields.{NameFields}
 use Rattle.mapblock.specs.declared.metadata.MetadataFields.{MetadataFields}
 use Rattle.mapblock.specs.declared.objects.ObjectFields.{ObjectFields}
@@ -34,9 +32,6 @@ objectRowOf s = frontRow s (mapRead objectFields (objectRow .read s))
 abbrev pub timerRowOf : List ℕ → Answer (TimerFields × ℕ)
 timerRowOf s = frontRow s (mapRead timerFields (timerRow [] .read s))
 
--- A run of the row, and the rows behind it, as parts of what was given; empty when refused.
-abbrev pub runOf : {A : Type 0} → (A → Part) → List ℕ → Answer (A × ℕ) → List ℕ
-runOf {A} run s a = partOf (λ (x : A × ℕ). within s (run (x .0))) a
-
+-- the rows behind it, which are handed on as what remains; none when refused
 abbrev pub rowsBehind : {A : Type 0} → List ℕ → Answer (A × ℕ) → List ℕ
 rowsBehind {A} s a = partOf (λ (x : A × ℕ). drop (x .1) s) a

@@ -4,6 +4,7 @@ use mathlib.Core.Bool.{cond}
 use mathlib.Core.List.{[]}
 use lib.ListN.{length}
 use Rattle.wire.specs.Format.{encodeItems}
+use Rattle.wire.specs.Answer.{Answer, good, refusal}
 use Rattle.mapblock.specs.Data.{NameRow, MetadataRow, ObjectRow, TimerRow}
 use Rattle.mapblock.specs.Layout.{since, before, variable}
 use Rattle.mapblock.specs.declared.head.Part.{Part}
@@ -18,6 +19,11 @@ part start n = record { start = start; length = n }
 -- of a run that the version does not have, and of what is asked of a refused block
 abbrev pub nowhere : Part
 nowhere = part 0 0
+
+-- the part that an answer tells; nowhere when refused
+abbrev pub partTold : {A : Type 0} → (A → Part) → Answer A → Part
+partTold which (good a) = which a
+partTold which (refusal n r o) = nowhere
 
 abbrev pub nameFields : NameRow → NameFields
 nameFields r = record { id = r .id; name = part 4 (length (r .name)) }

@@ -1,9 +1,12 @@
 -- Where things stand in a block: document 01, 'Reading, looking, writing'. A section is the run of a list's rows without count; the rows stand
 -- at the end of their list. A part is told by its start and its length in the caller's block.
-use Prim.Native.Nat.{ℕ, _+_, _-_, _<_}
+use Prim.Native.Nat.{ℕ, _+_, _-_, _<_, min}
+use mathlib.Core.Path.{_≡_}
 use mathlib.Core.Bool.{cond}
 use mathlib.Core.List.{List, []}
 use lib.ListN.{length, take, drop}
+use denote.Ref.{RefT, now, ptr}
+use Rattle.wire.specs.Places.{placeIn}
 use Rattle.wire.specs.Format.{encodeItems}
 use Rattle.mapblock.specs.Data.{Block}
 use Rattle.mapblock.specs.Layout.{since, all, nameRow, metadataRow, objectRow, timerRow, saved, nodes, metadata, earlyTimers, objects, lateTimers}
@@ -66,3 +69,12 @@ module _ (b : Block) where
 -- the bytes of a part
 abbrev pub within : List ℕ → Part → List ℕ
 within s p = take (p .length) (drop (p .start) s)
+
+-- where a part of s lies; one that starts past the end lies at the end
+abbrev pub placed : RefT (List ℕ) → Part → ℕ × ℕ
+placed s p = placeIn s (min (p .start) (length (now s)))
+
+-- r is the part p of s: it has the part's bytes, and lies where the part lies
+pub record IsPart (s : RefT (List ℕ)) (p : Part) (r : RefT (List ℕ)) : Type 0 where
+  pub bytes : now r ≡ within (now s) p
+  pub place : ptr r ≡ placed s p

@@ -41,6 +41,11 @@ frontRows (suc k) s = rowThen (nameRow all [] .read s) (λ n. frontRows k (drop 
 abbrev pub allRows : List ℕ → List NameRow
 allRows s = frontRows (length s) s
 
+-- the table after rows were read: their ids are marked, and on a refusal it is as it was
+abbrev pub markedBy : List ℕ → Read Fault (List NameRow) → List ℕ
+markedBy t (done l n) = marked t l
+markedBy t (refused e p) = t
+
 -- The table u after names were read from the table t: it marks their ids beside those that t marks, and can be put back.
 pub record NamesMarked (t u : List ℕ) (names : List NameRow) : Type 0 where
   pub is : u ≡ marked t names

@@ -1,7 +1,7 @@
 // What a block's reader tells beside the lists: the head, and where things stand in the block. They cross to a host as they are.
 ghost use mathlib.Core.Path.{_≡_};
 ghost use Rattle.mapblock.specs.Layout.{isVersion};
-ghost use Rattle.mapblock.specs.Sections.{within};
+ghost use Rattle.mapblock.specs.Sections.{IsPart};
 
 // The lighting of a version that carries none.
 pub const NO_LIGHTING: u16 = 65535;
@@ -47,14 +47,14 @@ pub const NO_SECTIONS: Sections = Sections {
     timers: NOWHERE,
 };
 
-// The bytes of a part; of one that reaches past the end, those that are there.
+// A part as a slice of the bytes; of one that reaches past the end, what is there.
 pub fn cut(s: &[u8], part: Part) -> &[u8]
-    ensures { λ r. ⌜ now r ≡ within (now (s .entry)) part ⌝ }
+    ensures { λ r. ⌜ IsPart (s .entry) part r ⌝ }
 {
     let start = part.start;
     let n = part.length;
-    if s.len() < start {
-        return &s[..0];
+    if s.len() <= start {
+        return &s[s.len()..];
     }
     if s.len() - start < n {
         return &s[start..];

@@ -20,7 +20,7 @@ ghost use Rattle.wire.specs.Read.{mapRead};
 ghost use Rattle.wire.specs.Format.{items};
 ghost use Rattle.mapblock.specs.Data.{NameRow};
 ghost use Rattle.mapblock.specs.Layout.{all, nameRow, unmapped, saved};
-ghost use Rattle.mapblock.specs.Table.{freeIn, Tabled, unmarked, frontRows, RowsMarked, SavedMarked};
+ghost use Rattle.mapblock.specs.Table.{freeIn, Tabled, unmarked, frontRows, markedBy, SavedMarked};
 ghost use Rattle.mapblock.specs.Rows.{nameFields};
 ghost use Rattle.mapblock.specs.Told.{toldReach, ended, toldName, toldSaved, shownSaved};
 
@@ -101,7 +101,8 @@ pub(crate) fn sized(ids: &[u8; IDS])
 // So many rows, whose ids are marked; on a refusal the table is as it was.
 pub fn name_rows(s: &[u8], count: u16, ids: &mut [u8; IDS]) -> Reach
     ensures { λ r. ⌜ toldReach r ≡ ended (items (nameRow (freeIn (now (ids .entry)))) count .read (now (s .entry))) ⌝ }
-    ensures { λ r. ⌜ RowsMarked (now (ids .entry)) (now (ids .exit)) (items (nameRow (freeIn (now (ids .entry)))) count .read (now (s .entry))) ⌝ }
+    ensures { λ _. ⌜ now (ids .exit) ≡ markedBy (now (ids .entry)) (items (nameRow (freeIn (now (ids .entry)))) count .read (now (s .entry))) ⌝ }
+    ensures { λ _. ⌜ length (now (ids .entry)) ≡ 65536 ⌝ }
 {
     sized(ids);
     let mut rest = s;

@@ -11,9 +11,10 @@ use crate::scan::Judged;
 ghost use mathlib.Core.Path.{_≡_};
 ghost use Prim.Native.Nat.{_+_, _<_};
 ghost use lib.ListN.{length};
-ghost use Rattle.mapblock.specs.Sections.{InReach};
+ghost use Rattle.mapblock.specs.Rows.{partTold};
+ghost use Rattle.mapblock.specs.Sections.{InReach, IsPart};
 ghost use Rattle.mapblock.specs.Table.{allRows};
-ghost use Rattle.mapblock.specs.Questions.{spotOf, nodeOf, nodeNameOf, toldNode};
+ghost use Rattle.mapblock.specs.Questions.{spotOf, nodeOf, toldNode};
 
 // Where the name of an id stands in the block; `names` are its rows of names, and `start` is their place.
 fn find(names: &[u8], start: usize, id: usize) -> Part
@@ -79,7 +80,7 @@ pub fn node(block: &[u8], index: usize) -> NodeAnswer
 
 // The name itself, as a part of the block; empty when refused.
 pub fn node_name(block: &[u8], index: usize) -> &[u8]
-    ensures { λ r. ⌜ now r ≡ nodeNameOf (now (block .entry)) (nodeOf (now (block .entry)) index) ⌝ }
+    ensures { λ r. ⌜ IsPart (block .entry) (partTold (λ p. p) (nodeOf (now (block .entry)) index)) r ⌝ }
 {
     match node(block, index) {
         NodeAnswer::Name(name) => cut(block, name),

@@ -19,9 +19,9 @@ ghost use Rattle.mapblock.specs.Data.{Block};
 ghost use Rattle.mapblock.specs.Layout.{all, width};
 ghost use Rattle.mapblock.specs.Block.{verdict};
 ghost use Rattle.mapblock.specs.Params.{entries};
-ghost use Rattle.mapblock.specs.Sections.{found};
+ghost use Rattle.mapblock.specs.Sections.{found, IsPart};
 ghost use Rattle.mapblock.specs.Scan.{toldScan};
-ghost use Rattle.mapblock.specs.Questions.{shown, areWhole, sectionsOf, readOf, sectionOf, partsOf, toldRead, toldSections};
+ghost use Rattle.mapblock.specs.Questions.{shown, areWhole, sectionsOf, readOf, partsOf, toldRead, toldSections};
 
 // Judges a block by itself: all ids are free.
 pub(crate) fn judge(block: &[u8]) -> Judged
@@ -148,7 +148,7 @@ fn parts(block: &[u8]) -> Sections
 
 // Each section as a part of the block, empty when refused.
 pub fn names_section(block: &[u8]) -> &[u8]
-    ensures { λ r. ⌜ now r ≡ sectionOf (λ (s : Sections). s .names) (now (block .entry)) (sectionsOf (now (block .entry))) ⌝ }
+    ensures { λ r. ⌜ IsPart (block .entry) (partsOf (sectionsOf (now (block .entry))) .names) r ⌝ }
 {
     let found = parts(block);
     let names = found.names;
@@ -156,7 +156,7 @@ pub fn names_section(block: &[u8]) -> &[u8]
 }
 
 pub fn metadata_section(block: &[u8]) -> &[u8]
-    ensures { λ r. ⌜ now r ≡ sectionOf (λ (s : Sections). s .metadata) (now (block .entry)) (sectionsOf (now (block .entry))) ⌝ }
+    ensures { λ r. ⌜ IsPart (block .entry) (partsOf (sectionsOf (now (block .entry))) .metadata) r ⌝ }
 {
     let found = parts(block);
     let metadata = found.metadata;
@@ -164,7 +164,7 @@ pub fn metadata_section(block: &[u8]) -> &[u8]
 }
 
 pub fn objects_section(block: &[u8]) -> &[u8]
-    ensures { λ r. ⌜ now r ≡ sectionOf (λ (s : Sections). s .objects) (now (block .entry)) (sectionsOf (now (block .entry))) ⌝ }
+    ensures { λ r. ⌜ IsPart (block .entry) (partsOf (sectionsOf (now (block .entry))) .objects) r ⌝ }
 {
     let found = parts(block);
     let objects = found.objects;
@@ -172,7 +172,7 @@ pub fn objects_section(block: &[u8]) -> &[u8]
 }
 
 pub fn timers_section(block: &[u8]) -> &[u8]
-    ensures { λ r. ⌜ now r ≡ sectionOf (λ (s : Sections). s .timers) (now (block .entry)) (sectionsOf (now (block .entry))) ⌝ }
+    ensures { λ r. ⌜ IsPart (block .entry) (partsOf (sectionsOf (now (block .entry))) .timers) r ⌝ }
 {
     let found = parts(block);
     let timers = found.timers;

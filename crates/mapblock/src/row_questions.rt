@@ -18,7 +18,12 @@ use crate::timers::TimerFields;
 use crate::timers::TimerRead;
 use crate::timers::timer_row;
 ghost use mathlib.Core.Path.{_≡_};
-ghost use Rattle.mapblock.specs.RowQuestions.{nameRowOf, metadataRowOf, objectRowOf, timerRowOf, runOf, rowsBehind};
+ghost use Prim.Native.Nat.{ℕ};
+ghost use denote.Ref.{ptr};
+ghost use Rattle.wire.specs.Places.{placeIn, startTold};
+ghost use Rattle.mapblock.specs.Rows.{partTold};
+ghost use Rattle.mapblock.specs.Sections.{IsPart};
+ghost use Rattle.mapblock.specs.RowQuestions.{nameRowOf, metadataRowOf, objectRowOf, timerRowOf, rowsBehind};
 ghost use Rattle.mapblock.specs.AskedRows.{toldNameRow, toldMetadataRow, toldObjectRow, toldTimerRow};
 
 // ---- names
@@ -44,7 +49,7 @@ pub fn name_row_of(part: &[u8]) -> NameRowAnswer
 
 // The name in the front row.
 pub fn name_of(part: &[u8]) -> &[u8]
-    ensures { λ r. ⌜ now r ≡ runOf (λ (f : NameFields). f .name) (now (part .entry)) (nameRowOf (now (part .entry))) ⌝ }
+    ensures { λ r. ⌜ IsPart (part .entry) (partTold (λ (x : NameFields × ℕ). x .0 .name) (nameRowOf (now (part .entry)))) r ⌝ }
 {
     match name_row_of(part) {
         NameRowAnswer::Row(row, _) => cut(part, row.name),
@@ -55,6 +60,7 @@ pub fn name_of(part: &[u8]) -> &[u8]
 // What remains behind it.
 pub fn behind_name_row(part: &[u8]) -> &[u8]
     ensures { λ r. ⌜ now r ≡ rowsBehind (now (part .entry)) (nameRowOf (now (part .entry))) ⌝ }
+    ensures { λ r. ⌜ ptr r ≡ placeIn (part .entry) (startTold (λ x. x .1) (nameRowOf (now (part .entry)))) ⌝ }
 {
     match name_row_of(part) {
         NameRowAnswer::Row(_, n) => &part[n..],
@@ -65,7 +71,6 @@ pub fn behind_name_row(part: &[u8]) -> &[u8]
 // ---- metadata
 pub enum MetadataRowAnswer {
     Row(MetadataFields, usize),
-    BadVersion,
     NoSuchRow,
     Refused(Fault, usize),
 }
@@ -75,7 +80,7 @@ pub fn metadata_row_of(version: u8, part: &[u8]) -> MetadataRowAnswer
     ensures { λ r. ⌜ toldMetadataRow r ≡ metadataRowOf version (now (part .entry)) ⌝ }
 {
     if !is_version(version) {
-        return MetadataRowAnswer::BadVersion;
+        return MetadataRowAnswer::Refused(Fault::Version, 0);
     }
     if part.len() == 0 {
         return MetadataRowAnswer::NoSuchRow;
@@ -88,7 +93,7 @@ pub fn metadata_row_of(version: u8, part: &[u8]) -> MetadataRowAnswer
 
 // The content in the front row; from version 23 on it is empty.
 pub fn metadata_content_of(version: u8, part: &[u8]) -> &[u8]
-    ensures { λ r. ⌜ now r ≡ runOf (λ (f : MetadataFields). f .content) (now (part .entry)) (metadataRowOf version (now (part .entry))) ⌝ }
+    ensures { λ r. ⌜ IsPart (part .entry) (partTold (λ (x : MetadataFields × ℕ). x .0 .content) (metadataRowOf version (now (part .entry)))) r ⌝ }
 {
     match metadata_row_of(version, part) {
         MetadataRowAnswer::Row(row, _) => cut(part, row.content),
@@ -98,7 +103,7 @@ pub fn metadata_content_of(version: u8, part: &[u8]) -> &[u8]
 
 // The variables in the front row; in version 22 they are empty.
 pub fn metadata_variables_of(version: u8, part: &[u8]) -> &[u8]
-    ensures { λ r. ⌜ now r ≡ runOf (λ (f : MetadataFields). f .rows) (now (part .entry)) (metadataRowOf version (now (part .entry))) ⌝ }
+    ensures { λ r. ⌜ IsPart (part .entry) (partTold (λ (x : MetadataFields × ℕ). x .0 .rows) (metadataRowOf version (now (part .entry)))) r ⌝ }
 {
     match metadata_row_of(version, part) {
         MetadataRowAnswer::Row(row, _) => cut(part, row.rows),
@@ -108,7 +113,7 @@ pub fn metadata_variables_of(version: u8, part: &[u8]) -> &[u8]
 
 // The inventory in the front row; in version 22 it is empty.
 pub fn metadata_inventory_of(version: u8, part: &[u8]) -> &[u8]
-    ensures { λ r. ⌜ now r ≡ runOf (λ (f : MetadataFields). f .inventory) (now (part .entry)) (metadataRowOf version (now (part .entry))) ⌝ }
+    ensures { λ r. ⌜ IsPart (part .entry) (partTold (λ (x : MetadataFields × ℕ). x .0 .inventory) (metadataRowOf version (now (part .entry)))) r ⌝ }
 {
     match metadata_row_of(version, part) {
         MetadataRowAnswer::Row(row, _) => cut(part, row.inventory),
@@ -119,6 +124,7 @@ pub fn metadata_inventory_of(version: u8, part: &[u8]) -> &[u8]
 // What remains behind it.
 pub fn behind_metadata_row(version: u8, part: &[u8]) -> &[u8]
     ensures { λ r. ⌜ now r ≡ rowsBehind (now (part .entry)) (metadataRowOf version (now (part .entry))) ⌝ }
+    ensures { λ r. ⌜ ptr r ≡ placeIn (part .entry) (startTold (λ x. x .1) (metadataRowOf version (now (part .entry)))) ⌝ }
 {
     match metadata_row_of(version, part) {
         MetadataRowAnswer::Row(_, n) => &part[n..],
@@ -148,7 +154,7 @@ pub fn object_row_of(part: &[u8]) -> ObjectRowAnswer
 
 // The content in the front row.
 pub fn object_content_of(part: &[u8]) -> &[u8]
-    ensures { λ r. ⌜ now r ≡ runOf (λ (f : ObjectFields). f .content) (now (part .entry)) (objectRowOf (now (part .entry))) ⌝ }
+    ensures { λ r. ⌜ IsPart (part .entry) (partTold (λ (x : ObjectFields × ℕ). x .0 .content) (objectRowOf (now (part .entry)))) r ⌝ }
 {
     match object_row_of(part) {
         ObjectRowAnswer::Row(row, _) => cut(part, row.content),
@@ -159,6 +165,7 @@ pub fn object_content_of(part: &[u8]) -> &[u8]
 // What remains behind it.
 pub fn behind_object_row(part: &[u8]) -> &[u8]
     ensures { λ r. ⌜ now r ≡ rowsBehind (now (part .entry)) (objectRowOf (now (part .entry))) ⌝ }
+    ensures { λ r. ⌜ ptr r ≡ placeIn (part .entry) (startTold (λ x. x .1) (objectRowOf (now (part .entry)))) ⌝ }
 {
     match object_row_of(part) {
         ObjectRowAnswer::Row(_, n) => &part[n..],
@@ -189,6 +196,7 @@ pub fn timer_row_of(part: &[u8]) -> TimerRowAnswer
 // What remains behind it.
 pub fn behind_timer_row(part: &[u8]) -> &[u8]
     ensures { λ r. ⌜ now r ≡ rowsBehind (now (part .entry)) (timerRowOf (now (part .entry))) ⌝ }
+    ensures { λ r. ⌜ ptr r ≡ placeIn (part .entry) (startTold (λ x. x .1) (timerRowOf (now (part .entry)))) ⌝ }
 {
     match timer_row_of(part) {
         TimerRowAnswer::Row(_, n) => &part[n..],

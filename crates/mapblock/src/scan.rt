@@ -208,13 +208,13 @@ pub enum Judged {
 }
 
 // The rows of a list: they stand behind its head.
-fn rows_of(at: usize, head: usize, length: usize) -> Part
-    requires { ⌜ (head ≤ length) × InReach (at + length) ⌝ }
-    ensures { λ r. ⌜ r ≡ part (at + head) (length - head) ⌝ }
+fn rows_of(at: usize, head: usize, size: usize) -> Part
+    requires { ⌜ (head ≤ size) × InReach (at + size) ⌝ }
+    ensures { λ r. ⌜ r ≡ part (at + head) (size - head) ⌝ }
 {
     Part {
         start: at + head,
-        length: length - head,
+        length: size - head,
     }
 }
 

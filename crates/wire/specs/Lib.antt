@@ -1,5 +1,6 @@
 -- What is promised: the language of formats, and what the leaves do.
 pub mod Answer
+pub mod Places
 pub mod Read
 pub mod Format
 pub mod Formats

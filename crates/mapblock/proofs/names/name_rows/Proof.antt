@@ -1,5 +1,6 @@
 use Rattle.mapblock.proofs.names.name_rows.Statement.{statement}
 use Rattle.mapblock.proofs.NameLoop.{Named, named-start, named-inside, named-place, named-front, named-end, named-refused, named-on}
+use Rattle.mapblock.proofs.NamesMarked.{told-marked}
 use Rattle.mapblock.specs.Told.{toldName}
 use Rattle.mapblock.specs.Table.{freeIn}
 use native.Mathlib.Omega.{arith}
@@ -41,7 +42,8 @@ add-t19 c =
 returns : tie.Need-returns Inv-loop μ-loop
 returns c =
     let l = c .before .before .before .before .before .before .before .before .loop in
-    named-refused (l .inv) (c .before .before .before .before .before .before .before .loop-test .taken) (sym (ap toldName (c .before .before .before .f .given .1)) ∙ c .before .before .before .before .before .new-name-row .ensures (freeIn (now (c .before .before .before .before .before .before .before .before .before .before .before .before .args .ids))) (l .inv .seen) (l .inv .tabled)) (c .unmark .ensures ∙ named-front (l .inv))
+    let a = c .before .before .before .before .before .before .before .before .before .before .before .before .args in
+    told-marked (now (a .ids)) (now (a .s)) (a .count) (l .inv .whole) (named-refused (l .inv) (c .before .before .before .before .before .before .before .loop-test .taken) (sym (ap toldName (c .before .before .before .f .given .1)) ∙ c .before .before .before .before .before .new-name-row .ensures (freeIn (now (c .before .before .before .before .before .before .before .before .before .before .before .before .args .ids))) (l .inv .seen) (l .inv .tabled)) (c .unmark .ensures ∙ named-front (l .inv)))
 
 enum-known-row : tie.Need-enum-known-row Inv-loop μ-loop
 enum-known-row c = search needs
@@ -82,7 +84,7 @@ loop-again c =
     named-on (l .inv) (c .before .before .before .before .before .before .before .loop-test .taken) (sym (ap toldName (c .before .before .before .row .given .1)) ∙ c .before .before .before .before .before .new-name-row .ensures (freeIn (now (c .before .before .before .before .before .before .before .before .before .before .before .before .args .ids))) (l .inv .seen) (l .inv .tabled)) (search needs)
 
 returns-2 : tie.Need-returns-2 Inv-loop μ-loop
-returns-2 c = named-end (c .before .loop .inv) (c .loop-test .left)
+returns-2 c = let a = c .before .before .before .before .before .args in told-marked (now (a .ids)) (now (a .s)) (a .count) (c .before .loop .inv .whole) (named-end (c .before .loop .inv) (c .loop-test .left))
 
 pub name-rows-spec : {M : Type 1} → statement M
 name-rows-spec =

@@ -5,10 +5,12 @@ use Rattle.mapblock.proofs.SavedLists.{saved-no-time, saved-no-version,
 use Rattle.mapblock.proofs.Readings.{num, within-ended}
 use Rattle.mapblock.proofs.Leaves.{by-number, read-behind}
 use Rattle.mapblock.specs.Told.{toldReach}
-use Rattle.mapblock.specs.Table.{freeIn}
+use Rattle.mapblock.specs.Table.{freeIn, RowsMarked}
 use Rattle.mapblock.specs.Layout.{nameRow}
 use Rattle.wire.specs.Told.{toldU8, toldU16, toldU32}
 use Rattle.wire.specs.Format.{items}
+use Rattle.wire.specs.Bytes.{bytes-drop}
+use Rattle.mapblock.proofs.NamesMarked.{marked-rows}
 use Rattle.wire.specs.Lists.{rest-is}
 use Rattle.wire.specs.Read.{done}
 use lib.ListN.{drop}
@@ -106,17 +108,25 @@ add-t25 c =
     let e = rw (rest-is 7 s) at (c .before .before .before .name-rows .ensures .0) in
     omega (arith, length-drop 7 s, read-behind (num 2) 5 s (count-is (c .before .before .before .before .before .before .before)) (lit< tt), within-ended (items (nameRow (freeIn t)) (c .before .before .before .before .before .before .before .count .given .0 .0)) (drop 7 s) (sym (ap toldReach (c .before .n .given .1)) ∙ e))
 
+-- the table after the rows
+marks : (c : tie.After-name-rows) → let a = c .before .before .before .before .before .before .before .before .before .before .before .before .before .before .before .before .before .args in
+    RowsMarked (now (a .ids)) (c .name-rows .last .1 .1 .0) (items (nameRow (freeIn (now (a .ids)))) (c .before .before .before .before .count .given .0 .0) .read (drop 7 (now (a .s))))
+marks c =
+    let a = c .before .before .before .before .before .before .before .before .before .before .before .before .before .before .before .before .before .args in
+    let e = rw (rest-is 7 (now (a .s))) at (c .name-rows .ensures) in
+    marked-rows (now (a .ids)) (drop 7 (now (a .s))) _ (e .1 .1) (bytes-drop 7 (now (a .s)) (λ i. c .before .before .before .before .before .before .before .before .before .before .before .before .before .before .before .before .shared-slice-known .given i .fits)) (e .1 .0)
+
 returns-5 : tie.Need-returns-5
 returns-5 c =
     let a = c .before .before .before .before .before .before .before .before .before .before .before .before .before .before .before .before .before .before .before .before .args in
     let e = rw (rest-is 7 (now (a .s))) at (c .before .before .before .name-rows .ensures) in
-    told-no-rows (now (a .ids)) (now (a .s)) (time-is (c .before .before .before .before .before .before .before .before .before .before .before .before .before .before .before .before)) (zero-is (c .before .before .before .before .before .before .before .before .before .before)) (count-is (c .before .before .before .before .before .before .before)) (c .before .before .before .name-rows .last .1 .1 .0) (sym (ap toldReach (c .before .f .given .1)) ∙ e .0) (e .1)
+    told-no-rows (now (a .ids)) (now (a .s)) (time-is (c .before .before .before .before .before .before .before .before .before .before .before .before .before .before .before .before)) (zero-is (c .before .before .before .before .before .before .before .before .before .before)) (count-is (c .before .before .before .before .before .before .before)) (c .before .before .before .name-rows .last .1 .1 .0) (sym (ap toldReach (c .before .f .given .1)) ∙ e .0) (marks (c .before .before .before))
 
 returns-6 : tie.Need-returns-6
 returns-6 c =
     let a = c .before .before .before .before .before .before .before .before .before .before .before .before .before .before .before .before .before .before .before .before .args in
     let e = rw (rest-is 7 (now (a .s))) at (c .before .before .before .name-rows .ensures) in
-    told-rows (now (a .ids)) (now (a .s)) (time-is (c .before .before .before .before .before .before .before .before .before .before .before .before .before .before .before .before)) (zero-is (c .before .before .before .before .before .before .before .before .before .before)) (count-is (c .before .before .before .before .before .before .before)) (c .before .before .before .name-rows .last .1 .1 .0) (sym (ap toldReach (c .before .n .given .1)) ∙ e .0) (e .1)
+    told-rows (now (a .ids)) (now (a .s)) (time-is (c .before .before .before .before .before .before .before .before .before .before .before .before .before .before .before .before)) (zero-is (c .before .before .before .before .before .before .before .before .before .before)) (count-is (c .before .before .before .before .before .before .before)) (c .before .before .before .name-rows .last .1 .1 .0) (sym (ap toldReach (c .before .n .given .1)) ∙ e .0) (marks (c .before .before .before))
 
 pub saved-spec : {M : Type 1} → statement M
 saved-spec =

@@ -60,7 +60,7 @@ cut-requires c κs = search needs
 find-requires : tie.Need-find-requires
 find-requires c κs =
     let k = c .before .before .before .before .before .before .before .before in
-    rw (c .cut .ensures, within-length (now (k .before .before .before .before .args .block)) (k .found .given .0 .0 .sections .names) (parts-are k .names)) (omega (arith, parts-are k .names))
+    rw (c .cut .ensures .bytes, within-length (now (k .before .before .before .before .args .block)) (k .found .given .0 .0 .sections .names) (parts-are k .names)) (omega (arith, parts-are k .names))
 
 returns-2 : tie.Need-returns-2
 returns-2 c =
@@ -69,7 +69,7 @@ returns-2 c =
 returns-3 : tie.Need-returns-3
 returns-3 c =
     let k = c .before .before .before .before .before .before .before .before .before in
-    node-told (block-is k) (bytes k) (k .before .before .before .before .args .index) (omega arith) (c .before .before .id-of .ensures ∙ id-there (k .found .given .0 .0 .head .version) _ (k .before .before .before .before .args .index) (omega arith) (lists-long k)) (spot-in (block-is k) (bytes k) _ _ (c .before .cut .ensures) (c .find .ensures))
+    node-told (block-is k) (bytes k) (k .before .before .before .before .args .index) (omega arith) (c .before .before .id-of .ensures ∙ id-there (k .found .given .0 .0 .head .version) _ (k .before .before .before .before .args .index) (omega arith) (lists-long k)) (spot-in (block-is k) (bytes k) _ _ (c .before .cut .ensures .bytes) (c .find .ensures))
 
 pub node-spec : {M : Type 1} → statement M
 node-spec =

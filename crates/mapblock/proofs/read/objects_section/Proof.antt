@@ -1,7 +1,7 @@
 use borrow.Author.Needs.{needs}
-use mathlib.Core.Path.{refl}
+use mathlib.Core.Path.{subst}
+use Rattle.mapblock.specs.Sections.{IsPart}
 use Rattle.mapblock.specs.declared.head.Sections.{Sections}
-use Rattle.mapblock.proofs.BlockAnswers.{section-told}
 use Rattle.mapblock.proofs.read.objects_section.Statement.{statement}
 use Rattle.mapblock.proofs.read.objects_section.Tie as tie
 
@@ -12,7 +12,7 @@ cut-requires : tie.Need-cut-requires
 cut-requires c κs = search needs
 
 returns : tie.Need-returns
-returns c = section-told _ (λ (x : Sections). x .objects) refl (c .cut .ensures) (c .before .before .parts .ensures)
+returns c = subst (λ (x : Sections). IsPart (c .before .before .before .before .args .block) (x .objects) (c .cut .result)) (c .before .before .parts .ensures) (c .cut .ensures)
 
 pub objects-section-spec : {M : Type 1} → statement M
 objects-section-spec = tie.close (tie.spec parts-requires cut-requires returns)

@@ -7,7 +7,7 @@ use denote.Ref.{now}
 use Rattle.mapblock.specs.Layout.{metadataRow}
 use Rattle.mapblock.specs.Rows.{metadataFields}
 use Rattle.mapblock.specs.AskedRows.{toldMetadataRow}
-use Rattle.mapblock.proofs.AskedParts.{empty-behind, no-metadata, row-fits, behind-told, version-was}
+use Rattle.mapblock.proofs.AskedParts.{none-behind, no-metadata, row-fits, behind-told, version-was}
 use Rattle.mapblock.proofs.row_questions.behind_metadata_row.Statement.{statement}
 use Rattle.mapblock.proofs.row_questions.behind_metadata_row.Tie as tie
 
@@ -37,10 +37,10 @@ slice-aggregate-result : tie.Need-slice-aggregate-result
 slice-aggregate-result c = search needs
 
 returns : tie.Need-returns
-returns c = behind-told (now (c .before .before .before .before .before .before .args .part)) (sym (ap toldMetadataRow (c .before .before .n .given .1)) ∙ c .before .before .before .before .metadata-row-of .ensures)
+returns c = behind-told (c .before .before .before .before .before .before .args .part) (sym (ap toldMetadataRow (c .before .before .n .given .1)) ∙ c .before .before .before .before .metadata-row-of .ensures)
 
 returns-2 : tie.Need-returns-2
-returns-2 c = let r = c .before .before .metadata-row-of in empty-behind (now (c .before .before .before .before .args .part)) (toldMetadataRow (r .result)) (r .ensures) (no-metadata (r .result) (c .before .match .keys2))
+returns-2 c = let r = c .before .before .metadata-row-of in none-behind (c .before .before .before .before .args .part) (toldMetadataRow (r .result)) (r .ensures) (no-metadata (r .result) (c .before .match .keys2))
 
 pub behind-metadata-row-spec : {M : Type 1} → statement M
 behind-metadata-row-spec =

@@ -7,7 +7,7 @@ use denote.Ref.{now}
 use Rattle.mapblock.specs.Layout.{all, nameRow}
 use Rattle.mapblock.specs.Rows.{nameFields}
 use Rattle.mapblock.specs.AskedRows.{toldNameRow}
-use Rattle.mapblock.proofs.AskedParts.{empty-behind, no-name, row-fits, behind-told}
+use Rattle.mapblock.proofs.AskedParts.{none-behind, no-name, row-fits, behind-told}
 use Rattle.mapblock.proofs.row_questions.behind_name_row.Statement.{statement}
 use Rattle.mapblock.proofs.row_questions.behind_name_row.Tie as tie
 
@@ -34,10 +34,10 @@ slice-aggregate-result : tie.Need-slice-aggregate-result
 slice-aggregate-result c = search needs
 
 returns : tie.Need-returns
-returns c = behind-told (now (c .before .before .before .before .before .before .args .part)) (sym (ap toldNameRow (c .before .before .n .given .1)) ∙ c .before .before .before .before .name-row-of .ensures)
+returns c = behind-told (c .before .before .before .before .before .before .args .part) (sym (ap toldNameRow (c .before .before .n .given .1)) ∙ c .before .before .before .before .name-row-of .ensures)
 
 returns-2 : tie.Need-returns-2
-returns-2 c = let r = c .before .before .name-row-of in empty-behind (now (c .before .before .before .before .args .part)) (toldNameRow (r .result)) (r .ensures) (no-name (r .result) (c .before .match .keys2))
+returns-2 c = let r = c .before .before .name-row-of in none-behind (c .before .before .before .before .args .part) (toldNameRow (r .result)) (r .ensures) (no-name (r .result) (c .before .match .keys2))
 
 pub behind-name-row-spec : {M : Type 1} → statement M
 behind-name-row-spec =

@@ -6,7 +6,7 @@ use denote.Ref.{now}
 use Rattle.mapblock.specs.Layout.{objectRow}
 use Rattle.mapblock.specs.Rows.{objectFields}
 use Rattle.mapblock.specs.AskedRows.{toldObjectRow}
-use Rattle.mapblock.proofs.AskedParts.{empty-behind, no-object, row-fits, behind-told}
+use Rattle.mapblock.proofs.AskedParts.{none-behind, no-object, row-fits, behind-told}
 use Rattle.mapblock.proofs.row_questions.behind_object_row.Statement.{statement}
 use Rattle.mapblock.proofs.row_questions.behind_object_row.Tie as tie
 
@@ -33,10 +33,10 @@ slice-aggregate-result : tie.Need-slice-aggregate-result
 slice-aggregate-result c = search needs
 
 returns : tie.Need-returns
-returns c = behind-told (now (c .before .before .before .before .before .before .args .part)) (sym (ap toldObjectRow (c .before .before .n .given .1)) ∙ c .before .before .before .before .object-row-of .ensures)
+returns c = behind-told (c .before .before .before .before .before .before .args .part) (sym (ap toldObjectRow (c .before .before .n .given .1)) ∙ c .before .before .before .before .object-row-of .ensures)
 
 returns-2 : tie.Need-returns-2
-returns-2 c = let r = c .before .before .object-row-of in empty-behind (now (c .before .before .before .before .args .part)) (toldObjectRow (r .result)) (r .ensures) (no-object (r .result) (c .before .match .keys2))
+returns-2 c = let r = c .before .before .object-row-of in none-behind (c .before .before .before .before .args .part) (toldObjectRow (r .result)) (r .ensures) (no-object (r .result) (c .before .match .keys2))
 
 pub behind-object-row-spec : {M : Type 1} → statement M
 behind-object-row-spec =

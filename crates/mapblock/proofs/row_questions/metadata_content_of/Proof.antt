@@ -1,10 +1,9 @@
 use borrow.Author.Needs.{needs}
-use mathlib.Core.Path.{ap, sym, _∙_}
-use denote.Ref.{now}
-use Rattle.mapblock.specs.RowQuestions.{runOf}
+use Prim.Native.Nat.{ℕ}
+use mathlib.Core.Path.{refl, ap, sym, _∙_}
 use Rattle.mapblock.specs.AskedRows.{toldMetadataRow}
 use Rattle.mapblock.specs.declared.metadata.MetadataFields.{MetadataFields}
-use Rattle.mapblock.proofs.AskedParts.{empty-run, no-metadata}
+use Rattle.mapblock.proofs.AskedParts.{part-told, none-told, no-metadata}
 use Rattle.mapblock.proofs.row_questions.metadata_content_of.Statement.{statement}
 use Rattle.mapblock.proofs.row_questions.metadata_content_of.Tie as tie
 
@@ -21,10 +20,10 @@ slice-aggregate-result : tie.Need-slice-aggregate-result
 slice-aggregate-result c = search needs
 
 returns : tie.Need-returns
-returns c = c .cut .ensures ∙ ap (runOf (λ (f : MetadataFields). f .content) (now (c .before .before .before .before .before .before .args .part))) (sym (ap toldMetadataRow (c .before .before .row .given .1)) ∙ c .before .before .before .before .metadata-row-of .ensures)
+returns c = part-told (c .before .before .before .before .before .before .args .part) (λ (x : MetadataFields × ℕ). x .0 .content) (sym (ap toldMetadataRow (c .before .before .row .given .1)) ∙ c .before .before .before .before .metadata-row-of .ensures) (c .cut .ensures)
 
 returns-2 : tie.Need-returns-2
-returns-2 c = let r = c .before .before .metadata-row-of in empty-run (now (c .before .before .before .before .args .part)) (λ (f : MetadataFields). f .content) (toldMetadataRow (r .result)) (r .ensures) (no-metadata (r .result) (c .before .match .keys2))
+returns-2 c = let r = c .before .before .metadata-row-of in none-told (c .before .before .before .before .args .part) (λ (x : MetadataFields × ℕ). x .0 .content) (toldMetadataRow (r .result)) _ (r .ensures) (no-metadata (r .result) (c .before .match .keys2)) refl refl
 
 pub metadata-content-of-spec : {M : Type 1} → statement M
 metadata-content-of-spec = tie.close (tie.spec metadata-row-of-requires enum-known-row cut-requires slice-aggregate-result returns returns-2)

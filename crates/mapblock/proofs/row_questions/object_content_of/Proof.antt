@@ -1,10 +1,9 @@
 use borrow.Author.Needs.{needs}
-use mathlib.Core.Path.{ap, sym, _∙_}
-use denote.Ref.{now}
-use Rattle.mapblock.specs.RowQuestions.{runOf}
+use Prim.Native.Nat.{ℕ}
+use mathlib.Core.Path.{refl, ap, sym, _∙_}
 use Rattle.mapblock.specs.AskedRows.{toldObjectRow}
 use Rattle.mapblock.specs.declared.objects.ObjectFields.{ObjectFields}
-use Rattle.mapblock.proofs.AskedParts.{empty-run, no-object}
+use Rattle.mapblock.proofs.AskedParts.{part-told, none-told, no-object}
 use Rattle.mapblock.proofs.row_questions.object_content_of.Statement.{statement}
 use Rattle.mapblock.proofs.row_questions.object_content_of.Tie as tie
 
@@ -21,10 +20,10 @@ slice-aggregate-result : tie.Need-slice-aggregate-result
 slice-aggregate-result c = search needs
 
 returns : tie.Need-returns
-returns c = c .cut .ensures ∙ ap (runOf (λ (f : ObjectFields). f .content) (now (c .before .before .before .before .before .before .args .part))) (sym (ap toldObjectRow (c .before .before .row .given .1)) ∙ c .before .before .before .before .object-row-of .ensures)
+returns c = part-told (c .before .before .before .before .before .before .args .part) (λ (x : ObjectFields × ℕ). x .0 .content) (sym (ap toldObjectRow (c .before .before .row .given .1)) ∙ c .before .before .before .before .object-row-of .ensures) (c .cut .ensures)
 
 returns-2 : tie.Need-returns-2
-returns-2 c = let r = c .before .before .object-row-of in empty-run (now (c .before .before .before .before .args .part)) (λ (f : ObjectFields). f .content) (toldObjectRow (r .result)) (r .ensures) (no-object (r .result) (c .before .match .keys2))
+returns-2 c = let r = c .before .before .object-row-of in none-told (c .before .before .before .before .args .part) (λ (x : ObjectFields × ℕ). x .0 .content) (toldObjectRow (r .result)) _ (r .ensures) (no-object (r .result) (c .before .match .keys2)) refl refl
 
 pub object-content-of-spec : {M : Type 1} → statement M
 object-content-of-spec = tie.close (tie.spec object-row-of-requires enum-known-row cut-requires slice-aggregate-result returns returns-2)
