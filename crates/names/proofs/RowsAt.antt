@@ -1,9 +1,10 @@
 -- The row at a place, by what was read there.
-use Prim.Native.Nat.{ℕ, _-_, _<_}
+use Prim.Native.Nat.{ℕ, _+_, _-_, _<_, _≤_, min}
 use mathlib.Core.Path.{_≡_, refl, ap, sym, _∙_}
 use mathlib.Core.List.{List, [], _++_, append-assoc}
+use native.Mathlib.Nat.{min-eq-left}
 use native.Mathlib.Omega.{arith}
-use lib.ListN.{length, take, drop, drop-of-length-le}
+use lib.ListN.{length, take, drop, drop-of-length-le, length-append}
 use lib.Seq.{take-at, drop-at}
 use Rattle.wire.specs.Lists.{rest-is}
 use Rattle.wire.specs.Bytes.{Bytes, bytes-drop}
@@ -15,11 +16,15 @@ use Rattle.mapblock.specs.Sections.{within}
 use Rattle.mapblock.specs.declared.fault.Fault.{Fault}
 use Rattle.mapblock.specs.declared.names.NameFields.{NameFields}
 use Rattle.mapblock.proofs.NameWalks.{rowHead, head-length, row-bytes, nothing-there}
-use Rattle.names.specs.Places.{rowRead, rowAt}
+use Rattle.names.specs.Places.{rowRead, rowAt, nameStart, nameStartAt}
 
 pub row-beyond : (s : List ℕ) (p : ℕ) → length s < p → rowAt s p ≡ record { id = 0; name = [] }
 unfolding rowAt
 row-beyond s p h = rw (drop-of-length-le s {i = p} (omega arith), nothing-there)
+
+pub start-beyond : (s : List ℕ) (p : ℕ) → length s < p → 0 ≡ nameStartAt s p
+unfolding nameStartAt
+start-beyond s p h = rw (drop-of-length-le s {i = p} (omega arith), nothing-there)
 
 module _ (s : List ℕ) (p : ℕ) where
   -- the bytes from a place on, as code has them
@@ -33,6 +38,10 @@ module _ (s : List ℕ) (p : ℕ) where
     pub row-refused : rowAt s p ≡ record { id = 0; name = [] }
     unfolding rowAt
     row-refused = ap rowRead (map-refused nameFields (nameRow all [] .read (drop p s)) e q (sym (h ∙ ap (λ (l : List ℕ). mapRead nameFields (nameRow all [] .read l)) from-is)))
+
+    pub start-refused : 0 ≡ nameStartAt s p
+    unfolding nameStartAt
+    start-refused = sym (ap (nameStart p) (map-refused nameFields (nameRow all [] .read (drop p s)) e q (sym (h ∙ ap (λ (l : List ℕ). mapRead nameFields (nameRow all [] .read l)) from-is))))
 
   module _ {row : NameFields} {n : ℕ} (h : done row n ≡ mapRead nameFields (nameRow all [] .read from)) where
     reads : (r : NameRow) × (nameRow all [] .read (drop p s) ≡ done r n) × (nameFields r ≡ row)
@@ -54,3 +63,16 @@ module _ (s : List ℕ) (p : ℕ) where
         ap (λ (f : NameFields). within from (f .name)) (sym (reads .2)) ∙ ap (λ (l : List ℕ). take (length (r .name)) (drop 4 l)) (from-is ∙ bytes)
         ∙ ap (take (length (r .name))) (drop-at (rowHead r) (r .name ++ drop n (drop p s)) 4 (head-length r))
         ∙ take-at (r .name) (drop n (drop p s)) (length (r .name)) refl ∙ sym (ap (λ (r : NameRow). r .name) is)
+
+    -- and there it starts, of bytes that lie at o in what they are lent from
+    pub row-start : (a o : ℕ) → Bytes s → _≡_ {A = ℕ × ℕ} (a, (p + o) + min (row .name .start) (length from)) (a, o + nameStartAt s p)
+    unfolding nameStartAt
+    row-start a o b =
+        let r = reads .0 in
+        let t = nameRow all [] .backward (drop p s) r n (bytes-drop p s b) (reads .1) in
+        let long : 4 ≤ length from = rw (from-is, t .front, row-bytes [] r, length-append, length-append, head-length r) (omega arith) in
+        let four : row .name .start ≡ 4 = sym (ap (λ (f : NameFields). f .name .start) (reads .2)) in
+        let least : min (row .name .start) (length from) ≡ 4 = rw four (min-eq-left long) in
+        let there : nameStart p (nameRow all [] .read (drop p s)) ≡ p + 4 = ap (nameStart p) (reads .1) in
+        let e : (p + o) + min (row .name .start) (length from) ≡ o + nameStart p (nameRow all [] .read (drop p s)) = omega (arith, least, there) in
+        ap (λ (x : ℕ). (a, x)) e

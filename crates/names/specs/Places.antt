@@ -1,5 +1,5 @@
 -- The names of a block by places: a place is where a row stands in the section of names.
-use Prim.Native.Nat.{ℕ}
+use Prim.Native.Nat.{ℕ, _+_}
 use mathlib.Core.List.{List, [], _∷_}
 use lib.ListN.{getD, drop}
 use Rattle.wire.specs.Read.{Read, done, refused}
@@ -17,6 +17,15 @@ rowRead (refused e p) = record { id = 0; name = [] }
 -- the row at a place
 unfoldable pub rowAt : List ℕ → ℕ → NameRow
 rowAt s p = rowRead (nameRow all [] .read (drop p s))
+
+-- how far behind the first byte the name in the row at a place starts, which was read there: behind its id and its length; at the first byte
+-- where no row stands there
+abbrev pub nameStart : ℕ → Read Fault NameRow → ℕ
+nameStart p (done r n) = p + 4
+nameStart p (refused e q) = 0
+
+unfoldable pub nameStartAt : List ℕ → ℕ → ℕ
+nameStartAt s p = nameStart p (nameRow all [] .read (drop p s))
 
 -- what the counters tell of its id
 abbrev pub countAt : List ℕ → List ℕ → ℕ → ℕ

@@ -5,11 +5,14 @@ use mapblock::names::name_row;
 use mapblock::nodes::IDS;
 ghost use mathlib.Core.Path.{_≡_};
 ghost use Prim.Native.Nat.{_<_};
-ghost use Rattle.names.specs.Places.{rowAt, countAt};
+ghost use denote.Ref.{ptr};
+ghost use Rattle.wire.specs.Places.{placeIn};
+ghost use Rattle.names.specs.Places.{rowAt, nameStartAt, countAt};
 
 // The name in the row at a place, empty where none stands there.
 pub fn name_at(s: &[u8], p: usize) -> &[u8]
     ensures { λ r. ⌜ now r ≡ rowAt (now (s .entry)) p .name ⌝ }
+    ensures { λ r. ⌜ ptr r ≡ placeIn (s .entry) (nameStartAt (now (s .entry)) p) ⌝ }
 {
     if s.len() < p {
         return &s[..0];

@@ -95,11 +95,12 @@ fn sort_halves(s: &[u8], places: &mut [usize], scratch: &mut [usize])
 }
 
 // Puts places in the order of the names that stand there; they stay as they are where the scratch is shorter. Places of one name may change
-// among themselves, since their counts are added up; what `scratch` holds afterwards is open: it is a table to work in.
+// among themselves, since their counts are added up. `scratch` is a table to work in: it keeps its length, and what it holds afterwards is open.
 pub fn sort(s: &[u8], places: &mut [usize], scratch: &mut [usize])
     ensures { λ _. ⌜ length (now (places .exit)) ≡ length (now (places .entry)) ⌝ }
     ensures { λ _. ⌜ (length (now (places .entry)) ≤ length (now (scratch .entry)) → Arranged (now (s .entry)) (now (places .entry)) (now (places .exit))) ⌝ }
     ensures { λ _. ⌜ (length (now (scratch .entry)) < length (now (places .entry)) → now (places .exit) ≡ now (places .entry)) ⌝ }
+    ensures { λ _. ⌜ length (now (scratch .exit)) ≡ length (now (scratch .entry)) ⌝ }
 {
     if scratch.len() < places.len() {
         return;

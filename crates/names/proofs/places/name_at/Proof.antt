@@ -3,7 +3,10 @@ use mathlib.Core.Path.{ap, sym, _∙_}
 use Rattle.wire.proofs.Steps.{told-as}
 use Rattle.mapblock.specs.Data.{NameRow}
 use Rattle.mapblock.specs.Told.{toldName}
-use Rattle.names.proofs.RowsAt.{row-beyond, row-refused, row-name}
+use Rattle.wire.specs.Bytes.{Bytes}
+use Rattle.wire.specs.Places.{place-first}
+use denote.Ref.{now, ptr}
+use Rattle.names.proofs.RowsAt.{row-beyond, start-beyond, row-refused, start-refused, row-name, row-start}
 use Rattle.names.proofs.places.name_at.Statement.{statement}
 use Rattle.names.proofs.places.name_at.Tie as tie
 
@@ -11,7 +14,9 @@ slice-aggregate-result : tie.Need-slice-aggregate-result
 slice-aggregate-result c = search needs
 
 returns : tie.Need-returns
-returns c = ap (λ (r : NameRow). r .name) (sym (row-beyond _ _ (c .before .if1 .taken)))
+returns c =
+    let a = c .before .before .before .args in
+    (ap (λ (r : NameRow). r .name) (sym (row-beyond _ _ (c .before .if1 .taken))), place-first (a .s) (start-beyond (now (a .s)) (a .p) (c .before .if1 .taken)))
 
 sub-rest : tie.Need-sub-rest
 sub-rest c = search needs
@@ -38,10 +43,17 @@ cut-requires : tie.Need-cut-requires
 cut-requires c κs = search needs
 
 returns-2 : tie.Need-returns-2
-returns-2 c = ap (λ (r : NameRow). r .name) (sym (row-refused _ _ (told-as toldName (c .before .before .before .name-row .ensures) (c .before .enum-told .given .1))))
+returns-2 c =
+    let a = c .before .before .before .before .before .before .before .args in
+    let told = told-as toldName (c .before .before .before .name-row .ensures) (c .before .enum-told .given .1) in
+    (ap (λ (r : NameRow). r .name) (sym (row-refused _ _ told)), place-first (a .s) (start-refused (now (a .s)) (a .p) told))
 
 returns-3 : tie.Need-returns-3
-returns-3 c = c .cut .ensures ∙ row-name _ _ (told-as toldName (c .before .before .before .before .name-row .ensures) (c .before .before .row .given .1)) (λ i. c .before .before .before .before .before .before .before .shared-slice-known .given i .fits)
+returns-3 c =
+    let a = c .before .before .before .before .before .before .before .before .args in
+    let told = told-as toldName (c .before .before .before .before .name-row .ensures) (c .before .before .row .given .1) in
+    let bytes : Bytes (now (a .s)) = λ i. c .before .before .before .before .before .before .before .shared-slice-known .given i .fits in
+    (c .cut .ensures .bytes ∙ row-name _ _ told bytes, c .cut .ensures .place ∙ row-start (now (a .s)) (a .p) told (ptr (a .s) .0) (ptr (a .s) .1) bytes)
 
 pub name-at-spec : {M : Type 1} → statement M
 name-at-spec =

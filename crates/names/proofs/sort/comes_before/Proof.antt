@@ -23,13 +23,13 @@ enum-told-3 : tie.Need-enum-told-3
 enum-told-3 c = search needs
 
 returns : tie.Need-returns
-returns c = sym (ap isBefore (ap₂ order (sym (c .before .before .before .before .name-at .ensures)) (sym (c .before .before .before .name-at2 .ensures)) ∙ sym (c .before .before .compare .ensures) ∙ c .enum-told .given .1))
+returns c = sym (ap isBefore (ap₂ order (sym (c .before .before .before .before .name-at .ensures .0)) (sym (c .before .before .before .name-at2 .ensures .0)) ∙ sym (c .before .before .compare .ensures) ∙ c .enum-told .given .1))
 
 returns-2 : tie.Need-returns-2
-returns-2 c = sym (ap isBefore (ap₂ order (sym (c .before .before .before .before .name-at .ensures)) (sym (c .before .before .before .name-at2 .ensures)) ∙ sym (c .before .before .compare .ensures) ∙ c .enum-told2 .given .1))
+returns-2 c = sym (ap isBefore (ap₂ order (sym (c .before .before .before .before .name-at .ensures .0)) (sym (c .before .before .before .name-at2 .ensures .0)) ∙ sym (c .before .before .compare .ensures) ∙ c .enum-told2 .given .1))
 
 returns-3 : tie.Need-returns-3
-returns-3 c = sym (ap isBefore (ap₂ order (sym (c .before .before .before .before .name-at .ensures)) (sym (c .before .before .before .name-at2 .ensures)) ∙ sym (c .before .before .compare .ensures) ∙ c .enum-told3 .given .1))
+returns-3 c = sym (ap isBefore (ap₂ order (sym (c .before .before .before .before .name-at .ensures .0)) (sym (c .before .before .before .name-at2 .ensures .0)) ∙ sym (c .before .before .compare .ensures) ∙ c .enum-told3 .given .1))
 
 pub comes-before-spec : {M : Type 1} → statement M
 comes-before-spec =

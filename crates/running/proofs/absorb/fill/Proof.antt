@@ -50,7 +50,7 @@ loop-less c = omega (arith, c .before .before .before .before .before .before .b
 loop-again : tie.Need-loop-again Inv-loop μ-loop
 loop-again c =
     let a = c .before .before .before .before .before .before .before .before .before .before .before .before .before .before .args in
-    filling-on (now (a .s)) (now (a .counts)) (now (a .places)) (now (a .t)) (a .missing) (a .end) _ _ _ (c .before .before .before .before .before .before .before .before .before .before .loop .inv) _ (c .before .before .before .before .before .before .group-at .ensures) _ (c .before .before .before .before .name-at .ensures) _ _ (kept (c .before)) (c .before .before .fill-row .ensures)
+    filling-on (now (a .s)) (now (a .counts)) (now (a .places)) (now (a .t)) (a .missing) (a .end) _ _ _ (c .before .before .before .before .before .before .before .before .before .before .loop .inv) _ (c .before .before .before .before .before .before .group-at .ensures) _ (c .before .before .before .before .name-at .ensures .0) _ _ (kept (c .before)) (c .before .before .fill-row .ensures)
 
 same-length-2 : tie.Need-same-length-2 Inv-loop μ-loop
 same-length-2 c = c .before .loop .inv .long

@@ -51,7 +51,7 @@ returns : tie.Need-returns Inv-loop μ-loop
 returns c =
     let a = c .before .before .before .before .before .before .before .before .before .before .before .before .args in
     gathering-stop (now (a .s)) (now (a .counts)) (now (a .places)) (a .i) _ _ (c .before .before .before .before .before .before .loop .inv) (c .before .before .before .before .before .loop-test .taken)
-    (as-named (c .before .before .before .before .before .before .before .before .name-at .ensures) (c .before .before .before .name-at2 .ensures) (sym (c .enum-told .given .1) ∙ c .before .before .compare .ensures))
+    (as-named (c .before .before .before .before .before .before .before .before .name-at .ensures .0) (c .before .before .before .name-at2 .ensures .0) (sym (c .enum-told .given .1) ∙ c .before .before .compare .ensures))
 
 enum-told-2 : tie.Need-enum-told-2 Inv-loop μ-loop
 enum-told-2 c = search needs
@@ -72,7 +72,7 @@ loop-again : tie.Need-loop-again Inv-loop μ-loop
 loop-again c =
     let a = c .before .before .before .before .before .before .before .before .before .before .before .before .before .before .args in
     gathering-on (now (a .s)) (now (a .counts)) (now (a .places)) (a .i) _ _ (c .before .before .before .before .before .before .before .before .loop .inv) (c .before .before .before .before .before .before .before .loop-test .taken) _ _
-    (as-named (c .before .before .before .before .before .before .before .before .before .before .name-at .ensures) (c .before .before .before .before .before .name-at2 .ensures) (sym (c .before .before .enum-told2 .given .1) ∙ c .before .before .before .before .compare .ensures))
+    (as-named (c .before .before .before .before .before .before .before .before .before .before .name-at .ensures .0) (c .before .before .before .before .before .name-at2 .ensures .0) (sym (c .before .before .enum-told2 .given .1) ∙ c .before .before .before .before .compare .ensures))
     (c .before .count-at2 .ensures) (c .wrapping-add-u64 .ensures)
 
 enum-told-3 : tie.Need-enum-told-3 Inv-loop μ-loop
@@ -82,7 +82,7 @@ returns-2 : tie.Need-returns-2 Inv-loop μ-loop
 returns-2 c =
     let a = c .before .before .before .before .before .before .before .before .before .before .before .before .args in
     gathering-not (now (a .s)) (now (a .counts)) (now (a .places)) (a .i) _ _ (c .before .before .before .before .before .before .loop .inv) (c .before .before .before .before .before .loop-test .taken)
-    (as-named (c .before .before .before .before .before .before .before .before .name-at .ensures) (c .before .before .before .name-at2 .ensures) (sym (c .enum-told3 .given .1) ∙ c .before .before .compare .ensures))
+    (as-named (c .before .before .before .before .before .before .before .before .name-at .ensures .0) (c .before .before .before .name-at2 .ensures .0) (sym (c .enum-told3 .given .1) ∙ c .before .before .compare .ensures))
 
 returns-3 : tie.Need-returns-3 Inv-loop μ-loop
 returns-3 c = let a = c .before .before .before .before .before .before .before .args in gathering-end (now (a .s)) (now (a .counts)) (now (a .places)) (a .i) _ _ (c .before .loop .inv) (c .loop-test .left)

@@ -61,7 +61,7 @@ loop-less c = omega (arith, c .before .before .before .before .before .before .b
 loop-again : tie.Need-loop-again Inv-loop μ-loop
 loop-again c =
     let a = c .before .before .before .before .before .before .before .before .before .before .before .before .before .before .before .args in
-    raising-row (now (a .s)) (now (a .counts)) (now (a .places)) (now (a .t)) (a .size) _ _ _ _ _ (c .before .before .before .before .before .before .before .before .before .before .before .loop .inv) _ (c .before .before .before .before .before .before .before .before .before .group-at .ensures) _ (c .before .before .before .before .before .before .before .name-at .ensures) _ _ (kept (c .before .before .before .before)) (a-row c)
+    raising-row (now (a .s)) (now (a .counts)) (now (a .places)) (now (a .t)) (a .size) _ _ _ _ _ (c .before .before .before .before .before .before .before .before .before .before .before .loop .inv) _ (c .before .before .before .before .before .before .before .before .before .group-at .ensures) _ (c .before .before .before .before .before .before .before .name-at .ensures .0) _ _ (kept (c .before .before .before .before)) (a-row c)
 
 enum-known-p-2 : tie.Need-enum-known-p-2 Inv-loop μ-loop
 enum-known-p-2 c = search needs
@@ -78,7 +78,7 @@ same-length c = kept (c .before .before .before .before .before) ∙ c .before .
 returns : tie.Need-returns Inv-loop μ-loop
 returns c =
     let a = c .before .before .before .before .before .before .before .before .before .before .before .before .before .before .before .before .args in
-    raising-full (now (a .s)) (now (a .counts)) (now (a .places)) (now (a .t)) (a .size) _ _ _ _ _ (c .before .before .before .before .before .before .before .before .before .before .before .before .loop .inv) _ (c .before .before .before .before .before .before .before .before .before .before .group-at .ensures) _ (c .before .before .before .before .before .before .before .before .name-at .ensures) _ _ (a-place (c .before)) (c .if1 .taken)
+    raising-full (now (a .s)) (now (a .counts)) (now (a .places)) (now (a .t)) (a .size) _ _ _ _ _ (c .before .before .before .before .before .before .before .before .before .before .before .before .loop .inv) _ (c .before .before .before .before .before .before .before .before .before .before .group-at .ensures) _ (c .before .before .before .before .before .before .before .before .name-at .ensures .0) _ _ (a-place (c .before)) (c .if1 .taken)
 
 add-missing : tie.Need-add-missing Inv-loop μ-loop
 add-missing c = omega (arith, c .before .before .before .before .before .before .before .before .before .before .before .before .loop .inv .fits, c .if1 .left)
@@ -92,7 +92,7 @@ loop-less-2 c = omega (arith, c .before .before .before .before .before .before 
 loop-again-2 : tie.Need-loop-again-2 Inv-loop μ-loop
 loop-again-2 c =
     let a = c .before .before .before .before .before .before .before .before .before .before .before .before .before .before .before .before .args in
-    raising-place (now (a .s)) (now (a .counts)) (now (a .places)) (now (a .t)) (a .size) _ _ _ _ _ (c .before .before .before .before .before .before .before .before .before .before .before .before .loop .inv) _ (c .before .before .before .before .before .before .before .before .before .before .group-at .ensures) _ (c .before .before .before .before .before .before .before .before .name-at .ensures) _ _ (a-place (c .before)) (c .if1 .left)
+    raising-place (now (a .s)) (now (a .counts)) (now (a .places)) (now (a .t)) (a .size) _ _ _ _ _ (c .before .before .before .before .before .before .before .before .before .before .before .before .loop .inv) _ (c .before .before .before .before .before .before .before .before .before .before .group-at .ensures) _ (c .before .before .before .before .before .before .before .before .name-at .ensures .0) _ _ (a-place (c .before)) (c .if1 .left)
 
 same-length-2 : tie.Need-same-length-2 Inv-loop μ-loop
 same-length-2 c = c .before .loop .inv .long
