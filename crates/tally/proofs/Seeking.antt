@@ -1,24 +1,28 @@
--- A name sought among rows, from the first on: what the search knows, and its steps.
-use Prim.Native.Nat.{ℕ, _+_, _-_, _<_, _≤_}
-use mathlib.Core.Path.{_≡_, refl, sym, ap, _∙_}
+-- A name sought among rows, from the first on: what the search finds in bytes that hold rows, and what the code knows on its way.
+use Prim.Native.Nat.{ℕ, zero, suc, _+_, _-_, _<_, _≤_}
+use mathlib.Core.Path.{_≡_, refl, sym, ap, ap₂, subst, _∙_}
 use mathlib.Core.List.{List, [], _∷_, _++_, append-assoc}
+use mathlib.Core.Option.{Option, some, none, Option·some-injective}
 use native.Mathlib.Nat.{zero-add}
 use native.Mathlib.Omega.{arith}
 use lib.ListN.{length, take, drop, length-append, length-drop}
-use lib.Seq.{take-add, drop-at, length-take-le}
+use lib.Seq.{take-add, take-at, drop-at, length-take-le}
 use Rattle.wire.specs.Lists.{rest-is}
-use Rattle.wire.specs.Order.{order, flip, order-same, order-flip}
+use Rattle.wire.specs.Format.{such}
+use Rattle.wire.specs.Bytes.{Bytes, spell, spell-length, bytes-take, bytes-drop}
+use Rattle.wire.specs.Order.{order, choose, flip, order-same, order-flip}
 use Rattle.wire.specs.declared.order.Order.{Order}
 use Rattle.wire.specs.declared.order.Order.the-variants.{Before, Same, After}
 use Rattle.tally.specs.Rows.{Row, Rows, Above}
 use Rattle.tally.specs.Tally.{found, fields, row, ones, one}
 use Rattle.tally.specs.Told.{toldRow}
 use Rattle.tally.specs.Walks.{rowsBytes, Holds}
-use Rattle.tally.specs.Sought.{Below, Sought}
+use Rattle.tally.specs.Sought.{rowThen, frontRows, seekIn, seekOf, Below, Sought}
 use Rattle.tally.specs.declared.rows.RowRead.the-variants as rows
+use Rattle.tally.specs.declared.add.Found.{Found}
 use Rattle.tally.specs.declared.add.Found.the-variants as founds
 use Rattle.tally.proofs.Canon.{above-weak}
-use Rattle.tally.proofs.Held.{rows-append, FirstRow, row-inside, first-row, no-row, one-size}
+use Rattle.tally.proofs.Held.{found-some, row-bytes, name-bytes, rows-append, FirstRow, row-inside, first-row, no-row, one-size}
 use Rattle.tally.proofs.FrontRows.{name-part}
 
 -- ---- bytes up to a place, from another on
@@ -126,3 +130,143 @@ module _ {s name rest : List ℕ} {at : ℕ} (w : Seeking s name rest at) where
         let f = first L h in
         let v : order name (f .r .name) ≡ Before = order-flip (f .r .name) name ∙ ap flip (stands k L h) in
         rw (f .split) (v, above-weak ones name (f .r .name) (f .R) v (f .canonical .3)))
+
+-- ---- the bytes of a row
+row-encoded : (r : Row ℕ) → row one [] .encode r ≡ fields one .encode r
+unfolding row such
+row-encoded r = refl
+
+row-encodes : (r : Row ℕ) → row one [] .encode r ≡ (spell 2 (length (r .name)) ++ r .name) ++ one .count .encode (r .count)
+row-encodes r = row-encoded r ∙ row-bytes one r ∙ ap (λ (l : List ℕ). l ++ one .count .encode (r .count)) (name-bytes one (r .name))
+
+-- ---- a row that was found, by the length of its name and its count
+row-shape : (s : List ℕ) (r : Row ℕ) (m : ℕ) → Bytes s → found (row one [] .read s) ≡ some (r, m) → toldRow s (rows.Row (length (r .name)) (r .count)) ≡ found (row one [] .read s)
+row-shape s r m b h =
+    let t = row one [] .backward s r m b (found-some (row one [] .read s) r m h) in
+    let bytes : s ≡ spell 2 (length (r .name)) ++ (r .name ++ (one .count .encode (r .count) ++ drop m s)) =
+        t .front ∙ ap (λ (l : List ℕ). l ++ drop m s) (row-encodes r) ∙ append-assoc (spell 2 (length (r .name)) ++ r .name) (one .count .encode (r .count)) (drop m s)
+        ∙ append-assoc (spell 2 (length (r .name))) (r .name) (one .count .encode (r .count) ++ drop m s) in
+    let name : take (length (r .name)) (drop 2 s) ≡ r .name =
+        ap (λ (l : List ℕ). take (length (r .name)) (drop 2 l)) bytes
+        ∙ ap (take (length (r .name))) (drop-at (spell 2 (length (r .name))) (r .name ++ (one .count .encode (r .count) ++ drop m s)) 2 (spell-length 2 (length (r .name))))
+        ∙ take-at (r .name) (one .count .encode (r .count) ++ drop m s) (length (r .name)) refl in
+    let size : length (r .name) + 10 ≡ m = sym (t .ends ∙ ap length (row-encoded r) ∙ one-size r) in
+    ap₂ (λ (n : List ℕ) (k : ℕ). some (record { name = n; count = r .count }, k)) name size ∙ sym h
+
+-- ---- what the definition finds, in every run of rows that the bytes might hold
+module _ (s name : List ℕ) where
+  abbrev Finds : ℕ → Type 0
+  Finds k = (rest : List ℕ) (at : ℕ) → Seeking s name rest at → length rest ≤ k → Bytes rest → Sought s name (seekIn name at (frontRows k rest))
+
+  finds : (k : ℕ) → Finds k
+  unfolding frontRows seekIn
+  finds zero rest at w h b = by-row (found (row one [] .read rest)) refl
+    where
+      by-row : (x : Option (Row ℕ × ℕ)) → found (row one [] .read rest) ≡ x → Sought s name (founds.Place at)
+      by-row none e = seeking-end w (sym e)
+      by-row (some y) e = absurd (omega (arith, row-inside rest (length (y .0 .name)) (y .0 .count) (row-shape rest (y .0) (y .1) b e)))
+  finds (suc k) rest at w h b = by-row (finds k) (found (row one [] .read rest)) refl
+    where
+      by-order : Finds k → (r : Row ℕ) (m : ℕ) → found (row one [] .read rest) ≡ some (r, m) → (o : Order) → order (r .name) name ≡ o
+          → Sought s name (choose o (seekIn name (at + (length (r .name) + 10)) (frontRows k (drop m rest))) (founds.Row at (r .count)) (founds.Place at))
+      by-order next r m e o q =
+          let told = row-shape rest r m b e in
+          let n = length (r .name) in
+          let same : _≡_ {A = Row ℕ × ℕ} (record { name = take n (drop 2 rest); count = r .count }, n + 10) (r, m) = Option·some-injective _ _ (told ∙ e) in
+          let named : o ≡ order (take ((n + 2) - 2) (drop 2 rest)) name =
+              sym q ∙ ap (λ (x : Row ℕ × ℕ). order (x .0 .name) name) (sym same) ∙ ap (λ (l : List ℕ). order l name) (sym (name-part n rest)) in
+          let size : n + 10 ≡ m = ap (λ (x : Row ℕ × ℕ). x .1) same in
+          by-case o named size
+        where
+          by-case : (o : Order) → o ≡ order (take ((length (r .name) + 2) - 2) (drop 2 rest)) name → length (r .name) + 10 ≡ m
+              → Sought s name (choose o (seekIn name (at + (length (r .name) + 10)) (frontRows k (drop m rest))) (founds.Row at (r .count)) (founds.Place at))
+          by-case Before v z =
+              let told = row-shape rest r m b e in
+              let on = rw (rest-is (length (r .name) + 10) rest, z) at (seeking-on w (length (r .name)) (r .count) told v) in
+              let less : length (drop m rest) ≤ k = rw length-drop (omega (arith, row-inside rest (length (r .name)) (r .count) told)) in
+              rw z (next (drop m rest) (at + m) on less (bytes-drop m rest b))
+          by-case Same v z = seeking-row w (length (r .name)) (r .count) (row-shape rest r m b e) v
+          by-case After v z = seeking-over w (length (r .name)) (r .count) (row-shape rest r m b e) v
+
+      by-row : Finds k → (x : Option (Row ℕ × ℕ)) → found (row one [] .read rest) ≡ x
+          → Sought s name (seekIn name at (rowThen x (λ n. frontRows k (drop n rest))))
+      by-row next none e = seeking-end w (sym e)
+      by-row next (some y) e = by-order next (y .0) (y .1) e (order (y .0 .name) name) refl
+
+  pub sought : Bytes s → Sought s name (seekOf s name)
+  sought b = finds (length s) s 0 (seeking-start s name) (omega arith) b
+
+-- by what the code told of n bytes from a place on
+pub sought-told : (t : List ℕ) (at n : ℕ) (name : List ℕ) {q r : Found} → Bytes t → q ≡ seekOf (take n (drop at t)) name → q ≡ r → Sought (take n (drop at t)) name r
+sought-told t at n name b e h = subst (Sought (take n (drop at t)) name) (sym e ∙ h) (sought (take n (drop at t)) name (bytes-take n (drop at t) (bytes-drop at t b)))
+
+-- ---- the loop
+pub record Seeks (s name rest : List ℕ) (at : ℕ) : Type 0 where
+  pub most : ℕ
+  pub size : at + length rest ≡ length s
+  pub enough : length rest ≤ most
+  pub same : seekIn name at (frontRows most rest) ≡ seekOf s name
+
+pub seeks-start : (s name : List ℕ) → Seeks s name s 0
+seeks-start s name = record { most = length s; size = zero-add (length s); enough = omega arith; same = refl }
+
+module _ {s name rest : List ℕ} {at : ℕ} (w : Seeks s name rest at) where
+  pub seeks-end : toldRow rest rows.Malformed ≡ found (row one [] .read rest) → founds.Place at ≡ seekOf s name
+  unfolding seekIn frontRows
+  seeks-end e = ap (seekIn name at) (sym (none-there (w .most))) ∙ w .same
+    where
+      none-there : (k : ℕ) → frontRows k rest ≡ []
+      none-there zero = refl
+      none-there (suc k) = ap (λ (x : Option (Row ℕ × ℕ)). rowThen x (λ n. frontRows k (drop n rest))) (sym e)
+
+  module _ (n c : ℕ) (e : toldRow rest (rows.Row n c) ≡ found (row one [] .read rest)) where
+    pub seeks-place : at + (n + 10) ≤ length s
+    seeks-place = omega (arith, w .size, row-inside rest n c e)
+
+    pub seeks-less : length (take (length rest - (n + 10)) (drop (n + 10) rest)) < length rest
+    seeks-less = rw (rest-is (n + 10) rest, length-drop) (omega (arith, row-inside rest n c e))
+
+    abbrev here : Row ℕ
+    here = record { name = take n (drop 2 rest); count = c }
+
+    -- a row stands there, and the search goes by its name
+    record First : Type 0 where
+      more : ℕ
+      enough : length (drop (n + 10) rest) ≤ more
+      is : seekIn name at (here ∷ frontRows more (drop (n + 10) rest)) ≡ seekOf s name
+
+    first-is : First
+    unfolding frontRows
+    first-is = by-most (w .most) (w .enough) (w .same)
+      where
+        by-most : (k : ℕ) → length rest ≤ k → seekIn name at (frontRows k rest) ≡ seekOf s name → First
+        by-most zero h g = absurd (omega (arith, row-inside rest n c e))
+        by-most (suc k) h g = record {
+          more = k;
+          enough = rw length-drop (omega (arith, row-inside rest n c e));
+          is = ap (λ (x : Option (Row ℕ × ℕ)). seekIn name at (rowThen x (λ m. frontRows k (drop m rest)))) e ∙ g;
+        }
+
+    module _ {o : Order} (k : o ≡ order (take ((n + 2) - 2) (drop 2 rest)) name) where
+      seen : order (take n (drop 2 rest)) name ≡ o
+      seen = ap (λ (m : List ℕ). order m name) (sym (name-part n rest)) ∙ sym k
+
+    long : length (take n (drop 2 rest)) ≡ n
+    long = length-take-le n (drop 2 rest) (rw length-drop (omega (arith, row-inside rest n c e)))
+
+    pub seeks-on : Before ≡ order (take ((n + 2) - 2) (drop 2 rest)) name → Seeks s name (take (length rest - (n + 10)) (drop (n + 10) rest)) (at + (n + 10))
+    unfolding seekIn
+    seeks-on k = rw (rest-is (n + 10) rest) record {
+      most = first-is .more;
+      size = rw length-drop (omega (arith, w .size, row-inside rest n c e));
+      enough = first-is .enough;
+      same = rw (seen k, long) at (first-is .is);
+    }
+
+    pub seeks-row : Same ≡ order (take ((n + 2) - 2) (drop 2 rest)) name → founds.Row at c ≡ seekOf s name
+    unfolding seekIn
+    seeks-row k = rw (seen k) at (first-is .is)
+
+    pub seeks-over : After ≡ order (take ((n + 2) - 2) (drop 2 rest)) name → founds.Place at ≡ seekOf s name
+    unfolding seekIn
+    seeks-over k = rw (seen k) at (first-is .is)

@@ -23,7 +23,7 @@ ghost use Rattle.wire.specs.Answer.{lent, mapAnswer};
 ghost use Rattle.tally.specs.Tally.{one};
 ghost use Rattle.tally.specs.Operations.{addOf};
 ghost use Rattle.tally.specs.Told.{toldAdd};
-ghost use Rattle.tally.specs.Sought.{Sought, opened, Ready, AddedAs};
+ghost use Rattle.tally.specs.Sought.{seekOf, opened, Ready, AddedAs};
 
 // Where a name stands among rows: its row's place and count, or the place where its row would be.
 pub enum Found {
@@ -31,9 +31,9 @@ pub enum Found {
     Place(usize),
 }
 
-// A name among rows in order: its row and its count, or the place where its row would be.
+// Looks for a name among the rows at the front of some bytes, as far as they are rows: its row and its count, or the place where its row would be.
 pub fn seek(s: &[u8], name: &[u8]) -> Found
-    ensures { λ r. ⌜ Sought (now (s .entry)) (now (name .entry)) r ⌝ }
+    ensures { λ r. ⌜ r ≡ seekOf (now (s .entry)) (now (name .entry)) ⌝ }
 {
     let mut rest = s;
     let mut at: usize = 0;

@@ -1,6 +1,5 @@
 use borrow.Author.Needs.{needs}
 use Prim.Native.Nat.{ℕ, _+_, _-_, _≤_}
-use mathlib.Core.Path.{subst}
 use mathlib.Core.List.{List}
 use native.Mathlib.Omega.{arith}
 use denote.Ref.{now}
@@ -8,6 +7,7 @@ use lib.ListN.{take, drop}
 use Rattle.tally.specs.declared.add.Found.the-variants as founds
 use Rattle.tally.specs.Sought.{Sought}
 use Rattle.tally.specs.Rows.{Row}
+use Rattle.tally.proofs.Seeking.{sought-told}
 use Rattle.running.proofs.FilledRow.{row-in, row-passed, place-in, place-full, place-filled}
 use Rattle.running.proofs.absorb.fill_row.Statement.{statement}
 use Rattle.running.proofs.absorb.fill_row.Tie as tie
@@ -24,7 +24,7 @@ abbrev start₁ : tie.After-known-told → tie.Start
 start₁ c = c .before .before .before .before .before .before .before .before
 
 a-row : (c : tie.After-known-told) → Sought (part (start₁ c)) (now (start₁ c .args .name)) (founds.Row (c .before .p .given .0 .0) (c .before .p .given .0 .1 .0))
-a-row c = let s = start₁ c in subst (Sought (part s) (now (s .args .name))) (c .before .p .given .1) (c .before .before .before .seek .ensures)
+a-row c = let s = start₁ c in sought-told (now (s .args .t)) (s .args .gap .read) (s .args .end - s .args .gap .read) (now (s .args .name)) (λ i. c .before .before .before .before .before .before .before .slice-known .given i .fits) (c .before .before .before .seek .ensures) (c .before .p .given .1)
 
 in-row : (c : tie.After-known-told) → (let a = start₁ c .args in a .gap .read + c .before .p .given .0 .0 ≤ a .end)
 in-row c = let s = start₁ c in row-in (now (s .args .t)) (s .args .gap) (s .args .end) (s .pre) (asked s) _ _ (a-row c)
@@ -33,7 +33,7 @@ abbrev start₂ : tie.After-known-told2 → tie.Start
 start₂ c = c .before .before .before .before .before .before .before .before
 
 a-place : (c : tie.After-known-told2) → Sought (part (start₂ c)) (now (start₂ c .args .name)) (founds.Place (c .before .p2 .given .0 .0))
-a-place c = let s = start₂ c in subst (Sought (part s) (now (s .args .name))) (c .before .p2 .given .1) (c .before .before .before .seek .ensures)
+a-place c = let s = start₂ c in sought-told (now (s .args .t)) (s .args .gap .read) (s .args .end - s .args .gap .read) (now (s .args .name)) (λ i. c .before .before .before .before .before .before .before .slice-known .given i .fits) (c .before .before .before .seek .ensures) (c .before .p2 .given .1)
 
 in-place : (c : tie.After-known-told2) → (let a = start₂ c .args in a .gap .read + c .before .p2 .given .0 .0 ≤ a .end)
 in-place c = let s = start₂ c in place-in (now (s .args .t)) (s .args .gap) (s .args .end) (s .pre) (asked s) _ (a-place c)

@@ -1,6 +1,5 @@
 use borrow.Author.Needs.{needs}
 use Prim.Native.Nat.{ℕ, _+_, _-_, _≤_}
-use mathlib.Core.Path.{subst}
 use mathlib.Core.List.{List}
 use native.Mathlib.Omega.{arith}
 use denote.Ref.{now}
@@ -9,6 +8,7 @@ use Rattle.wire.specs.Lists.{rest-is}
 use Rattle.tally.specs.Rows.{Row}
 use Rattle.tally.specs.Sought.{Sought}
 use Rattle.tally.specs.declared.add.Found.the-variants as founds
+use Rattle.tally.proofs.Seeking.{sought-told}
 use Rattle.tally.proofs.Adding.{row-place, row-full, row-counted, new-place, new-many, new-full, new-added}
 use Rattle.tally.proofs.add.add_row.Statement.{statement}
 use Rattle.tally.proofs.add.add_row.Tie as tie
@@ -25,7 +25,7 @@ abbrev start₁ : tie.After-known-told → tie.Start
 start₁ c = c .before .before .before .before .before .before .before .before
 
 a-row : (c : tie.After-known-told) → Sought (part (start₁ c)) (now (start₁ c .args .name)) (founds.Row (c .before .at .given .0 .0) (c .before .at .given .0 .1 .0))
-a-row c = let s = start₁ c in subst (Sought (part s) (now (s .args .name))) (c .before .at .given .1) (c .before .before .before .seek .ensures)
+a-row c = let s = start₁ c in sought-told (now (s .args .buffer)) 9 (s .args .used - 9) (now (s .args .name)) (λ i. c .before .before .before .before .before .before .before .slice-known .given i .fits) (c .before .before .before .seek .ensures) (c .before .at .given .1)
 
 row-in : (c : tie.After-known-told) → (let s = start₁ c in c .before .at .given .0 .0 + (length (now (s .args .name)) + 10) + 9 ≤ s .args .used)
 row-in c = let s = start₁ c in row-place (now (s .args .buffer)) (s .args .used) (s .args .rows) (asked s) (s .pre) _ _ (a-row c)
@@ -34,7 +34,7 @@ abbrev start₂ : tie.After-known-told2 → tie.Start
 start₂ c = c .before .before .before .before .before .before .before .before
 
 a-place : (c : tie.After-known-told2) → Sought (part (start₂ c)) (now (start₂ c .args .name)) (founds.Place (c .before .at2 .given .0 .0))
-a-place c = let s = start₂ c in subst (Sought (part s) (now (s .args .name))) (c .before .at2 .given .1) (c .before .before .before .seek .ensures)
+a-place c = let s = start₂ c in sought-told (now (s .args .buffer)) 9 (s .args .used - 9) (now (s .args .name)) (λ i. c .before .before .before .before .before .before .before .slice-known .given i .fits) (c .before .before .before .seek .ensures) (c .before .at2 .given .1)
 
 place-in : (c : tie.After-known-told2) → (let s = start₂ c in c .before .at2 .given .0 .0 + 9 ≤ s .args .used)
 place-in c = let s = start₂ c in new-place (now (s .args .buffer)) (s .args .used) (s .args .rows) (asked s) (s .pre) _ (a-place c)

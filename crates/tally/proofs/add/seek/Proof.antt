@@ -1,4 +1,4 @@
--- The invariant: the rows so far come before the name, and the rest holds the others.
+-- The invariant: sought from the place on, among the rows that are left, the name is found as from the front. What is left gets shorter.
 use borrow.Author.Needs.{needs}
 use Prim.Native.Nat.{_+_, _≤_}
 use mathlib.Core.Path.{_≡_, sym, _∙_}
@@ -11,12 +11,12 @@ use Rattle.tally.specs.Tally.{found, row, one}
 use Rattle.tally.specs.Told.{toldRow}
 use Rattle.tally.specs.declared.rows.RowRead.the-variants as rows
 use Rattle.tally.proofs.Held.{row-inside}
-use Rattle.tally.proofs.Seeking.{Seeking, seeking-start, seeking-end, seeking-place, seeking-less, seeking-on, seeking-row, seeking-over}
+use Rattle.tally.proofs.Seeking.{Seeks, seeks-start, seeks-end, seeks-place, seeks-less, seeks-on, seeks-row, seeks-over}
 use Rattle.tally.proofs.add.seek.Statement.{statement}
 use Rattle.tally.proofs.add.seek.Tie as tie
 
 abbrev Inv-loop : tie.InvT-loop
-Inv-loop s name rest₀ at₀ rest at = Seeking s name rest at
+Inv-loop s name rest₀ at₀ rest at = Seeks s name rest at
 
 abbrev μ-loop : tie.MeasureT-loop
 μ-loop s name rest₀ at₀ rest at = length rest
@@ -34,10 +34,10 @@ inside : (c : tie.After-known-told Inv-loop μ-loop) → c .before .n .given .0 
 inside c = row-inside _ _ _ (a-row c)
 
 place : (c : tie.After-known-told Inv-loop μ-loop) → (let p = c .before .before .before .before in p .loop .at + (c .before .n .given .0 .0 + 10) ≤ length (now (p .before .before .before .args .s)))
-place c = seeking-place (c .before .before .before .before .loop .inv) _ _ (a-row c)
+place c = seeks-place (c .before .before .before .before .loop .inv) _ _ (a-row c)
 
 loop-holds : tie.Need-loop-holds Inv-loop μ-loop
-loop-holds c = seeking-start _ _
+loop-holds c = seeks-start _ _
 
 front-row-requires : tie.Need-front-row-requires Inv-loop μ-loop
 front-row-requires c κs = search needs
@@ -49,7 +49,7 @@ enum-told : tie.Need-enum-told Inv-loop μ-loop
 enum-told c = search needs
 
 returns : tie.Need-returns Inv-loop μ-loop
-returns c = seeking-end (c .before .before .before .loop .inv) (no-row c)
+returns c = seeks-end (c .before .before .before .loop .inv) (no-row c)
 
 add-compare : tie.Need-add-compare Inv-loop μ-loop
 add-compare c = omega (arith, inside c)
@@ -88,22 +88,22 @@ add-at-2 : tie.Need-add-at-2 Inv-loop μ-loop
 add-at-2 c = omega (arith, place (c .before .before .before .before .before))
 
 loop-less : tie.Need-loop-less Inv-loop μ-loop
-loop-less c = let p = c .before .before .before .before .before in seeking-less (p .before .before .before .before .loop .inv) _ _ (a-row p)
+loop-less c = let p = c .before .before .before .before .before in seeks-less (p .before .before .before .before .loop .inv) _ _ (a-row p)
 
 loop-again : tie.Need-loop-again Inv-loop μ-loop
-loop-again c = let p = c .before .before .before .before .before in seeking-on (p .before .before .before .before .loop .inv) _ _ (a-row p) (sym (c .before .enum-told2 .given .1) ∙ c .before .before .before .compare .ensures)
+loop-again c = let p = c .before .before .before .before .before in seeks-on (p .before .before .before .before .loop .inv) _ _ (a-row p) (sym (c .before .enum-told2 .given .1) ∙ c .before .before .before .compare .ensures)
 
 enum-told-3 : tie.Need-enum-told-3 Inv-loop μ-loop
 enum-told-3 c = search needs
 
 returns-2 : tie.Need-returns-2 Inv-loop μ-loop
-returns-2 c = let p = c .before .before .before .before in seeking-row (p .before .before .before .before .loop .inv) (p .before .n .given .0 .0) (p .before .n .given .0 .1 .0) (a-row p) (sym (c .enum-told3 .given .1) ∙ c .before .before .compare .ensures)
+returns-2 c = let p = c .before .before .before .before in seeks-row (p .before .before .before .before .loop .inv) (p .before .n .given .0 .0) (p .before .n .given .0 .1 .0) (a-row p) (sym (c .enum-told3 .given .1) ∙ c .before .before .compare .ensures)
 
 enum-told-4 : tie.Need-enum-told-4 Inv-loop μ-loop
 enum-told-4 c = search needs
 
 returns-3 : tie.Need-returns-3 Inv-loop μ-loop
-returns-3 c = let p = c .before .before .before .before in seeking-over (p .before .before .before .before .loop .inv) (p .before .n .given .0 .0) (p .before .n .given .0 .1 .0) (a-row p) (sym (c .enum-told4 .given .1) ∙ c .before .before .compare .ensures)
+returns-3 c = let p = c .before .before .before .before in seeks-over (p .before .before .before .before .loop .inv) (p .before .n .given .0 .0) (p .before .n .given .0 .1 .0) (a-row p) (sym (c .enum-told4 .given .1) ∙ c .before .before .compare .ensures)
 
 pub seek-spec : {M : Type 1} → statement M
 seek-spec =
