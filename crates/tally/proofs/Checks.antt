@@ -7,6 +7,7 @@ use mathlib.Core.Option.{Option, some, none}
 use lib.ListN.{length, drop}
 use Rattle.wire.specs.Choice.{no-true, no-false}
 use Rattle.wire.specs.Answer.{good, plain, no-good, tallyMalformed, partOf}
+use Rattle.wire.specs.Places.{startTold}
 use Rattle.wire.specs.Bytes.{Bytes, bytes-drop}
 use Rattle.wire.specs.Format.{items, items-length}
 use Rattle.wire.specs.Formats.{headLength}
@@ -66,5 +67,11 @@ module _ (t : List ℕ) where
   pub rows-there : {n : ℕ} → good n ≡ checkOf one t → drop headLength t ≡ partOf (λ s. s) (rowsPart one t)
   rows-there h = rw (checked one t h .is)
 
+  pub rows-start : {n : ℕ} → good n ≡ checkOf one t → headLength ≡ startTold (λ (s : List ℕ). headLength) (rowsPart one t)
+  rows-start h = rw (checked one t h .is)
+
   pub rows-nowhere : plain tallyMalformed ≡ checkOf one t → [] ≡ partOf (λ s. s) (rowsPart one t)
   rows-nowhere h = rw (unchecked one t h)
+
+  pub rows-first : plain tallyMalformed ≡ checkOf one t → 0 ≡ startTold (λ (s : List ℕ). headLength) (rowsPart one t)
+  rows-first h = rw (unchecked one t h)

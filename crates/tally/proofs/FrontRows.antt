@@ -9,6 +9,7 @@ use lib.Dec.{eqb}
 use lib.ListN.{length, take, drop}
 use borrow.Author.Tests.{le-leb, lt-leb, eq-eqb, ne-eqb}
 use Rattle.wire.specs.Answer.{good, plain, tallyMalformed, noSuch, partOf}
+use Rattle.wire.specs.Places.{startTold}
 use Rattle.wire.specs.Bytes.{Bytes}
 use Rattle.wire.specs.Read.{done, refused}
 use Rattle.wire.specs.Format.{such, along, ends-in}
@@ -121,5 +122,12 @@ module _ (s : List ℕ) where
     front-isnt part = rw (← h) (go (eqb (length s) 0))
       where
         go : (b : Bool) → [] ≡ partOf part (cond b (plain noSuch) (plain tallyMalformed))
+        go true = refl
+        go false = refl
+
+    pub front-first : (start : Row ℕ × ℕ → ℕ) → 0 ≡ startTold start (frontOf one s)
+    front-first start = rw (← h) (go (eqb (length s) 0))
+      where
+        go : (b : Bool) → 0 ≡ startTold start (cond b (plain noSuch) (plain tallyMalformed))
         go true = refl
         go false = refl

@@ -10,7 +10,10 @@ use wire::order::Order;
 use wire::order::compare;
 ghost use mathlib.Core.Path.{_≡_};
 ghost use Rattle.wire.specs.Format.{items};
+ghost use denote.Ref.{ptr};
 ghost use Rattle.wire.specs.Answer.{partOf};
+ghost use Rattle.wire.specs.Formats.{headLength};
+ghost use Rattle.wire.specs.Places.{placeIn, startTold};
 ghost use Rattle.tally.specs.Tally.{row, one};
 ghost use Rattle.tally.specs.Operations.{checkOf, rowsPart};
 ghost use Rattle.tally.specs.Told.{toldCheck};
@@ -77,6 +80,7 @@ pub fn check(t: &[u8]) -> CheckAnswer
 // The rows of a tally, to be taken from the front; an empty part where it is none.
 pub fn rows_of(t: &[u8]) -> &[u8]
     ensures { λ r. ⌜ now r ≡ partOf (λ s. s) (rowsPart one (now (t .entry))) ⌝ }
+    ensures { λ r. ⌜ ptr r ≡ placeIn (t .entry) (startTold (λ _. headLength) (rowsPart one (now (t .entry)))) ⌝ }
 {
     match check(t) {
         CheckAnswer::Tally(_) => &t[HEAD..],

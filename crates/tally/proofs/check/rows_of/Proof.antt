@@ -4,9 +4,10 @@ use Prim.Native.Nat.{_≤_}
 use lib.ListN.{length}
 use Rattle.wire.specs.Lists.{rest-is}
 use Rattle.wire.specs.Formats.{headLength}
+use Rattle.wire.specs.Places.{place-is, place-first}
 use Rattle.wire.proofs.Steps.{told-as}
 use Rattle.tally.specs.Told.{toldCheck}
-use Rattle.tally.proofs.Checks.{check-long, rows-there, rows-nowhere}
+use Rattle.tally.proofs.Checks.{check-long, rows-there, rows-start, rows-nowhere, rows-first}
 use borrow.Author.Needs.{needs}
 use Rattle.tally.proofs.check.rows_of.Statement.{statement}
 use Rattle.tally.proofs.check.rows_of.Tie as tie
@@ -36,10 +37,16 @@ slice-aggregate-result : tie.Need-slice-aggregate-result
 slice-aggregate-result c = search needs
 
 returns : tie.Need-returns
-returns c = rest-is 9 (now (c .before .before .before .before .before .args .t)) ∙ rows-there (now (c .before .before .before .before .before .args .t)) (told-as toldCheck (c .before .before .before .check .ensures) (c .before .enum-told .given .1))
+returns c =
+    let t = c .before .before .before .before .before .args .t in
+    let told = told-as toldCheck (c .before .before .before .check .ensures) (c .before .enum-told .given .1) in
+    (rest-is 9 (now t) ∙ rows-there (now t) told, place-is t (rows-start (now t) told))
 
 returns-2 : tie.Need-returns-2
-returns-2 c = rows-nowhere _ (told-as toldCheck (c .before .before .before .check .ensures) (c .before .enum-told2 .given .1))
+returns-2 c =
+    let t = c .before .before .before .before .before .args .t in
+    let told = told-as toldCheck (c .before .before .before .check .ensures) (c .before .enum-told2 .given .1) in
+    (rows-nowhere (now t) told, place-first t (rows-first (now t) told))
 
 pub rows-of-spec : {M : Type 1} → statement M
 rows-of-spec =

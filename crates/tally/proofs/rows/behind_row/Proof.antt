@@ -11,8 +11,9 @@ use Prim.Native.Nat.{ℕ, _+_}
 use lib.ListN.{drop}
 use Rattle.wire.specs.Lists.{rest-is}
 use Rattle.wire.specs.Answer.{partOf}
+use Rattle.wire.specs.Places.{startTold, place-is, place-first}
 use Rattle.wire.proofs.Steps.{told-as}
-use Rattle.tally.proofs.FrontRows.{front-is, front-isnt}
+use Rattle.tally.proofs.FrontRows.{front-is, front-isnt, front-first}
 use borrow.Author.Needs.{needs}
 use Rattle.tally.proofs.rows.behind_row.Statement.{statement}
 use Rattle.tally.proofs.rows.behind_row.Tie as tie
@@ -46,10 +47,16 @@ slice-aggregate-result : tie.Need-slice-aggregate-result
 slice-aggregate-result c = search needs
 
 returns : tie.Need-returns
-returns c = rest-is (c .before .before .n .given .0 .0 + 10) (now (c .before .before .before .before .before .before .args .part)) ∙ ap (partOf (λ (x : KindRow one × ℕ). drop (x .1) (now (c .before .before .before .before .before .before .args .part)))) (sym (front-is (now (c .before .before .before .before .before .before .args .part)) (c .before .before .n .given .0 .0) (c .before .before .n .given .0 .1 .0) (front (c .before))))
+returns c =
+    let s = c .before .before .before .before .before .before .args .part in
+    let is = sym (front-is (now s) (c .before .before .n .given .0 .0) (c .before .before .n .given .0 .1 .0) (front (c .before))) in
+    (rest-is (c .before .before .n .given .0 .0 + 10) (now s) ∙ ap (partOf (λ (x : KindRow one × ℕ). drop (x .1) (now s))) is, place-is s (ap (startTold (λ (x : KindRow one × ℕ). x .1)) is))
 
 returns-2 : tie.Need-returns-2
-returns-2 c = front-isnt _ (told-as (toldRow _) (c .before .before .before .front-row .ensures) (c .before .enum-told .given .1)) (λ (x : KindRow one × ℕ). drop (x .1) (now (c .before .before .before .before .before .args .part)))
+returns-2 c =
+    let s = c .before .before .before .before .before .args .part in
+    let none = told-as (toldRow (now s)) (c .before .before .before .front-row .ensures) (c .before .enum-told .given .1) in
+    (front-isnt (now s) none (λ (x : KindRow one × ℕ). drop (x .1) (now s)), place-first s (front-first (now s) none (λ (x : KindRow one × ℕ). x .1)))
 
 pub behind-row-spec : {M : Type 1} → statement M
 behind-row-spec =

@@ -3,6 +3,7 @@ use mathlib.Core.List.{[]}
 use native.Mathlib.Omega.{arith}
 use denote.Ref.{now}
 use Rattle.wire.specs.Answer.{partOf}
+use Rattle.wire.specs.Places.{startTold, place-is, place-first}
 use Rattle.wire.proofs.Steps.{told-as}
 use Rattle.tally.specs.Tally.{found, row, one}
 use Rattle.tally.specs.Told.{toldRow}
@@ -10,7 +11,7 @@ use Rattle.tally.specs.declared.rows.RowRead.the-variants as rows
 use Rattle.tally.proofs.Held.{row-inside}
 use Rattle.tally.specs.Tally.{KindRow}
 use Prim.Native.Nat.{ℕ}
-use Rattle.tally.proofs.FrontRows.{name-part, front-is, front-isnt}
+use Rattle.tally.proofs.FrontRows.{name-part, front-is, front-isnt, front-first}
 use borrow.Author.Needs.{needs}
 use Rattle.tally.proofs.rows.name_of.Statement.{statement}
 use Rattle.tally.proofs.rows.name_of.Tie as tie
@@ -44,10 +45,16 @@ slice-aggregate-result : tie.Need-slice-aggregate-result
 slice-aggregate-result c = search needs
 
 returns : tie.Need-returns
-returns c = name-part (c .before .before .n .given .0 .0) (now (c .before .before .before .before .before .before .args .part)) ∙ ap (partOf (λ (x : KindRow one × ℕ). x .0 .name)) (sym (front-is (now (c .before .before .before .before .before .before .args .part)) (c .before .before .n .given .0 .0) (c .before .before .n .given .0 .1 .0) (front (c .before))))
+returns c =
+    let s = c .before .before .before .before .before .before .args .part in
+    let is = sym (front-is (now s) (c .before .before .n .given .0 .0) (c .before .before .n .given .0 .1 .0) (front (c .before))) in
+    (name-part (c .before .before .n .given .0 .0) (now s) ∙ ap (partOf (λ (x : KindRow one × ℕ). x .0 .name)) is, place-is s (ap (startTold (λ (x : KindRow one × ℕ). 2)) is))
 
 returns-2 : tie.Need-returns-2
-returns-2 c = front-isnt _ (told-as (toldRow _) (c .before .before .before .front-row .ensures) (c .before .enum-told .given .1)) (λ (x : KindRow one × ℕ). x .0 .name)
+returns-2 c =
+    let s = c .before .before .before .before .before .args .part in
+    let none = told-as (toldRow (now s)) (c .before .before .before .front-row .ensures) (c .before .enum-told .given .1) in
+    (front-isnt (now s) none (λ (x : KindRow one × ℕ). x .0 .name), place-first s (front-first (now s) none (λ (x : KindRow one × ℕ). 2)))
 
 pub name-of-spec : {M : Type 1} → statement M
 name-of-spec =
