@@ -4,7 +4,6 @@ use crate::answer::done;
 use crate::answer::plain;
 use crate::answer::refused;
 use crate::numbers::NO_SUCH;
-use crate::numbers::VERSION_OUTSIDE;
 use mapblock::head::NOWHERE;
 use mapblock::head::Part;
 use mapblock::row_questions::MetadataRowAnswer;
@@ -100,7 +99,6 @@ pub extern "C" fn anow_row_metadata(version: u8, part: &[u8]) -> AnowMetadataRow
                 inventory,
             }
         }
-        MetadataRowAnswer::BadVersion => no_metadata(plain(VERSION_OUTSIDE)),
         MetadataRowAnswer::NoSuchRow => no_metadata(plain(NO_SUCH)),
         MetadataRowAnswer::Refused(f, p) => no_metadata(refused(f, p)),
     }

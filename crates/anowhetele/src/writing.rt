@@ -5,7 +5,6 @@ use crate::answer::plain;
 use crate::answer::refused;
 use crate::numbers::NO_ROOM;
 use crate::numbers::PARTS_MISFIT;
-use crate::numbers::VERSION_OUTSIDE;
 use mapblock::head::Head;
 use writer::write::WriteAnswer;
 use writer::write::write;
@@ -43,7 +42,6 @@ pub extern "C" fn anow_write(
         out,
     ) {
         WriteAnswer::Written(n) => done(n),
-        WriteAnswer::BadVersion => plain(VERSION_OUTSIDE),
         WriteAnswer::Misfit => plain(PARTS_MISFIT),
         WriteAnswer::Refused(f, p) => refused(f, p),
         WriteAnswer::NoRoom => plain(NO_ROOM),

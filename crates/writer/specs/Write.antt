@@ -31,7 +31,6 @@ writeOf p room = cond (isVersion (p .head .version)) (writtenBlock room (blockMa
 -- what the code's answer says: the length of what was written
 abbrev pub toldWrite : WriteAnswer → Answer ℕ
 toldWrite (answers.Written n) = good n
-toldWrite answers.BadVersion = plain versionOutside
 toldWrite answers.Misfit = plain partsMisfit
 toldWrite (answers.Refused f p) = refusal (number f) 0 p
 toldWrite answers.NoRoom = plain noRoom

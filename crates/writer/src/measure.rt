@@ -242,10 +242,9 @@ fn judge(
 // How many rows the sections have and how long the block is, or why it is not written whatever the room.
 pub enum Measured {
     Fits(Counts, usize),
-    BadVersion,
     // The parts do not fit.
     Misfit,
-    // What the reader would say of the bytes.
+    // The version is outside 22..29, or what the reader would say of the bytes.
     Refused(Fault, usize),
 }
 
@@ -263,7 +262,7 @@ pub(crate) fn measure(
     ensures { λ r. ⌜ MeasuredAs (partsOf head (now (param0 .entry)) (now (param1 .entry)) (now (param2 .entry)) (now (names .entry)) (now (metadata .entry)) (now (objects .entry)) (now (timers .entry))) r ⌝ }
 {
     if !is_version(head.version) {
-        return Measured::BadVersion;
+        return Measured::Refused(Fault::Version, 0);
     }
     if !fit(head, param0, param1, param2, timers) {
         return Measured::Misfit;

@@ -268,10 +268,9 @@ fn put_block(
 // The length of what was written, or why nothing was.
 pub enum WriteAnswer {
     Written(usize),
-    BadVersion,
     // The parts do not fit.
     Misfit,
-    // What the reader would say of the bytes.
+    // The version is outside 22..29, or what the reader would say of the bytes.
     Refused(Fault, usize),
     NoRoom,
 }
@@ -301,7 +300,6 @@ pub fn write(
         objects,
         timers,
     ) {
-        Measured::BadVersion => WriteAnswer::BadVersion,
         Measured::Misfit => WriteAnswer::Misfit,
         Measured::Refused(f, p) => WriteAnswer::Refused(f, p),
         Measured::Fits(c, n) => {

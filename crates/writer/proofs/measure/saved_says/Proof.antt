@@ -9,6 +9,7 @@ use denote.Ref.{now}
 use mathlib.Core.Path.{ap}
 use Rattle.mapblock.specs.Layout.{nameRow}
 use Rattle.mapblock.specs.Table.{freeIn}
+use Rattle.mapblock.proofs.NamesMarked.{marked-rows}
 use Rattle.writer.proofs.RowsSaid.{rows-reach, saved-says}
 use Rattle.writer.proofs.Says.{onward-reach}
 
@@ -22,7 +23,7 @@ returns : tie.Need-returns
 returns c =
     let b : Bytes (now (c .before .before .before .before .args .names)) = λ i. c .before .before .before .shared-slice-known .given i .fits in
     let h = c .before .name-rows .ensures in (
-      saved-says b (h .0) (h .1) (c .onward .ensures),
+      saved-says b (h .0) (marked-rows (now (c .before .before .before .before .args .ids)) (now (c .before .before .before .before .args .names)) (c .before .before .before .before .args .count) (h .1 .1) b (h .1 .0)) (c .onward .ensures),
       omega (arith, ap reach (c .onward .ensures), onward-reach 7 (toldReach (c .before .name-rows .result)), rows-reach (nameRow (freeIn (now (c .before .before .before .before .args .ids)))) (c .before .before .before .before .args .count) (now (c .before .before .before .before .args .names)) (h .0)),
     )
 

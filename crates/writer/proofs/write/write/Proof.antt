@@ -5,7 +5,7 @@ use denote.Ref.{now}
 use mathlib.Core.Path.{subst}
 use native.Mathlib.Omega.{arith}
 use lib.ListN.{length}
-use Rattle.wire.specs.Answer.{refusal, plain, versionOutside, noRoom, partsMisfit}
+use Rattle.wire.specs.Answer.{refusal, plain, noRoom, partsMisfit}
 use Rattle.mapblock.specs.Numbers.{number}
 use Rattle.writer.specs.Parts.{Parts, partsOf}
 use Rattle.writer.specs.Measured.{Written, MeasuredAs}
@@ -24,9 +24,6 @@ measure-requires c κs = search needs
 enum-told : tie.Need-enum-told
 enum-told c = search needs
 
-enum-told-2 : tie.Need-enum-told-2
-enum-told-2 c = search needs
-
 enum-known-f : tie.Need-enum-known-f
 enum-known-f c = search needs
 
@@ -40,19 +37,16 @@ put-block-requires : tie.Need-put-block-requires
 put-block-requires c κs = omega (arith, fits-as (c .before .before) .long, c .before .if1 .left)
 
 returns-2 : tie.Need-returns-2
-returns-2 c = answers-by (parts (c .before .before .before)) (now (c .before .before .before .before .before .before .before .before .before .before .before .args .out)) (plain versionOutside) (subst (MeasuredAs (parts (c .before .before .before))) (c .enum-told .given .1) (c .before .before .measure .ensures) (length (now (c .before .before .before .before .before .before .before .before .before .before .before .args .out))))
+returns-2 c = answers-by (parts (c .before .before .before)) (now (c .before .before .before .before .before .before .before .before .before .before .before .args .out)) (plain partsMisfit) (subst (MeasuredAs (parts (c .before .before .before))) (c .enum-told .given .1) (c .before .before .measure .ensures) (length (now (c .before .before .before .before .before .before .before .before .before .before .before .args .out))))
 
 returns-3 : tie.Need-returns-3
-returns-3 c = answers-by (parts (c .before .before .before)) (now (c .before .before .before .before .before .before .before .before .before .before .before .args .out)) (plain partsMisfit) (subst (MeasuredAs (parts (c .before .before .before))) (c .enum-told2 .given .1) (c .before .before .measure .ensures) (length (now (c .before .before .before .before .before .before .before .before .before .before .before .args .out))))
-
-returns-4 : tie.Need-returns-4
-returns-4 c = answers-by (parts (c .before .before .before .before)) (now (c .before .before .before .before .before .before .before .before .before .before .before .before .args .out)) (refusal (number (c .before .f .given .0 .0)) 0 (c .before .f .given .0 .1 .0)) (subst (MeasuredAs (parts (c .before .before .before .before))) (c .before .f .given .1) (c .before .before .before .measure .ensures) (length (now (c .before .before .before .before .before .before .before .before .before .before .before .before .args .out))))
+returns-3 c = answers-by (parts (c .before .before .before .before)) (now (c .before .before .before .before .before .before .before .before .before .before .before .before .args .out)) (refusal (number (c .before .f .given .0 .0)) 0 (c .before .f .given .0 .1 .0)) (subst (MeasuredAs (parts (c .before .before .before .before))) (c .before .f .given .1) (c .before .before .before .measure .ensures) (length (now (c .before .before .before .before .before .before .before .before .before .before .before .before .args .out))))
 
 same-length : tie.Need-same-length
 same-length c = search needs
 
-returns-5 : tie.Need-returns-5
-returns-5 c = answers-written (now (c .before .before .before .before .before .before .before .before .before .before .before .before .before .before .before .before .before .args .out)) (fits-as (c .before .before .before .before .before)) (c .before .before .before .before .if1 .left) (c .before .before .put-block .ensures)
+returns-4 : tie.Need-returns-4
+returns-4 c = answers-written (now (c .before .before .before .before .before .before .before .before .before .before .before .before .before .before .before .before .before .args .out)) (fits-as (c .before .before .before .before .before)) (c .before .before .before .before .if1 .left) (c .before .before .put-block .ensures)
 
 pub write-spec : {M : Type 1} → statement M
 write-spec =
@@ -60,13 +54,11 @@ write-spec =
     (tie.spec
     measure-requires
     enum-told
-    enum-told-2
     enum-known-f
     enum-known-c
     returns
     put-block-requires
     returns-2
     returns-3
-    returns-4
     same-length
-    returns-5)
+    returns-4)
