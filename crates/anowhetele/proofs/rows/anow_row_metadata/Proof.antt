@@ -30,12 +30,6 @@ plain-requires c κs = search needs
 no-metadata-requires : tie.Need-no-metadata-requires
 no-metadata-requires c κs = search needs
 
-enum-told-2 : tie.Need-enum-told-2
-enum-told-2 c = search needs
-
-plain-requires-2 : tie.Need-plain-requires-2
-plain-requires-2 c κs = search needs
-
 no-metadata-requires-2 : tie.Need-no-metadata-requires-2
 no-metadata-requires-2 c κs = search needs
 
@@ -45,9 +39,6 @@ enum-known-f c = search needs
 refused-requires : tie.Need-refused-requires
 refused-requires c κs = search needs
 
-no-metadata-requires-3 : tie.Need-no-metadata-requires-3
-no-metadata-requires-3 c κs = search needs
-
 returns : tie.Need-returns
 returns c = rw (c .before .before .done .ensures) (ap handedMetadata (told-as toldMetadataRow (c .before .before .before .before .before .before .before .before .before .metadata-row-of .ensures) (c .before .before .before .before .before .before .before .row .given .1)))
 
@@ -55,10 +46,7 @@ returns-2 : tie.Need-returns-2
 returns-2 c = c .no-metadata .ensures ∙ ap noMetadata (c .before .plain .ensures) ∙ ap handedMetadata (told-as toldMetadataRow (c .before .before .before .before .metadata-row-of .ensures) (c .before .before .enum-told .given .1))
 
 returns-3 : tie.Need-returns-3
-returns-3 c = c .no-metadata2 .ensures ∙ ap noMetadata (c .before .plain2 .ensures) ∙ ap handedMetadata (told-as toldMetadataRow (c .before .before .before .before .metadata-row-of .ensures) (c .before .before .enum-told2 .given .1))
-
-returns-4 : tie.Need-returns-4
-returns-4 c = c .no-metadata3 .ensures ∙ ap noMetadata (c .before .refused .ensures) ∙ ap handedMetadata (told-as toldMetadataRow (c .before .before .before .before .before .metadata-row-of .ensures) (c .before .before .before .f .given .1))
+returns-3 c = c .no-metadata2 .ensures ∙ ap noMetadata (c .before .refused .ensures) ∙ ap handedMetadata (told-as toldMetadataRow (c .before .before .before .before .before .metadata-row-of .ensures) (c .before .before .before .f .given .1))
 
 pub anow-row-metadata-spec : {M : Type 1} → statement M
 anow-row-metadata-spec =
@@ -72,13 +60,9 @@ anow-row-metadata-spec =
     enum-told
     plain-requires
     no-metadata-requires
-    enum-told-2
-    plain-requires-2
-    no-metadata-requires-2
     enum-known-f
     refused-requires
-    no-metadata-requires-3
+    no-metadata-requires-2
     returns
     returns-2
-    returns-3
-    returns-4)
+    returns-3)

@@ -33,12 +33,6 @@ enum-known-f c = search needs
 refused-requires : tie.Need-refused-requires
 refused-requires c κs = search needs
 
-enum-told-3 : tie.Need-enum-told-3
-enum-told-3 c = search needs
-
-plain-requires-3 : tie.Need-plain-requires-3
-plain-requires-3 c κs = search needs
-
 same-length : tie.Need-same-length
 same-length c = search needs
 
@@ -55,19 +49,13 @@ same-length-3 : tie.Need-same-length-3
 same-length-3 c = search needs
 
 returns-3 : tie.Need-returns-3
-returns-3 c = let e = c .before .before .before .before .before .write .ensures in (rw (c .plain2 .ensures) (ap handed (told-as toldWrite (e .0) (c .before .enum-told2 .given .1))), e .1)
+returns-3 c = let e = c .before .before .before .before .before .before .write .ensures in (rw (c .refused .ensures) (ap handed (told-as toldWrite (e .0) (c .before .before .f .given .1))), e .1)
 
 same-length-4 : tie.Need-same-length-4
 same-length-4 c = search needs
 
 returns-4 : tie.Need-returns-4
-returns-4 c = let e = c .before .before .before .before .before .before .write .ensures in (rw (c .refused .ensures) (ap handed (told-as toldWrite (e .0) (c .before .before .f .given .1))), e .1)
-
-same-length-5 : tie.Need-same-length-5
-same-length-5 c = search needs
-
-returns-5 : tie.Need-returns-5
-returns-5 c = let e = c .before .before .before .before .before .write .ensures in (rw (c .plain3 .ensures) (ap handed (told-as toldWrite (e .0) (c .before .enum-told3 .given .1))), e .1)
+returns-4 c = let e = c .before .before .before .before .before .write .ensures in (rw (c .plain2 .ensures) (ap handed (told-as toldWrite (e .0) (c .before .enum-told2 .given .1))), e .1)
 
 pub anow-write-spec : {M : Type 1} → statement M
 anow-write-spec =
@@ -78,12 +66,10 @@ anow-write-spec =
     done-requires
     enum-told
     plain-requires
-    enum-told-2
-    plain-requires-2
     enum-known-f
     refused-requires
-    enum-told-3
-    plain-requires-3
+    enum-told-2
+    plain-requires-2
     same-length
     returns
     same-length-2
@@ -91,6 +77,4 @@ anow-write-spec =
     same-length-3
     returns-3
     same-length-4
-    returns-4
-    same-length-5
-    returns-5)
+    returns-4)
