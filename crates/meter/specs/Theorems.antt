@@ -12,7 +12,7 @@ use lib.ListN.{length, take}
 use Rattle.wire.specs.Bytes.{Bytes}
 use Rattle.wire.specs.Read.{refused}
 use Rattle.wire.specs.Format.{encodeItems}
-use Rattle.wire.specs.Answer.{Answer, good, refusal, mapAnswer, lent, sheetMalformed, thenAnswer}
+use Rattle.wire.specs.Answer.{Answer, good, refusal, mapAnswer, sheetMalformed, thenAnswer}
 use Rattle.position.specs.Keys.{splitOf}
 use Rattle.position.specs.Spans.{inSpan}
 use Rattle.position.specs.declared.key.Coordinates.{Coordinates}
@@ -22,8 +22,8 @@ use Rattle.mapblock.specs.Block.{block}
 use Rattle.mapblock.specs.Questions.{blockOf, nameAt}
 use Rattle.mapblock.specs.Valid.{Distinct, Valid}
 use Rattle.tally.specs.Rows.{countIn}
-use Rattle.tally.specs.Tally.{tally, rowsOf}
-use Rattle.tally.specs.Theorems.{Merger, merged, Merges, MergeLaw, EmptyChangesNothing, sumOf, Fits}
+use Rattle.tally.specs.Tally.{rowsOf}
+use Rattle.tally.specs.Theorems.{Merger, outcome, merged, Merges, MergeLaw, emptyTally, EmptyChangesNothing, sumOf, Fits}
 use Rattle.tally.specs.Theorems as merging
 use Rattle.meter.specs.Standing.{Part, goodPart, Placed, Node, nodesIn}
 use Rattle.meter.specs.Counting.{Measure, MeasureRows, tallyOf, amountOf, byOne}
@@ -122,7 +122,7 @@ module _ (m : Measure) where
   tallyFrom (whole-sheet s spare) p room = tallySheetOf m s p room spare
 
   abbrev pub tallied : Tallier
-  tallied x p out = (mapAnswer length (tallyFrom x p (length out)), lent (tallyFrom x p (length out)) out)
+  tallied x p out = outcome (tallyFrom x p (length out)) out
 
   -- ---- demand 2: when a part is tallied, and what its tally counts
   -- The part is good, the spare is long enough, the blocks are taken, and the rows of what stands in the part fit.
@@ -193,7 +193,7 @@ module _ (m : Measure) where
 
   -- ---- what may not slip through: document 01, the section of that name
   abbrev pub AlwaysEmpty : Tallier → Type 0
-  AlwaysEmpty f = (room : ℕ) (x : Source) (p : Part) (out t : List ℕ) → IsBytes x → Gives f room x p out t → t ≡ tally (m .kind) .encode []
+  AlwaysEmpty f = (room : ℕ) (x : Source) (p : Part) (out t : List ℕ) → IsBytes x → Gives f room x p out t → t ≡ emptyTally (m .kind)
 
   abbrev pub RefusesAll : Tallier → Type 0
   RefusesAll f = (room : ℕ) (x : Source) (p : Part) (out t : List ℕ) → Gives f room x p out t → ⊥

@@ -4,9 +4,9 @@ use Prim.Native.Nat.{ℕ, suc, _+_, _≤_}
 use mathlib.Core.Path.{_≡_}
 use mathlib.Core.Logic.{_↔_, _⊎_}
 use mathlib.Core.Bool.{true}
-use mathlib.Core.List.{List, [], _∷_}
+use mathlib.Core.List.{List, [], _∷_, _++_}
 use mathlib.Core.Option.{some, Option·getD}
-use lib.ListN.{length, take}
+use lib.ListN.{length, take, drop}
 use Rattle.wire.specs.Bytes.{Bytes}
 use Rattle.wire.specs.Answer.{Answer, good, refusal, mapAnswer, lent, noRoom, tooMany}
 use Rattle.tally.specs.Rows.{Counts, Rows, plus, countIn, Canonical}
@@ -32,9 +32,13 @@ pub record Sums (S : Counts) : Type 0 where
 abbrev pub Merger : Type 0
 Merger = List ℕ → List ℕ → List ℕ → Answer ℕ × List ℕ
 
+-- what a call answers that puts bytes into the output lent, or is refused, and what the output holds then
+abbrev pub outcome : Answer (List ℕ) → List ℕ → Answer ℕ × List ℕ
+outcome x out = (mapAnswer length x, lent x out)
+
 -- the one that the contract of `merge` cites
 abbrev pub merged : Kind → Merger
-merged k a b out = (mapAnswer length (mergeOf k (length out) a b), lent (mergeOf k (length out) a b) out)
+merged k a b out = outcome (mergeOf k (length out) a b) out
 
 -- one is taken out of a list, and that leaves another
 pub data Taken (a : List ℕ) : List (List ℕ) → List (List ℕ) → Type 0 where
@@ -109,10 +113,18 @@ module _ (k : Kind) where
   abbrev pub SumCounts : Type 0
   SumCounts = (ts : List (List ℕ)) (n : List ℕ) → countIn (k .counts) (sumOf ts) n ≡ countAcross ts n
 
-  -- the empty tally changes nothing that fits
-  abbrev pub EmptyChangesNothing : Type 0
-  EmptyChangesNothing = (t : List ℕ) (room : ℕ) → IsTally t → length t ≤ room
-      → (mergeOf k room t (tally k .encode []) ≡ good t) × (mergeOf k room (tally k .encode []) t ≡ good t)
+  -- the tally of no rows
+  abbrev pub emptyTally : List ℕ
+  emptyTally = tally k .encode []
+
+  -- "The empty tally changes nothing that fits."
+  pub record EmptyChangesNothing : Type 0 where
+    -- A tally that fits in the output, merged with the empty one, comes out as it was, whichever of the two is first: its length is told, its bytes
+    -- stand in front of the output, and behind them the output is as it was.
+    pub first : (t out : List ℕ) → IsTally t → length t ≤ length out → merged k emptyTally t out ≡ (good (length t), t ++ drop (length t) out)
+    pub second : (t out : List ℕ) → IsTally t → length t ≤ length out → merged k t emptyTally out ≡ (good (length t), t ++ drop (length t) out)
+    -- Wherever it stands in a list of tallies, their sum is the same without it.
+    pub among : (front back : List (List ℕ)) → sumOf (front ++ emptyTally ∷ back) ≡ sumOf (front ++ back)
 
   -- ---- what may not slip through: a merge that does nothing, or one that refuses all
   abbrev pub DoesNothing : Merger → Type 0
