@@ -115,6 +115,15 @@ pub record Gives (f : Tallier) (room : ℕ) (x : Source) (p : Part) (out t : Lis
   pub done : f x p out .0 ≡ good told
   pub bytes : t ≡ take told (f x p out .1)
 
+-- What a list of merges of the parts' tallies comes to, where t is the whole's tally: so many merges done, these refused, and what is left.
+pub record GivesWhole (t : List ℕ) (parts : List (List ℕ)) (made : ℕ) (log : List ℕ) (left : List (List ℕ)) : Type 0 where
+  -- "no merge is refused"
+  pub none-refused : log ≡ []
+  -- "when one tally is left it has" the whole's "very bytes"
+  pub one-left : (u : List ℕ) → left ≡ u ∷ [] → u ≡ t
+  -- as many merges as there are parts less one leave one
+  pub all-merged : suc made ≡ length parts → left ≡ t ∷ []
+
 module _ (m : Measure) where
   -- the one that the contracts cite
   abbrev pub tallyFrom : Source → Part → ℕ → Answer (List ℕ)
@@ -167,10 +176,10 @@ module _ (m : Measure) where
     pub counts : (p : Part) (out t : List ℕ) → Gives f room x p out t → CountsOf x p t
     -- one part has the whole's bytes
     pub one-part : (t u : List ℕ) → Gives f room x whole out t → AllGive f room x parts outs (u ∷ []) → u ≡ t
-    -- of two parts or more no merge is refused, and as many merges as leave one leave the whole's bytes
+    -- "The parts, merged in whatever order and grouping, then give the whole's very bytes": every list of merges, of two parts or more
     pub merges : (t a b : List ℕ) (more : List (List ℕ)) (made : ℕ) (log : List ℕ) (left : List (List ℕ))
         → Gives f room x whole out t → AllGive f room x parts outs (a ∷ b ∷ more) → Merges g room (a ∷ b ∷ more) made log left
-        → (log ≡ []) × (suc made ≡ length (a ∷ b ∷ more) → left ≡ t ∷ [])
+        → GivesWhole t (a ∷ b ∷ more) made log left
 
   -- for every block or sheet and every list of cuts, whatever the outputs held
   abbrev pub EveryCut : Tallier → Merger → Type 0
