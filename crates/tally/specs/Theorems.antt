@@ -1,5 +1,5 @@
 -- What holds of tallies: document 01, 'Tallies, lots, spans, sheets', 'Cuts and merges' and 'What may not slip through'. proofs/WellFormed.antt,
--- proofs/Canon.antt and proofs/MergeLaw.antt prove it.
+-- proofs/Walk.antt, proofs/Canon.antt and proofs/MergeLaw.antt prove it.
 use Prim.Native.Nat.{ℕ, suc, _+_, _≤_}
 use mathlib.Core.Path.{_≡_}
 use mathlib.Core.Logic.{_↔_, _⊎_}
@@ -8,15 +8,28 @@ use mathlib.Core.List.{List, [], _∷_, _++_}
 use mathlib.Core.Option.{some, Option·getD}
 use lib.ListN.{length, take, drop}
 use Rattle.wire.specs.Bytes.{Bytes}
-use Rattle.wire.specs.Answer.{Answer, good, refusal, mapAnswer, lent, noRoom, tooMany}
+use Rattle.wire.specs.Answer.{Answer, good, refusal, mapAnswer, partOf, lent, noRoom, tooMany}
+use Rattle.wire.specs.Walk.{GivesRows}
 use Rattle.tally.specs.Rows.{Counts, Rows, plus, countIn, Canonical}
-use Rattle.tally.specs.Tally.{Kind, KindRows, tally, rowsOf, countable}
-use Rattle.tally.specs.Operations.{mergeOf}
+use Rattle.tally.specs.Tally.{Kind, KindRow, KindRows, fields, tally, rowsOf, countable}
+use Rattle.tally.specs.Operations.{rowsPart, frontOf, mergeOf}
 
 -- ---- Bytes are a tally exactly where they are those of rows as a tally has them, which can be counted.
 abbrev pub WellFormed : Kind → Type 0
 WellFormed k = (s : List ℕ) (l : KindRows k) → Bytes s
     → (rowsOf k s ≡ some l) ↔ (Canonical (k .counts) l × (countable k l ≡ true) × (s ≡ tally k .encode l))
+
+-- ---- Rows are taken from the front, and the rows behind a row are what remains.
+abbrev pub rowsBehind : (k : Kind) → List ℕ → List ℕ
+rowsBehind k p = partOf (λ (x : KindRow k × ℕ). drop (x .1) p) (frontOf k p)
+
+-- a row with its length
+abbrev pub rowShown : (k : Kind) → KindRow k → KindRow k × ℕ
+rowShown k r = (r, length (fields k .encode r))
+
+-- The question for the front row, asked of a tally's rows and then each time of what remains, gives them one after the other and then 16.
+abbrev pub WalkGivesRows : Kind → Type 0
+WalkGivesRows k = (t : List ℕ) (l : KindRows k) → Bytes t → rowsOf k t ≡ some l → GivesRows (rowsBehind k) (frontOf k) (rowShown k) (partOf (λ p. p) (rowsPart k t)) l
 
 -- ---- Sums add, name by name; rows as a tally has them are determined by their counts; so order and grouping of sums are free.
 pub record Sums (S : Counts) : Type 0 where
