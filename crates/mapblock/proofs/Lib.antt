@@ -34,6 +34,7 @@ pub mod Taken
 pub mod NameWalks
 pub mod SectionsThere
 pub mod RunsThere
+pub mod Walk
 pub mod RowsAlone
 pub mod BlockAnswers
 pub mod NodeNames

@@ -1,12 +1,12 @@
 -- What the definitions promise together, for document 01's 'Reading, looking, writing' and 'What may not slip through'. Proved in proofs/:
 -- `ValidIsOk` in ValidOk.antt, `SectionsAreRows` and `Param0There` in SectionsThere.antt, `VeryBytes` in NodeNames.antt, `RunsAreThere` in
--- RunsThere.antt, `NeverTwice` in RowsAlone.antt, `FirstEndLine` in EndLines.antt, the others in Taken.antt.
+-- RunsThere.antt, `WalkGivesRows` in Walk.antt, `NeverTwice` in RowsAlone.antt, `FirstEndLine` in EndLines.antt, the others in Taken.antt.
 use Prim.Native.Nat.{ℕ, zero, suc, _+_, _<_, _≤_}
 use mathlib.Core.Path.{_≡_}
 use mathlib.Core.Logic.{_↔_}
 use mathlib.Core.Bool.{Bool, true, false, _&&_}
 use mathlib.Core.Option.{some, none}
-use mathlib.Core.List.{List, []}
+use mathlib.Core.List.{List, [], map}
 use lib.Dec.{eqb}
 use lib.ListN.{length, getD, drop}
 use Rattle.wire.specs.Bytes.{Bytes}
@@ -15,18 +15,22 @@ use Rattle.wire.specs.Read.{Read, done, refused}
 use Rattle.wire.specs.Format.{encodeItems}
 use Rattle.wire.specs.Formats.{number}
 use Rattle.wire.specs.Answer.{Answer, good, refusal, positionTwice, idTwice, idUnmapped}
+use Rattle.wire.specs.Walk.{walk, GivesRows}
 use Rattle.mapblock.specs.Data.{NameRow, MetadataRow, ObjectRow, Block}
-use Rattle.mapblock.specs.Inventory.{endLine, through}
+use Rattle.mapblock.specs.Inventory.{Form, endLine, through}
 use Rattle.mapblock.specs.Layout.{all, width, nameRow, variable, metadataRow, objectRow, timerRow}
 use Rattle.mapblock.specs.Block.{block, stray, param0At, verdict}
 use Rattle.mapblock.specs.Valid.{Valid}
-use Rattle.mapblock.specs.Rows.{nameFields, metadataFields, objectFields}
+use Rattle.mapblock.specs.Rows.{nameFields, metadataFields, objectFields, timerFields}
 use Rattle.mapblock.specs.Sections.{sections, within}
 use Rattle.mapblock.specs.Questions.{nameAt, nameSpot}
-use Rattle.mapblock.specs.RowQuestions.{nameRowOf, metadataRowOf, objectRowOf, timerRowOf}
+use Rattle.mapblock.specs.RowQuestions.{nameRowOf, metadataRowOf, objectRowOf, timerRowOf, runOf, rowsBehind}
 use Rattle.mapblock.specs.declared.fault.Fault.{Fault}
 use Rattle.mapblock.specs.declared.fault.Fault.the-variants as fault
 use Rattle.mapblock.specs.declared.head.Part.{Part}
+use Rattle.mapblock.specs.declared.names.NameFields.{NameFields}
+use Rattle.mapblock.specs.declared.metadata.MetadataFields.{MetadataFields}
+use Rattle.mapblock.specs.declared.objects.ObjectFields.{ObjectFields}
 
 -- ---- well formed
 -- The valid blocks are those that have bytes in the layout and no id unmapped.
@@ -129,6 +133,47 @@ pub record RunsAreThere : Type 0 where
   pub metadata : (v : ℕ) (s : List ℕ) (r : MetadataRow) (n : ℕ) → Bytes s → metadataRow v [] .read s ≡ done r n → MetadataRunsIn v s r
   pub object : (s : List ℕ) (r : ObjectRow) (n : ℕ) → Bytes s → objectRow .read s ≡ done r n → Holds s (objectFields r .content) (r .content)
 
+-- ---- rows from the front: document 01, 'Reading, looking, writing'
+-- what a row question tells of a row: its fields and its length
+abbrev pub rowShown : {A B : Type 0} → Form A → (A → B) → A → B × ℕ
+rowShown f fields r = (fields r, length (f .encode r))
+
+-- The row question, asked of the part s and then each time of the rows behind, gives these rows, one after the other, and then 16.
+abbrev pub RowsWalked : {A B : Type 0} → (List ℕ → Answer (B × ℕ)) → (A → B × ℕ) → List ℕ → List A → Type 0
+RowsWalked ask shown s rows = GivesRows (λ p. rowsBehind p (ask p)) ask shown s rows
+
+-- The run that comes back of each row on that walk is these bytes.
+abbrev pub RunsWalked : {A B : Type 0} → (List ℕ → Answer (B × ℕ)) → (B → Part) → (A → List ℕ) → List ℕ → List A → Type 0
+RunsWalked ask run bytes s rows = walk (λ p. rowsBehind p (ask p)) (λ p. runOf run p (ask p)) (length rows) s ≡ map bytes rows
+
+-- a part of names, of metadata in the version v, of static objects
+pub record NamesWalked (s : List ℕ) (l : List NameRow) : Type 0 where
+  pub rows : RowsWalked nameRowOf (rowShown (nameRow all []) nameFields) s l
+  pub name : RunsWalked nameRowOf (λ (f : NameFields). f .name) (λ (r : NameRow). r .name) s l
+
+pub record MetadataWalked (v : ℕ) (s : List ℕ) (l : List MetadataRow) : Type 0 where
+  pub rows : RowsWalked (metadataRowOf v) (rowShown (metadataRow v []) (metadataFields v)) s l
+  pub content : RunsWalked (metadataRowOf v) (λ (f : MetadataFields). f .content) (λ (r : MetadataRow). r .content) s l
+  pub variables : RunsWalked (metadataRowOf v) (λ (f : MetadataFields). f .rows) (λ (r : MetadataRow). encodeItems (λ _. variable v) [] (r .variables)) s l
+  pub inventory : RunsWalked (metadataRowOf v) (λ (f : MetadataFields). f .inventory) (λ (r : MetadataRow). r .inventory) s l
+
+pub record ObjectsWalked (s : List ℕ) (l : List ObjectRow) : Type 0 where
+  pub rows : RowsWalked objectRowOf (rowShown objectRow objectFields) s l
+  pub content : RunsWalked objectRowOf (λ (f : ObjectFields). f .content) (λ (r : ObjectRow). r .content) s l
+
+-- each section of the block b; a row of timers has no run
+pub record SectionsWalked (s : List ℕ) (b : Block) : Type 0 where
+  pub names : NamesWalked (within s (sections b .names)) (b .names)
+  pub metadata : MetadataWalked (b .head .version) (within s (sections b .metadata)) (b .metadata)
+  pub objects : ObjectsWalked (within s (sections b .objects)) (b .objects)
+  pub timers : RowsWalked timerRowOf (rowShown (timerRow []) timerFields) (within s (sections b .timers)) (b .timers)
+
+-- "Rows are taken from the front, and the rows behind a row are handed on as what remains": of every block that is taken, each section so gives
+-- the block's rows, and 16 where they end.
+abbrev pub WalkGivesRows : Type 0
+WalkGivesRows = (s : List ℕ) (b : Block) (n : ℕ) → Bytes s → verdict all s ≡ done b n → SectionsWalked s b
+
+-- ---- a row judged alone: document 01, 'Reading, looking, writing'
 -- an answer without the numbers 5, 6 and 8
 abbrev pub Alone : {A : Type 0} → Answer A → Type 0
 Alone (good a) = Unit {0}

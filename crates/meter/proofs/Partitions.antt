@@ -1,5 +1,5 @@
 -- Parts of which each node of the whole lies in exactly one: their tallies sum up to the whole's, and the cut law follows.
-use Prim.Native.Nat.{ℕ, suc, _+_}
+use Prim.Native.Nat.{ℕ, _+_}
 use mathlib.Core.Path.{_≡_, refl, sym, ap, subst, _∙_}
 use mathlib.Core.Bool.{Bool, true, false, cond}
 use mathlib.Core.List.{List, [], _∷_, _++_}
@@ -17,7 +17,7 @@ use Rattle.tally.proofs.MergeLaw.{merge-law, empty-changes-nothing}
 use Rattle.meter.specs.Standing.{Part, goodPart, Placed, Node, inPart, those, standing, nodesIn}
 use Rattle.meter.specs.Counting.{Measure, MeasureRows, amountOf}
 use Rattle.meter.specs.Cuts.{Cuts, uncut, cut, lower, upper, shares, allGood, Partition}
-use Rattle.meter.specs.Theorems.{Source, blocksOf, SpareFits, IsBytes, Gives, tallied, Talliable, AllGive, Outputs, EveryCut, PartitionLaw, Demand3}
+use Rattle.meter.specs.Theorems.{Source, blocksOf, SpareFits, IsBytes, Gives, GivesWhole, tallied, Talliable, AllGive, Outputs, EveryCut, PartitionLaw, Demand3}
 use Rattle.meter.proofs.Amounts.{first-amount, count-tally}
 use Rattle.meter.proofs.Blocks.{AllValid, held, rows-canonical}
 use Rattle.meter.proofs.Cuts.{partition}
@@ -211,14 +211,15 @@ module _ (m : Measure) where
 
       all-merges : (t a c : List ℕ) (more : List (List ℕ)) (made : ℕ) (log : List ℕ) (left : List (List ℕ))
           → Gives (tallied m) room x whole out t → AllGive m (tallied m) room x (p ∷ ps) outs (a ∷ c ∷ more) → Merges (merged (m .kind)) room (a ∷ c ∷ more) made log left
-          → (log ≡ []) × (suc made ≡ length (a ∷ c ∷ more) → left ≡ t ∷ [])
+          → GivesWhole t (a ∷ c ∷ more) made log left
       all-merges t a c more made log left g k r =
           let s = sum-is t (a ∷ c ∷ more) g k in
           let y = gives-tallied m x whole room out t b g in
           let v = blocks-valid x b (y .can .blocks) (y .can .taken) .0 in
           let ts = given-by (y .can .blocks) v (y .can .taken) (p ∷ ps) outs (a ∷ c ∷ more) k .tallies in
           let law = merge-law (m .kind) room a c more made log left ts r in
-          (law .none-refused (s .0), λ e. last left (omega (arith, law .fewer)) (λ u w. law .one-left u w .1 ∙ sym (s .1)))
+          let one : (u : List ℕ) → left ≡ u ∷ [] → u ≡ t = λ u w. law .one-left u w .1 ∙ sym (s .1) in
+          record { none-refused = law .none-refused (s .0); one-left = one; all-merged = λ e. last left (omega (arith, law .fewer)) one }
         where
           last : (left : List (List ℕ)) → length left ≡ 1 → ((u : List ℕ) → left ≡ u ∷ [] → u ≡ t) → left ≡ t ∷ []
           last [] e f = absurd (omega arith)

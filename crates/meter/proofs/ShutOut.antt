@@ -169,14 +169,14 @@ module _ (f : Tallier) (g : Merger) (t a b : List ℕ) (e : Exact byOne f) (law 
 
   not-refused : {n r o : ℕ} → g a b (zeros room) .0 ≡ refusal n r o → ⊥
   not-refused {n} h =
-      let x = cut-law .merges t a b [] 0 (n ∷ []) _ whole parts (refused front front out-long h stop) .0 in
+      let x = cut-law .merges t a b [] 0 (n ∷ []) _ whole parts (refused front front out-long h stop) .none-refused in
       let z : _≡_ {A = ℕ} 0 1 = cc in omega arith
 
   not-idle : (r : Answer ℕ) → g a b (zeros room) .0 ≡ r → g a b (zeros room) .1 ≡ zeros room → ⊥
   not-idle (refusal n r o) h k = not-refused h
   not-idle (good n) h k =
-      let x = cut-law .merges t a b [] 1 [] _ whole parts (done front front out-long h stop) .1 refl in
-      let same : t ≡ take n (zeros room) = cc in
+      let x = cut-law .merges t a b [] 1 [] _ whole parts (done front front out-long h stop) .one-left _ refl in
+      let same : t ≡ take n (zeros room) = sym x ∙ ap (take n) k in
       let c = e .counts room source everywhere (zeros room) t air.are-bytes whole in
       Option·none-ne-some _ (sym (zeros-none (byOne .kind) room n) ∙ ap (rowsOf (byOne .kind)) (sym same) ∙ c .3)
 

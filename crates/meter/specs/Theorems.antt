@@ -12,7 +12,7 @@ use lib.ListN.{length, take}
 use Rattle.wire.specs.Bytes.{Bytes}
 use Rattle.wire.specs.Read.{refused}
 use Rattle.wire.specs.Format.{encodeItems}
-use Rattle.wire.specs.Answer.{Answer, good, refusal, mapAnswer, lent, sheetMalformed, thenAnswer}
+use Rattle.wire.specs.Answer.{Answer, good, refusal, mapAnswer, sheetMalformed, thenAnswer}
 use Rattle.position.specs.Keys.{splitOf}
 use Rattle.position.specs.Spans.{inSpan}
 use Rattle.position.specs.declared.key.Coordinates.{Coordinates}
@@ -22,8 +22,8 @@ use Rattle.mapblock.specs.Block.{block}
 use Rattle.mapblock.specs.Questions.{blockOf, nameAt}
 use Rattle.mapblock.specs.Valid.{Distinct, Valid}
 use Rattle.tally.specs.Rows.{countIn}
-use Rattle.tally.specs.Tally.{tally, rowsOf}
-use Rattle.tally.specs.Theorems.{Merger, merged, Merges, MergeLaw, EmptyChangesNothing, sumOf, Fits}
+use Rattle.tally.specs.Tally.{rowsOf}
+use Rattle.tally.specs.Theorems.{Merger, outcome, merged, Merges, MergeLaw, emptyTally, EmptyChangesNothing, sumOf, Fits}
 use Rattle.tally.specs.Theorems as merging
 use Rattle.meter.specs.Standing.{Part, goodPart, Placed, Node, nodesIn}
 use Rattle.meter.specs.Counting.{Measure, MeasureRows, tallyOf, amountOf, byOne}
@@ -115,6 +115,15 @@ pub record Gives (f : Tallier) (room : ℕ) (x : Source) (p : Part) (out t : Lis
   pub done : f x p out .0 ≡ good told
   pub bytes : t ≡ take told (f x p out .1)
 
+-- What a list of merges of the parts' tallies comes to, where t is the whole's tally: so many merges done, these refused, and what is left.
+pub record GivesWhole (t : List ℕ) (parts : List (List ℕ)) (made : ℕ) (log : List ℕ) (left : List (List ℕ)) : Type 0 where
+  -- "no merge is refused"
+  pub none-refused : log ≡ []
+  -- "when one tally is left it has" the whole's "very bytes"
+  pub one-left : (u : List ℕ) → left ≡ u ∷ [] → u ≡ t
+  -- as many merges as there are parts less one leave one
+  pub all-merged : suc made ≡ length parts → left ≡ t ∷ []
+
 module _ (m : Measure) where
   -- the one that the contracts cite
   abbrev pub tallyFrom : Source → Part → ℕ → Answer (List ℕ)
@@ -122,7 +131,7 @@ module _ (m : Measure) where
   tallyFrom (whole-sheet s spare) p room = tallySheetOf m s p room spare
 
   abbrev pub tallied : Tallier
-  tallied x p out = (mapAnswer length (tallyFrom x p (length out)), lent (tallyFrom x p (length out)) out)
+  tallied x p out = outcome (tallyFrom x p (length out)) out
 
   -- ---- demand 2: when a part is tallied, and what its tally counts
   -- The part is good, the spare is long enough, the blocks are taken, and the rows of what stands in the part fit.
@@ -167,10 +176,10 @@ module _ (m : Measure) where
     pub counts : (p : Part) (out t : List ℕ) → Gives f room x p out t → CountsOf x p t
     -- one part has the whole's bytes
     pub one-part : (t u : List ℕ) → Gives f room x whole out t → AllGive f room x parts outs (u ∷ []) → u ≡ t
-    -- of two parts or more no merge is refused, and as many merges as leave one leave the whole's bytes
+    -- "The parts, merged in whatever order and grouping, then give the whole's very bytes": every list of merges, of two parts or more
     pub merges : (t a b : List ℕ) (more : List (List ℕ)) (made : ℕ) (log : List ℕ) (left : List (List ℕ))
         → Gives f room x whole out t → AllGive f room x parts outs (a ∷ b ∷ more) → Merges g room (a ∷ b ∷ more) made log left
-        → (log ≡ []) × (suc made ≡ length (a ∷ b ∷ more) → left ≡ t ∷ [])
+        → GivesWhole t (a ∷ b ∷ more) made log left
 
   -- for every block or sheet and every list of cuts, whatever the outputs held
   abbrev pub EveryCut : Tallier → Merger → Type 0
@@ -193,7 +202,7 @@ module _ (m : Measure) where
 
   -- ---- what may not slip through: document 01, the section of that name
   abbrev pub AlwaysEmpty : Tallier → Type 0
-  AlwaysEmpty f = (room : ℕ) (x : Source) (p : Part) (out t : List ℕ) → IsBytes x → Gives f room x p out t → t ≡ tally (m .kind) .encode []
+  AlwaysEmpty f = (room : ℕ) (x : Source) (p : Part) (out t : List ℕ) → IsBytes x → Gives f room x p out t → t ≡ emptyTally (m .kind)
 
   abbrev pub RefusesAll : Tallier → Type 0
   RefusesAll f = (room : ℕ) (x : Source) (p : Part) (out t : List ℕ) → Gives f room x p out t → ⊥

@@ -8,6 +8,7 @@ pub mod Checking
 pub mod Heads
 pub mod Checks
 pub mod WellFormed
+pub mod Walk
 -- What fits, and lists of merges.
 pub mod Fitting
 pub mod MergeLaw

@@ -1,7 +1,7 @@
 -- Lists of merges: whatever their order and grouping, what is left adds up to the start, and one that is left is the sum.
 use Prim.Native.Nat.{ℕ, zero, suc, _+_, _≤_}
 use mathlib.Core.Path.{_≡_, refl, sym, ap, subst, _∙_}
-use mathlib.Core.List.{List, [], _∷_}
+use mathlib.Core.List.{List, [], _∷_, _++_}
 use mathlib.Core.Logic.{_⊎_}
 use mathlib.Core.Option.{Option, some, none, Option·none-ne-some}
 use native.Mathlib.Omega.{arith}
@@ -13,7 +13,7 @@ use Rattle.wire.specs.Answer.{Answer, good, refusal, mapAnswer, lent, no-good, 
 use Rattle.tally.specs.Rows.{plus, countIn, Canonical}
 use Rattle.tally.specs.Tally.{Kind, KindRows, tally, rowsOf}
 use Rattle.tally.specs.Operations.{tallied, mergeOf}
-use Rattle.tally.specs.Theorems.{Merger, merged, Taken, here, there, Merges, stop, done, refused, IsTally, AllTallies, rowsIn, sumOf, Fits, Overfull, MergeLawOf, MergeLaw, SumCounts, EmptyChangesNothing, ShutOut}
+use Rattle.tally.specs.Theorems.{Merger, outcome, merged, Taken, here, there, Merges, stop, done, refused, IsTally, AllTallies, rowsIn, sumOf, Fits, Overfull, MergeLawOf, MergeLaw, SumCounts, emptyTally, EmptyChangesNothing, ShutOut}
 use Rattle.tally.proofs.Held.{opened, rows-of-tally, tally-size, tally-bytewise, tally-bytes}
 use Rattle.tally.proofs.Canon.{count-plus, canonical-plus, plus-comm, plus-assoc, plus-unit}
 use Rattle.tally.proofs.Fitting.{Tallying, fit, overfull, tallying, tallied-good, merge-both, fits-left}
@@ -196,19 +196,28 @@ merge-law k room a b more made log left h m =
     two t e = let z : _≡_ {A = ℕ} 0 1 = cc in omega arith
 
 -- ---- the empty tally
-abbrev empty : Kind → List ℕ
-empty k = tally k .encode []
-
-no-rows : (k : Kind) → rowsOf k (empty k) ≡ some []
+no-rows : (k : Kind) → rowsOf k (emptyTally k) ≡ some []
 no-rows k = rows-of-tally k [] tt refl
 
+among-others : (k : Kind) (front back : List (List ℕ)) → sumOf k (front ++ emptyTally k ∷ back) ≡ sumOf k (front ++ back)
+among-others k [] back = rw (no-rows k)
+among-others k (t ∷ front) back = ap (plus (k .counts) (rowsIn k t)) (among-others k front back)
+
+-- where the sum of two tallies' rows is the rows of a tally that fits, their merge gives that tally
+merge-gives : (k : Kind) (a b t out : List ℕ) {x y : KindRows k} → rowsOf k a ≡ some x → rowsOf k b ≡ some y → IsTally k t → plus (k .counts) x y ≡ rowsIn k t → length t ≤ length out
+    → merged k a b out ≡ outcome (good t) out
+merge-gives k a b t out f g h e fits =
+    let o = opened k t (rowsIn k t) (h .0) (rows-are k t h) in
+    let room = length out in
+    let same : mergeOf k room a b ≡ good t = merge-both k room a b f g ∙ ap (tallied k room) e ∙ tallied-good k room (rowsIn k t) (o .counts, subst (λ (x : List ℕ). length x ≤ room) (o .bytes) fits) ∙ ap good (sym (o .bytes)) in
+    ap (λ (x : Answer (List ℕ)). outcome x out) same
+
 pub empty-changes-nothing : (k : Kind) → EmptyChangesNothing k
-empty-changes-nothing k t room h f =
-    let l = h .1 .0 in
-    let e = h .1 .1 in
-    let o = opened k t l (h .0) e in
-    let g : tallied k room l ≡ good t = tallied-good k room l (o .counts, subst (λ (x : List ℕ). length x ≤ room) (o .bytes) f) ∙ ap good (sym (o .bytes)) in
-    (merge-both k room t (empty k) e (no-rows k) ∙ rw (plus-unit (k .counts) l (o .canonical)) g, merge-both k room (empty k) t (no-rows k) e ∙ g)
+empty-changes-nothing k = record {
+  first = λ t out h. merge-gives k (emptyTally k) t t out (no-rows k) (rows-are k t h) h refl;
+  second = λ t out h. merge-gives k t (emptyTally k) t out (rows-are k t h) (no-rows k) h (plus-unit (k .counts) (rowsIn k t) (rows-canonical k t h));
+  among = among-others k;
+}
 
 -- ---- what the law shuts out, by two empty tallies and an output of zeros
 abbrev pub zeros : ℕ → List ℕ
@@ -232,23 +241,23 @@ zeros-none k room n = go (rowsOf k (take n (zeros room))) refl
     go (some l) e = absurd (marked room n (opened k (take n (zeros room)) l (bytes-take n (zeros room) (zeros-bytes room)) e .bytes ∙ tally-bytes k l))
 
 module _ (k : Kind) (m : Merger) (law : MergeLawOf k m) where
-  two-empty : AllTallies k (empty k ∷ empty k ∷ [])
-  two-empty = let t : IsTally k (empty k) = (tally-bytewise k [] tt refl, ([], no-rows k)) in (t, (t, tt))
+  two-empty : AllTallies k (emptyTally k ∷ emptyTally k ∷ [])
+  two-empty = let t : IsTally k (emptyTally k) = (tally-bytewise k [] tt refl, ([], no-rows k)) in (t, (t, tt))
 
-  no-sum : sumOf k (empty k ∷ empty k ∷ []) ≡ []
+  no-sum : sumOf k (emptyTally k ∷ emptyTally k ∷ []) ≡ []
   no-sum = rw (no-rows k)
 
-  not-refused : {n r o : ℕ} → m (empty k) (empty k) (zeros 9) .0 ≡ refusal n r o → ⊥
+  not-refused : {n r o : ℕ} → m (emptyTally k) (emptyTally k) (zeros 9) .0 ≡ refusal n r o → ⊥
   not-refused {n} e =
-      let fits : Fits k 9 (sumOf k (empty k ∷ empty k ∷ [])) = rw no-sum (refl, omega (arith, tally-size k [])) in
-      let nothing = law 9 (empty k) (empty k) [] 0 (n ∷ []) _ two-empty (refused here here refl e stop) .none-refused fits in
+      let fits : Fits k 9 (sumOf k (emptyTally k ∷ emptyTally k ∷ [])) = rw no-sum (refl, omega (arith, tally-size k [])) in
+      let nothing = law 9 (emptyTally k) (emptyTally k) [] 0 (n ∷ []) _ two-empty (refused here here refl e stop) .none-refused fits in
       let z : _≡_ {A = ℕ} 0 1 = cc in omega arith
 
-  not-idle : (r : Answer ℕ) → m (empty k) (empty k) (zeros 9) .0 ≡ r → m (empty k) (empty k) (zeros 9) .1 ≡ zeros 9 → ⊥
+  not-idle : (r : Answer ℕ) → m (emptyTally k) (emptyTally k) (zeros 9) .0 ≡ r → m (emptyTally k) (emptyTally k) (zeros 9) .1 ≡ zeros 9 → ⊥
   not-idle (refusal n r o) e f = not-refused e
   not-idle (good n) e f =
-      let one = law 9 (empty k) (empty k) [] 1 [] _ two-empty (done here here refl e stop) .one-left _ refl in
-      let same : take n (zeros 9) ≡ empty k = ap (take n) (sym f) ∙ one .1 ∙ ap (tally k .encode) no-sum in
+      let one = law 9 (emptyTally k) (emptyTally k) [] 1 [] _ two-empty (done here here refl e stop) .one-left _ refl in
+      let same : take n (zeros 9) ≡ emptyTally k = ap (take n) (sym f) ∙ one .1 ∙ ap (tally k .encode) no-sum in
       Option·none-ne-some [] (sym (zeros-none k 9 n) ∙ ap (rowsOf k) same ∙ no-rows k)
 
 pub shut-out : (k : Kind) → ShutOut k

@@ -1,22 +1,35 @@
 -- What holds of tallies: document 01, 'Tallies, lots, spans, sheets', 'Cuts and merges' and 'What may not slip through'. proofs/WellFormed.antt,
--- proofs/Canon.antt and proofs/MergeLaw.antt prove it.
+-- proofs/Walk.antt, proofs/Canon.antt and proofs/MergeLaw.antt prove it.
 use Prim.Native.Nat.{ℕ, suc, _+_, _≤_}
 use mathlib.Core.Path.{_≡_}
 use mathlib.Core.Logic.{_↔_, _⊎_}
 use mathlib.Core.Bool.{true}
-use mathlib.Core.List.{List, [], _∷_}
+use mathlib.Core.List.{List, [], _∷_, _++_}
 use mathlib.Core.Option.{some, Option·getD}
-use lib.ListN.{length, take}
+use lib.ListN.{length, take, drop}
 use Rattle.wire.specs.Bytes.{Bytes}
-use Rattle.wire.specs.Answer.{Answer, good, refusal, mapAnswer, lent, noRoom, tooMany}
+use Rattle.wire.specs.Answer.{Answer, good, refusal, mapAnswer, partOf, lent, noRoom, tooMany}
+use Rattle.wire.specs.Walk.{GivesRows}
 use Rattle.tally.specs.Rows.{Counts, Rows, plus, countIn, Canonical}
-use Rattle.tally.specs.Tally.{Kind, KindRows, tally, rowsOf, countable}
-use Rattle.tally.specs.Operations.{mergeOf}
+use Rattle.tally.specs.Tally.{Kind, KindRow, KindRows, fields, tally, rowsOf, countable}
+use Rattle.tally.specs.Operations.{rowsPart, frontOf, mergeOf}
 
 -- ---- Bytes are a tally exactly where they are those of rows as a tally has them, which can be counted.
 abbrev pub WellFormed : Kind → Type 0
 WellFormed k = (s : List ℕ) (l : KindRows k) → Bytes s
     → (rowsOf k s ≡ some l) ↔ (Canonical (k .counts) l × (countable k l ≡ true) × (s ≡ tally k .encode l))
+
+-- ---- Rows are taken from the front, and the rows behind a row are what remains.
+abbrev pub rowsBehind : (k : Kind) → List ℕ → List ℕ
+rowsBehind k p = partOf (λ (x : KindRow k × ℕ). drop (x .1) p) (frontOf k p)
+
+-- a row with its length
+abbrev pub rowShown : (k : Kind) → KindRow k → KindRow k × ℕ
+rowShown k r = (r, length (fields k .encode r))
+
+-- The question for the front row, asked of a tally's rows and then each time of what remains, gives them one after the other and then 16.
+abbrev pub WalkGivesRows : Kind → Type 0
+WalkGivesRows k = (t : List ℕ) (l : KindRows k) → Bytes t → rowsOf k t ≡ some l → GivesRows (rowsBehind k) (frontOf k) (rowShown k) (partOf (λ p. p) (rowsPart k t)) l
 
 -- ---- Sums add, name by name; rows as a tally has them are determined by their counts; so order and grouping of sums are free.
 pub record Sums (S : Counts) : Type 0 where
@@ -32,9 +45,13 @@ pub record Sums (S : Counts) : Type 0 where
 abbrev pub Merger : Type 0
 Merger = List ℕ → List ℕ → List ℕ → Answer ℕ × List ℕ
 
+-- what a call answers that puts bytes into the output lent, or is refused, and what the output holds then
+abbrev pub outcome : Answer (List ℕ) → List ℕ → Answer ℕ × List ℕ
+outcome x out = (mapAnswer length x, lent x out)
+
 -- the one that the contract of `merge` cites
 abbrev pub merged : Kind → Merger
-merged k a b out = (mapAnswer length (mergeOf k (length out) a b), lent (mergeOf k (length out) a b) out)
+merged k a b out = outcome (mergeOf k (length out) a b) out
 
 -- one is taken out of a list, and that leaves another
 pub data Taken (a : List ℕ) : List (List ℕ) → List (List ℕ) → Type 0 where
@@ -109,10 +126,18 @@ module _ (k : Kind) where
   abbrev pub SumCounts : Type 0
   SumCounts = (ts : List (List ℕ)) (n : List ℕ) → countIn (k .counts) (sumOf ts) n ≡ countAcross ts n
 
-  -- the empty tally changes nothing that fits
-  abbrev pub EmptyChangesNothing : Type 0
-  EmptyChangesNothing = (t : List ℕ) (room : ℕ) → IsTally t → length t ≤ room
-      → (mergeOf k room t (tally k .encode []) ≡ good t) × (mergeOf k room (tally k .encode []) t ≡ good t)
+  -- the tally of no rows
+  abbrev pub emptyTally : List ℕ
+  emptyTally = tally k .encode []
+
+  -- "The empty tally changes nothing that fits."
+  pub record EmptyChangesNothing : Type 0 where
+    -- A tally that fits in the output, merged with the empty one, comes out as it was, whichever of the two is first: its length is told, its bytes
+    -- stand in front of the output, and behind them the output is as it was.
+    pub first : (t out : List ℕ) → IsTally t → length t ≤ length out → merged k emptyTally t out ≡ (good (length t), t ++ drop (length t) out)
+    pub second : (t out : List ℕ) → IsTally t → length t ≤ length out → merged k t emptyTally out ≡ (good (length t), t ++ drop (length t) out)
+    -- Wherever it stands in a list of tallies, their sum is the same without it.
+    pub among : (front back : List (List ℕ)) → sumOf (front ++ emptyTally ∷ back) ≡ sumOf (front ++ back)
 
   -- ---- what may not slip through: a merge that does nothing, or one that refuses all
   abbrev pub DoesNothing : Merger → Type 0

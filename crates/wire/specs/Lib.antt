@@ -14,3 +14,4 @@ pub mod Told
 pub mod Choice
 pub mod Ints
 pub mod Lists
+pub mod Walk

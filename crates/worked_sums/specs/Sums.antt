@@ -16,8 +16,9 @@ use Rattle.mapblock.specs.Inventory.{endLine, inventory}
 use Rattle.mapblock.specs.Light.{lightCount}
 use Rattle.mapblock.specs.declared.fault.Fault.{Fault}
 use Rattle.mapblock.specs.Numbers.{number}
-use Rattle.tally.specs.Tally.{one, tally}
+use Rattle.tally.specs.Tally.{one}
 use Rattle.tally.specs.Operations.{mergeOf}
+use Rattle.tally.specs.Theorems.{emptyTally}
 
 -- A sum: its label, the numbers that the definitions tell, and those of document 01.
 pub record Sum : Type 0 where
@@ -57,9 +58,6 @@ ending (done a n) = counts (0 ∷ n ∷ [])
 ending (refused f p) = counts (number f ∷ p ∷ [])
 
 -- ---- what they are told of
-abbrev pub emptyTally : List ℕ  -- no rows
-emptyTally = tally one .encode []
-
 abbrev pub listLine : List ℕ  -- EndInventoryList and a newline
 listLine = take 12 endLine ++ (76 ∷ 105 ∷ 115 ∷ 116 ∷ 10 ∷ [])
 
@@ -77,7 +75,7 @@ sums =
     ∷ sum 10 (counts (lightCount 0xFFFE ∷ [])) (pos 1 ∷ [])
     ∷ sum 11 (counts (lightCount 0xF000 ∷ [])) (pos 12 ∷ [])
     ∷ sum 12 (counts (bit (inSpan (spanAt 0 1_000_000) 999_998) ∷ bit (inSpan (spanAt 0 1_000_000) 1_000_000) ∷ [])) (pos 1 ∷ pos 0 ∷ [])
-    ∷ sum 13 (answer bytes (mergeOf one 9 emptyTally emptyTally)) (counts (0 ∷ 9 ∷ 84 ∷ 76 ∷ 89 ∷ 0 ∷ 1 ∷ 0 ∷ 0 ∷ 0 ∷ 0 ∷ []))
+    ∷ sum 13 (answer bytes (mergeOf one 9 (emptyTally one) (emptyTally one))) (counts (0 ∷ 9 ∷ 84 ∷ 76 ∷ 89 ∷ 0 ∷ 1 ∷ 0 ∷ 0 ∷ 0 ∷ 0 ∷ []))
     ∷ sum 14 (ending (inventory .read (listLine ++ endLine))) (counts (0 ∷ 30 ∷ []))
     ∷ []
 
