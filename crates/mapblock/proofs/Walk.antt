@@ -17,9 +17,9 @@ use Rattle.wire.specs.Walk.{walk-rows, walk-ends}
 use Rattle.mapblock.specs.Inventory.{Form}
 use Rattle.mapblock.specs.Data.{NameRow, MetadataRow, ObjectRow}
 use Rattle.mapblock.specs.Layout.{all, unused, isVersion, nameRow, variable, metadataRow, objectRow, timerRow}
-use Rattle.mapblock.specs.Rows.{nameFields, metadataFields, objectFields, timerFields}
+use Rattle.mapblock.specs.Rows.{partTold, nameFields, metadataFields, objectFields, timerFields}
 use Rattle.mapblock.specs.Sections.{within}
-use Rattle.mapblock.specs.RowQuestions.{frontRow, nameRowOf, metadataRowOf, objectRowOf, timerRowOf, runOf, rowsBehind}
+use Rattle.mapblock.specs.RowQuestions.{frontRow, nameRowOf, metadataRowOf, objectRowOf, timerRowOf, rowsBehind}
 use Rattle.mapblock.specs.Valid.{Each, NameGood, MetadataGood, ObjectGood, TimerGood}
 use Rattle.mapblock.specs.Theorems.{Holds, rowShown, RowsWalked, RunsWalked, WalkGivesRows}
 use Rattle.mapblock.specs.declared.head.Part.{Part}
@@ -92,7 +92,7 @@ module _ {A B : Type 0} {item : List A → Form A} {Good : A → Type 0} {fields
   runs-walked : {s : List ℕ} {l : List A} (run : B → Part) (bytes : A → List ℕ)
       → ((s : List ℕ) (a : A) (n : ℕ) → Bytes s → item [] .read s ≡ done a n → Holds s (run (fields a)) (bytes a)) → Rows s l → RunsWalked ask run bytes s l
   runs-walked {s} {l} run bytes there h =
-      walk-rows Rows (λ p. rowsBehind p (ask p)) (λ p. runOf run p (ask p)) bytes no-rows
+      walk-rows Rows (λ p. rowsBehind p (ask p)) (λ p. within p (partTold (λ (x : B × ℕ). run (x .0)) (ask p))) bytes no-rows
       (λ s a l h. rw (front-asked s a l h) (there s a (length (item [] .encode a)) (h .are-bytes) (front-read s a l h) .bytes)) rows-behind s l h
 
 -- ---- each kind of row

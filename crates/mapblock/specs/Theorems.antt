@@ -21,10 +21,10 @@ use Rattle.mapblock.specs.Inventory.{Form, endLine, through}
 use Rattle.mapblock.specs.Layout.{all, width, nameRow, variable, metadataRow, objectRow, timerRow}
 use Rattle.mapblock.specs.Block.{block, stray, param0At, verdict}
 use Rattle.mapblock.specs.Valid.{Valid}
-use Rattle.mapblock.specs.Rows.{nameFields, metadataFields, objectFields, timerFields}
+use Rattle.mapblock.specs.Rows.{partTold, nameFields, metadataFields, objectFields, timerFields}
 use Rattle.mapblock.specs.Sections.{sections, within}
 use Rattle.mapblock.specs.Questions.{nameAt, nameSpot}
-use Rattle.mapblock.specs.RowQuestions.{nameRowOf, metadataRowOf, objectRowOf, timerRowOf, runOf, rowsBehind}
+use Rattle.mapblock.specs.RowQuestions.{nameRowOf, metadataRowOf, objectRowOf, timerRowOf, rowsBehind}
 use Rattle.mapblock.specs.declared.fault.Fault.{Fault}
 use Rattle.mapblock.specs.declared.fault.Fault.the-variants as fault
 use Rattle.mapblock.specs.declared.head.Part.{Part}
@@ -144,7 +144,7 @@ RowsWalked ask shown s rows = GivesRows (λ p. rowsBehind p (ask p)) ask shown s
 
 -- The run that comes back of each row on that walk is these bytes.
 abbrev pub RunsWalked : {A B : Type 0} → (List ℕ → Answer (B × ℕ)) → (B → Part) → (A → List ℕ) → List ℕ → List A → Type 0
-RunsWalked ask run bytes s rows = walk (λ p. rowsBehind p (ask p)) (λ p. runOf run p (ask p)) (length rows) s ≡ map bytes rows
+RunsWalked {A} {B} ask run bytes s rows = walk (λ p. rowsBehind p (ask p)) (λ p. within p (partTold (λ (x : B × ℕ). run (x .0)) (ask p))) (length rows) s ≡ map bytes rows
 
 -- a part of names, of metadata in the version v, of static objects
 pub record NamesWalked (s : List ℕ) (l : List NameRow) : Type 0 where
