@@ -144,12 +144,12 @@ row-shape : (s : List ℕ) (r : Row ℕ) (m : ℕ) → Bytes s → found (row on
 row-shape s r m b h =
     let t = row one [] .backward s r m b (found-some (row one [] .read s) r m h) in
     let bytes : s ≡ spell 2 (length (r .name)) ++ (r .name ++ (one .count .encode (r .count) ++ drop m s)) =
-        t .front ∙ ap (λ (l : List ℕ). l ++ drop m s) (row-encodes r) ∙ append-assoc (spell 2 (length (r .name)) ++ r .name) (one .count .encode (r .count)) (drop m s)
-        ∙ append-assoc (spell 2 (length (r .name))) (r .name) (one .count .encode (r .count) ++ drop m s) in
+    t .front ∙ ap (λ (l : List ℕ). l ++ drop m s) (row-encodes r) ∙ append-assoc (spell 2 (length (r .name)) ++ r .name) (one .count .encode (r .count)) (drop m s)
+    ∙ append-assoc (spell 2 (length (r .name))) (r .name) (one .count .encode (r .count) ++ drop m s) in
     let name : take (length (r .name)) (drop 2 s) ≡ r .name =
-        ap (λ (l : List ℕ). take (length (r .name)) (drop 2 l)) bytes
-        ∙ ap (take (length (r .name))) (drop-at (spell 2 (length (r .name))) (r .name ++ (one .count .encode (r .count) ++ drop m s)) 2 (spell-length 2 (length (r .name))))
-        ∙ take-at (r .name) (one .count .encode (r .count) ++ drop m s) (length (r .name)) refl in
+    ap (λ (l : List ℕ). take (length (r .name)) (drop 2 l)) bytes
+    ∙ ap (take (length (r .name))) (drop-at (spell 2 (length (r .name))) (r .name ++ (one .count .encode (r .count) ++ drop m s)) 2 (spell-length 2 (length (r .name))))
+    ∙ take-at (r .name) (one .count .encode (r .count) ++ drop m s) (length (r .name)) refl in
     let size : length (r .name) + 10 ≡ m = sym (t .ends ∙ ap length (row-encoded r) ∙ one-size r) in
     ap₂ (λ (n : List ℕ) (k : ℕ). some (record { name = n; count = r .count }, k)) name size ∙ sym h
 
@@ -174,7 +174,7 @@ module _ (s name : List ℕ) where
           let n = length (r .name) in
           let same : _≡_ {A = Row ℕ × ℕ} (record { name = take n (drop 2 rest); count = r .count }, n + 10) (r, m) = Option·some-injective _ _ (told ∙ e) in
           let named : o ≡ order (take ((n + 2) - 2) (drop 2 rest)) name =
-              sym q ∙ ap (λ (x : Row ℕ × ℕ). order (x .0 .name) name) (sym same) ∙ ap (λ (l : List ℕ). order l name) (sym (name-part n rest)) in
+          sym q ∙ ap (λ (x : Row ℕ × ℕ). order (x .0 .name) name) (sym same) ∙ ap (λ (l : List ℕ). order l name) (sym (name-part n rest)) in
           let size : n + 10 ≡ m = ap (λ (x : Row ℕ × ℕ). x .1) same in
           by-case o named size
         where

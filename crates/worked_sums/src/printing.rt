@@ -65,7 +65,7 @@ fn say_letter(b: u8) {
     }
 }
 
-fn say_text(text: &[u8]) {
+pub(crate) fn say_text(text: &[u8]) {
     let mut i: usize = 0;
     while i < text.len() {
         say_letter(text[i]);
