@@ -41,6 +41,12 @@ lent (refusal n r o) before = before
 abbrev pub Answered : Answer ℕ → List ℕ → List ℕ → Answer (List ℕ) → Type 0
 Answered a before after x = (a ≡ mapAnswer length x) × (after ≡ lent x before)
 
+-- An answer of the code, with what it gives in the code's own terms, and that of the definitions: both are good and what they give is related,
+-- or both are the same refusal.
+abbrev pub Matches : {A B : Type 0} → (A → B → Type 0) → Answer A → Answer B → Type 0
+Matches R (good a) b = (x : _) × (b ≡ good x) × R a x
+Matches R (refusal n r o) b = b ≡ refusal n r o
+
 -- ---- the table
 abbrev pub endsInside : ℕ  -- bytes end inside a field, or an inventory has no end line
 endsInside = 1
