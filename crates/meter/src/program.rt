@@ -80,8 +80,8 @@ pub fn take_next(
         LengthRead::Block(_) => match take_record(
             p,
             s,
-            Lot::whole_world(),
-            Span::all_time(),
+            Lot::WORLD,
+            Span::ALL_TIME,
             spare,
             ids,
             counts,
