@@ -5,11 +5,12 @@ use native.Mathlib.Omega.{arith}
 use lib.ListN.{drop}
 use denote.Ref.{now}
 use Rattle.wire.specs.Lists.{rest-is}
-use Rattle.wire.specs.Read.{done}
+use Rattle.wire.specs.Read.{done, found-done, found-none}
 use Rattle.wire.specs.Format.{ends-in}
-use Rattle.wire.specs.Told.{HeadTold}
+use Rattle.wire.specs.Told.{toldHead}
+use Rattle.wire.proofs.Steps.{told-as}
 use Rattle.meter.specs.Counting.{byOne}
-use Rattle.meter.specs.Sheet.{misframed, sheetMark, sheetHead}
+use Rattle.meter.specs.Sheet.{sheetHead}
 use Rattle.meter.specs.Streaming.{noRecords}
 use Rattle.meter.specs.Records.{clearTable}
 use Rattle.meter.specs.Adding.{part}
@@ -23,7 +24,7 @@ use Rattle.meter.proofs.sheet.from_start.Tie as tie
 
 -- the head, and what was told of the records behind it
 headed : (c : tie.After-known-told) → sheetHead .read (now (c .before .before .before .before .before .before .before .args .sheet)) ≡ done (c .before .count .given .0 .0) 9
-headed c = subst (HeadTold misframed sheetMark (now (c .before .before .before .before .before .before .before .args .sheet))) (c .before .count .given .1) (c .before .before .before .sheet-head .ensures)
+headed c = found-done (sheetHead .read (now (c .before .before .before .before .before .before .before .args .sheet))) (told-as toldHead (c .before .before .before .sheet-head .ensures) (c .before .count .given .1))
 
 walked : (c : tie.After-take-records) → now (c .before .before .before .before .before .before .before .before .before .before .before .before .before .before .args .ids) ≡ clearTable → now (c .before .before .before .before .before .before .before .before .before .before .before .before .before .before .args .counts) ≡ clearTable → Carries (now (c .before .before .before .before .before .before .before .before .before .before .before .before .before .before .args .spare)) (c .before .before .before .before .before .before .before .before .before .before .before .before .before .before .args .p) (noRecords byOne) → {r : Records} → c .take-records .result ≡ r
     → RecordsTold (part (c .before .before .before .before .before .before .before .before .before .before .before .before .before .before .args .lot) (c .before .before .before .before .before .before .before .before .before .before .before .before .before .before .args .span)) (c .take-records .last .1 .1 .1 .1 .0) (noRecords byOne) (c .before .before .before .before .before .before .before .before .count .given .0 .0) (drop 9 (now (c .before .before .before .before .before .before .before .before .before .before .before .before .before .before .args .sheet))) r
@@ -41,7 +42,7 @@ enum-told : tie.Need-enum-told
 enum-told c = search needs
 
 returns : tie.Need-returns
-returns c = (refl, λ i d k f. put-headless (part (c .before .before .before .before .before .before .args .lot) (c .before .before .before .before .before .before .args .span)) _ (now (c .before .before .before .before .before .before .args .out)) (subst (HeadTold misframed sheetMark (now (c .before .before .before .before .before .before .args .sheet))) (c .enum-told .given .1) (c .before .before .sheet-head .ensures)))
+returns c = (refl, λ i d k f. put-headless (part (c .before .before .before .before .before .before .args .lot) (c .before .before .before .before .before .before .args .span)) _ (now (c .before .before .before .before .before .before .args .out)) (found-none _ (told-as toldHead (c .before .before .sheet-head .ensures) (c .enum-told .given .1))))
 
 sub-take-records : tie.Need-sub-take-records
 sub-take-records c = ends-in sheetHead (headed c)
