@@ -6,7 +6,7 @@ use native.Mathlib.Omega.{arith}
 use lib.IntN.{ℤ}
 use lib.ListN.{length, take, drop}
 use Rattle.wire.specs.Bytes.{Bytes}
-use Rattle.wire.specs.Read.{Read, done, refused, Misread, at-place}
+use Rattle.wire.specs.Read.{Read, done, refused, found, found-done, found-none, Misread, at-place}
 use Rattle.wire.specs.Format.{ends-in}
 use Rattle.wire.specs.Answer.{Answer, good, refusal, sheetMalformed, no-good, thenAnswer}
 use Rattle.tally.specs.Rows.{Canonical}
@@ -15,7 +15,7 @@ use Rattle.meter.specs.Standing.{Part, Placed}
 use Rattle.meter.specs.Counting.{byOne}
 use Rattle.meter.specs.Sheet.{Misframed, SheetRecord, frame, judgeRecord}
 use Rattle.meter.specs.Streaming.{State, taking, stepOf, takeOf}
-use Rattle.meter.specs.Records.{recordOf, FrameTold}
+use Rattle.meter.specs.Records.{clearTable, recordOf, toldFrame}
 use Rattle.meter.specs.Progress.{Steps, StepTold, TakeTold}
 use Rattle.meter.specs.SheetTold.{answerFrom}
 use Rattle.meter.specs.declared.records.FrameRead.the-variants as frames
@@ -52,14 +52,14 @@ module _ (p : Part) (w : State byOne) (r : SheetRecord) where
 abbrev pub blockIn : List ℕ → ℕ → List ℕ
 blockIn s n = take ((n + 12) - 12) (drop 12 s)
 
-pub framed-as : (s : List ℕ) (key : ℤ) (n : ℕ) → FrameTold s (frames.Record key n) → frame .read s ≡ done (recordOf key (blockIn s n)) (n + 12)
+pub framed-as : (s : List ℕ) (key : ℤ) (n : ℕ) → toldFrame s (frames.Record key n) ≡ found (frame .read s) → frame .read s ≡ done (recordOf key (blockIn s n)) (n + 12)
 framed-as s key n f =
     let size : n ≡ (n + 12) - 12 = omega arith in
     let end : 12 + n ≡ n + 12 = omega arith in
-    f ∙ ap (λ (i : ℕ). done (recordOf key (take i (drop 12 s))) (12 + n)) size ∙ ap (done (recordOf key (blockIn s n))) end
+    found-done (frame .read s) f ∙ ap (λ (i : ℕ). done (recordOf key (take i (drop 12 s))) (12 + n)) size ∙ ap (done (recordOf key (blockIn s n))) end
 
-pub framed-inside : (s : List ℕ) (key : ℤ) (n : ℕ) → FrameTold s (frames.Record key n) → n + 12 ≤ length s
-framed-inside s key n f = omega (arith, ends-in frame f)
+pub framed-inside : (s : List ℕ) (key : ℤ) (n : ℕ) → toldFrame s (frames.Record key n) ≡ found (frame .read s) → n + 12 ≤ length s
+framed-inside s key n f = omega (arith, ends-in frame (found-done (frame .read s) f))
 
 -- ---- the record at the front
 module _ (p : Part) (w : State byOne) (s : List ℕ) where
@@ -125,8 +125,11 @@ module _ (p : Part) (w : State byOne) (s : List ℕ) where
 
 -- ---- what a step told of it is told of the record
 module _ (p : Part) (w : State byOne) (s : List ℕ) where
-  pub told-misframed : {ids counts t : List ℕ} {q : Progress} → Misread (frame .read s) → Steps ids counts t q w → TakeTold counts t (takes.Misframed (q .records)) (takeOf byOne p w s)
-  told-misframed (at-place x f) k = (take-misframed p w s f ∙ ap (λ (i : ℕ). refusal sheetMalformed i 0) (sym (k .carries .records)), k .counts-clear)
+  pub told-misframed : {ids counts t : List ℕ} {q : Progress} → toldFrame s frames.Misframed ≡ found (frame .read s) → Steps ids counts t q w → TakeTold counts t (takes.Misframed (q .records)) (takeOf byOne p w s)
+  told-misframed {q = q} f k = (go (found-none (frame .read s) f) ∙ ap (λ (i : ℕ). refusal sheetMalformed i 0) (sym (k .carries .records)), k .counts-clear)
+    where
+      go : Misread (frame .read s) → takeOf byOne p w s ≡ refusal sheetMalformed (w .records) 0
+      go (at-place x e) = take-misframed p w s e
 
   module _ {r : SheetRecord} {n : ℕ} (f : frame .read s ≡ done r n) (counts t : List ℕ) (a : StepAnswer) (h : StepTold counts t a (stepOf byOne p w r)) where
     pub told-refused : {e : RecordFault} {i : ℕ} → a ≡ steps.Refused e i → TakeTold counts t (takes.Refused e i) (takeOf byOne p w s)

@@ -5,7 +5,7 @@ use mathlib.Core.List.{List}
 use mathlib.Core.Option.{Option, some, none}
 use lib.IntN.{ℤ}
 use lib.ListN.{take, drop, replicate}
-use Rattle.wire.specs.Read.{done, Misread}
+use Rattle.wire.specs.Read.{done}
 use Rattle.wire.specs.Answer.{Answer, good, refusal, outOfRange, sheetMalformed}
 use Rattle.mapblock.specs.Data.{Block}
 use Rattle.mapblock.specs.Layout.{all}
@@ -14,7 +14,7 @@ use Rattle.mapblock.specs.Numbers.{number}
 use Rattle.mapblock.specs.Sections.{found}
 use Rattle.mapblock.specs.declared.scan.Found.{Found}
 use Rattle.meter.specs.Standing.{Placed}
-use Rattle.meter.specs.Sheet.{SheetRecord, frame}
+use Rattle.meter.specs.Sheet.{SheetRecord}
 use Rattle.meter.specs.declared.records.FrameRead.{FrameRead}
 use Rattle.meter.specs.declared.records.FrameRead.the-variants as frames
 use Rattle.meter.specs.declared.records.LastKey.{LastKey}
@@ -32,10 +32,10 @@ clearTable = replicate 65536 0
 abbrev pub recordOf : ℤ → List ℕ → SheetRecord
 recordOf key block = record { key = key; block = block }
 
--- a record's block stands behind the eight bytes of the key and the four of the length
-abbrev pub FrameTold : List ℕ → FrameRead → Type 0
-FrameTold s (frames.Record key n) = frame .read s ≡ done (recordOf key (take n (drop 12 s))) (12 + n)
-FrameTold s frames.Misframed = Misread (frame .read s)
+-- the record at the front of s, and where it ends: its block stands behind the eight bytes of the key and the four of the length
+abbrev pub toldFrame : List ℕ → FrameRead → Option (SheetRecord × ℕ)
+toldFrame s (frames.Record key n) = some (recordOf key (take n (drop 12 s)), 12 + n)
+toldFrame s frames.Misframed = none
 
 -- ---- the verdict on a record
 abbrev pub lastOf : LastKey → Option ℤ

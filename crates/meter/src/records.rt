@@ -12,8 +12,10 @@ use wire::fields::S64;
 use wire::fields::counted32_at;
 use wire::fields::s64_at;
 ghost use mathlib.Core.Path.{_≡_};
+ghost use Rattle.wire.specs.Read.{found};
+ghost use Rattle.meter.specs.Sheet;
 ghost use Rattle.meter.specs.Sheet.{rises, judgeRecord};
-ghost use Rattle.meter.specs.Records.{clearTable, lastOf, FrameTold, recordOf, RecordTold};
+ghost use Rattle.meter.specs.Records.{clearTable, lastOf, toldFrame, recordOf, RecordTold};
 
 // Where the length of a record's block stands, behind its key, and where the block begins.
 pub const LENGTH_AT: usize = 8;
@@ -28,7 +30,7 @@ pub enum FrameRead {
 
 // The framing of the record at the front.
 pub fn frame(s: &[u8]) -> FrameRead
-    ensures { λ r. ⌜ FrameTold (now (s .entry)) r ⌝ }
+    ensures { λ r. ⌜ toldFrame (now (s .entry)) r ≡ found (Sheet.frame .read (now (s .entry))) ⌝ }
 {
     let S64::Value(key) = s64_at(s, 0) else {
         return FrameRead::Misframed;
