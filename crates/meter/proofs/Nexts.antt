@@ -8,7 +8,7 @@ use Rattle.wire.specs.Answer.{Answer, good, refusal, sheetMalformed, Answered, 
 use Rattle.meter.specs.Counting.{byOne}
 use Rattle.meter.specs.Streaming.{State, takeOf, finishOf}
 use Rattle.meter.specs.Records.{clearTable}
-use Rattle.meter.specs.Progress.{Carries, Steps, TakeTold, toldFinish, FinishTold}
+use Rattle.meter.specs.Progress.{Carries, Steps, toldFinish, FinishTold}
 use Rattle.meter.specs.SheetTold.{toldSheet}
 use Rattle.meter.specs.Program.{everything, mostTally, blockLengthOf, nextOf, countedFrom, toldNext, CarriesFirst}
 use Rattle.meter.specs.declared.records.RecordFault.{RecordFault}
@@ -21,6 +21,7 @@ use Rattle.meter.specs.declared.stream.TakeAnswer.the-variants as takes
 use Rattle.meter.specs.declared.program.Next.{Next}
 use Rattle.meter.specs.declared.program.Next.the-variants as nexts
 use Rattle.meter.specs.declared.program.NextFault.the-variants as faults
+use Rattle.meter.proofs.Taking.{TakeTold}
 use Rattle.meter.proofs.Sheetcount.{next-unread, next-take, counted-more, counted-none}
 
 -- ---- its block is not to be read
@@ -44,7 +45,7 @@ module _ (w : State byOne) (s : List ℕ) (n : ℕ) (h : good n ≡ blockLengthO
   next-refused e = (next-take w s (sym h) ∙ told e .0, told e .1)
 
   pub next-taken : {q : Progress} {o : ℕ} → a ≡ takes.Taken q o → Told (nexts.On q)
-  next-taken {o = o} e = let x = told e in (((x .0, o), next-take w s (sym h) ∙ x .1, x .2), x .3)
+  next-taken e = let x = told e in ((x .0 .0, next-take w s (sym h) ∙ x .0 .1, x .0 .2 .0), x .1)
 
 -- ---- the end
 -- a byte more

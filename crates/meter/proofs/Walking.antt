@@ -15,7 +15,7 @@ use Rattle.meter.specs.Standing.{Part}
 use Rattle.meter.specs.Counting.{byOne}
 use Rattle.meter.specs.Streaming.{State, takeOf, finishOf}
 use Rattle.meter.specs.Records.{clearTable}
-use Rattle.meter.specs.Progress.{Carries, Steps, TakeTold}
+use Rattle.meter.specs.Progress.{Carries, Steps}
 use Rattle.meter.specs.SheetTold.{answerFrom, Numbered, RecordsTold}
 use Rattle.meter.specs.declared.records.RecordFault.{RecordFault}
 use Rattle.meter.specs.declared.sheet.Records.{Records}
@@ -25,7 +25,7 @@ use Rattle.meter.specs.declared.stream.TakeAnswer.{TakeAnswer}
 use Rattle.meter.specs.declared.stream.TakeAnswer.the-variants as takes
 use Rattle.meter.proofs.Steps.{records-end, records-more}
 use Rattle.meter.proofs.Streaming.{finishing, finishing-none}
-use Rattle.meter.proofs.Taking.{take-number, from-refused, from-good}
+use Rattle.meter.proofs.Taking.{take-number, from-refused, from-good, TakeTold, taken-to}
 
 -- ---- the walk
 -- a state from which it may begin: the spare carries it, its records can be numbered, and the tables are clear
@@ -111,12 +111,12 @@ module _ {p : Part} {s : List ℕ} {count : ℕ} {t₀ : List ℕ} {q₀ : Progr
       size = l ∙ k .size;
       follows = λ w g.
           let x = k .follows w g in
-          let u = told w g j in
+          let u = taken-to (told w g j .0) in
           record {
             v = u .0;
             carries = u .2;
             ids-clear = z ∙ x .ids-clear;
-            counts-clear = u .3;
+            counts-clear = told w g j .1;
             number = omega (arith, x .number, take-number p (x .v) rest (u .1));
             same = λ room. go left h room (x .v) (u .0) (x .carries .runs .canonical) (u .1) ∙ x .same room;
           };

@@ -13,8 +13,7 @@ use wire::fields::counted32_at;
 use wire::fields::s64_at;
 ghost use mathlib.Core.Path.{_≡_};
 ghost use Rattle.wire.specs.Read.{found};
-ghost use Rattle.meter.specs.Sheet;
-ghost use Rattle.meter.specs.Sheet.{rises, judgeRecord};
+ghost use Rattle.meter.specs.Sheet.{frame, rises, judgeRecord};
 ghost use Rattle.meter.specs.Records.{clearTable, lastOf, toldFrame, recordOf, RecordTold};
 
 // Where the length of a record's block stands, behind its key, and where the block begins.
@@ -30,7 +29,7 @@ pub enum FrameRead {
 
 // The framing of the record at the front.
 pub fn frame(s: &[u8]) -> FrameRead
-    ensures { λ r. ⌜ toldFrame (now (s .entry)) r ≡ found (Sheet.frame .read (now (s .entry))) ⌝ }
+    ensures { λ r. ⌜ toldFrame (now (s .entry)) r ≡ found (frame .read (now (s .entry))) ⌝ }
 {
     let S64::Value(key) = s64_at(s, 0) else {
         return FrameRead::Misframed;
