@@ -115,15 +115,17 @@ module _ {ids counts t : List ℕ} {q : Progress} {w : State byOne} (s : Steps i
     stepped-taken {counts′} {t′} {r} {k} {n} e g a =
         let same : withBlock p at (taken .block) (w .rows) ≡ plus ones (tallyOf byOne (nodesIn p (taken ∷ []))) (w .rows) = ap (λ (x : Placed). plus ones (tallyOf byOne (nodesIn p (x ∷ []))) (w .rows)) (sym (placed-same taken (h .2))) in
         let nodes = block-nodes p taken in (
-          (taking byOne p w key taken,
-          step-good byOne p w (recordOf key block) (judged (h .1)),
-          record {
-            last = ap some e;
-            records = omega (arith, g, s .carries .records, s .number);
-            runs = subst (Runs t′ r) same (a .absorbed .runs);
-            light = omega (arith, heavy-plus (tallyOf byOne (nodesIn p (taken ∷ []))) (w .rows), heavy-tally (nodesIn p (taken ∷ [])), s .carries .light);
-            few = omega (arith, plus-fewer (tallyOf byOne (nodesIn p (taken ∷ []))) (w .rows), tally-fewer byOne (nodesIn p (taken ∷ [])), s .carries .few);
-          }),
+          (
+            taking byOne p w key taken,
+            step-good byOne p w (recordOf key block) (judged (h .1)),
+            record {
+              last = ap some e;
+              records = omega (arith, g, s .carries .records, s .number);
+              runs = subst (Runs t′ r) same (a .absorbed .runs);
+              light = omega (arith, heavy-plus (tallyOf byOne (nodesIn p (taken ∷ []))) (w .rows), heavy-tally (nodesIn p (taken ∷ [])), s .carries .light);
+              few = omega (arith, plus-fewer (tallyOf byOne (nodesIn p (taken ∷ []))) (w .rows), tally-fewer byOne (nodesIn p (taken ∷ [])), s .carries .few);
+            },
+          ),
           a .clear,
         )
 

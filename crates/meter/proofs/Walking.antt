@@ -16,7 +16,7 @@ use Rattle.meter.specs.Counting.{byOne}
 use Rattle.meter.specs.Streaming.{State, takeOf, finishOf}
 use Rattle.meter.specs.Records.{clearTable}
 use Rattle.meter.specs.Progress.{Carries, Steps}
-use Rattle.meter.specs.SheetTold.{answerFrom, Numbered, RecordsTold}
+use Rattle.meter.specs.SheetTold.{answerFrom, Numbered, toldRecords, AnswersFrom}
 use Rattle.meter.specs.declared.records.RecordFault.{RecordFault}
 use Rattle.meter.specs.declared.sheet.Records.{Records}
 use Rattle.meter.specs.declared.sheet.Records.the-variants as records
@@ -60,7 +60,7 @@ walking-start p s count t q ids counts b = record {
 
 -- what is told at the end, of every state that the walk may have begun with
 abbrev pub ToldAll : Part → List ℕ → ℕ → List ℕ → Progress → List ℕ → List ℕ → List ℕ → Records → Type 0
-ToldAll p s count t₀ q₀ ids₀ counts₀ t r = (w : State byOne) → Begins t₀ q₀ ids₀ counts₀ count w → RecordsTold p t w count s r
+ToldAll p s count t₀ q₀ ids₀ counts₀ t r = (w : State byOne) → Begins t₀ q₀ ids₀ counts₀ count w → AnswersFrom p t w count s (toldRecords r)
 
 module _ {p : Part} {s : List ℕ} {count : ℕ} {t₀ : List ℕ} {q₀ : Progress} {ids₀ counts₀ t ids counts rest : List ℕ} {left : ℕ} {q : Progress} (k : Walking p s count t₀ q₀ ids₀ counts₀ t ids counts rest left q) where
   pub walking-more : left ≤ 0 → 0 < length rest → ToldAll p s count t₀ q₀ ids₀ counts₀ t (records.Malformed (q .records))

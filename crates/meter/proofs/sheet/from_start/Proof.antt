@@ -1,5 +1,5 @@
 use Prim.Native.Nat.{ℕ}
-use mathlib.Core.Path.{_≡_, refl, subst}
+use mathlib.Core.Path.{_≡_, refl, ap, subst}
 use mathlib.Core.List.{List}
 use native.Mathlib.Omega.{arith}
 use lib.ListN.{drop}
@@ -15,7 +15,7 @@ use Rattle.meter.specs.Streaming.{noRecords}
 use Rattle.meter.specs.Records.{clearTable}
 use Rattle.meter.specs.Adding.{part}
 use Rattle.meter.specs.Progress.{Carries}
-use Rattle.meter.specs.SheetTold.{RecordsTold}
+use Rattle.meter.specs.SheetTold.{toldRecords, AnswersFrom}
 use Rattle.meter.specs.declared.sheet.Records.{Records}
 use Rattle.meter.proofs.SheetPuts.{put-headless, head-number, put-refused, put-finished}
 use borrow.Author.Needs.{needs}
@@ -27,10 +27,10 @@ headed : (c : tie.After-known-told) → sheetHead .read (now (c .before .before 
 headed c = found-done (sheetHead .read (now (c .before .before .before .before .before .before .before .args .sheet))) (told-as toldHead (c .before .before .before .sheet-head .ensures) (c .before .count .given .1))
 
 walked : (c : tie.After-take-records) → now (c .before .before .before .before .before .before .before .before .before .before .before .before .before .before .args .ids) ≡ clearTable → now (c .before .before .before .before .before .before .before .before .before .before .before .before .before .before .args .counts) ≡ clearTable → Carries (now (c .before .before .before .before .before .before .before .before .before .before .before .before .before .before .args .spare)) (c .before .before .before .before .before .before .before .before .before .before .before .before .before .before .args .p) (noRecords byOne) → {r : Records} → c .take-records .result ≡ r
-    → RecordsTold (part (c .before .before .before .before .before .before .before .before .before .before .before .before .before .before .args .lot) (c .before .before .before .before .before .before .before .before .before .before .before .before .before .before .args .span)) (c .take-records .last .1 .1 .1 .1 .0) (noRecords byOne) (c .before .before .before .before .before .before .before .before .count .given .0 .0) (drop 9 (now (c .before .before .before .before .before .before .before .before .before .before .before .before .before .before .args .sheet))) r
+    → AnswersFrom (part (c .before .before .before .before .before .before .before .before .before .before .before .before .before .before .args .lot) (c .before .before .before .before .before .before .before .before .before .before .before .before .before .before .args .span)) (c .take-records .last .1 .1 .1 .1 .0) (noRecords byOne) (c .before .before .before .before .before .before .before .before .count .given .0 .0) (drop 9 (now (c .before .before .before .before .before .before .before .before .before .before .before .before .before .before .args .sheet))) (toldRecords r)
 walked c i d k {r} e =
-    subst (λ (l : List ℕ). RecordsTold (part (c .before .before .before .before .before .before .before .before .before .before .before .before .before .before .args .lot) (c .before .before .before .before .before .before .before .before .before .before .before .before .before .before .args .span)) (c .take-records .last .1 .1 .1 .1 .0) (noRecords byOne) (c .before .before .before .before .before .before .before .before .count .given .0 .0) l r) (rest-is 9 (now (c .before .before .before .before .before .before .before .before .before .before .before .before .before .before .args .sheet)))
-    (subst (RecordsTold (part (c .before .before .before .before .before .before .before .before .before .before .before .before .before .before .args .lot) (c .before .before .before .before .before .before .before .before .before .before .before .before .before .before .args .span)) (c .take-records .last .1 .1 .1 .1 .0) (noRecords byOne) (c .before .before .before .before .before .before .before .before .count .given .0 .0) _) e (c .take-records .ensures .1 i d (noRecords byOne) k (head-number (part (c .before .before .before .before .before .before .before .before .before .before .before .before .before .before .args .lot) (c .before .before .before .before .before .before .before .before .before .before .before .before .before .before .args .span)) _ (now (c .before .before .before .before .before .before .before .before .before .before .before .before .before .before .args .out)) (λ i. c .before .before .before .before .before .before .before .before .before .before .before .before .before .shared-slice-known .given i .fits) (headed (c .before .before .before .before .before .before .before)))))
+    subst (λ (l : List ℕ). AnswersFrom (part (c .before .before .before .before .before .before .before .before .before .before .before .before .before .before .args .lot) (c .before .before .before .before .before .before .before .before .before .before .before .before .before .before .args .span)) (c .take-records .last .1 .1 .1 .1 .0) (noRecords byOne) (c .before .before .before .before .before .before .before .before .count .given .0 .0) l (toldRecords r)) (rest-is 9 (now (c .before .before .before .before .before .before .before .before .before .before .before .before .before .before .args .sheet)))
+    (subst (AnswersFrom (part (c .before .before .before .before .before .before .before .before .before .before .before .before .before .before .args .lot) (c .before .before .before .before .before .before .before .before .before .before .before .before .before .before .args .span)) (c .take-records .last .1 .1 .1 .1 .0) (noRecords byOne) (c .before .before .before .before .before .before .before .before .count .given .0 .0) _) (ap toldRecords e) (c .take-records .ensures .1 i d (noRecords byOne) k (head-number (part (c .before .before .before .before .before .before .before .before .before .before .before .before .before .before .args .lot) (c .before .before .before .before .before .before .before .before .before .before .before .before .before .before .args .span)) _ (now (c .before .before .before .before .before .before .before .before .before .before .before .before .before .before .args .out)) (λ i. c .before .before .before .before .before .before .before .before .before .before .before .before .before .shared-slice-known .given i .fits) (headed (c .before .before .before .before .before .before .before)))))
 
 sheet-head-requires : tie.Need-sheet-head-requires
 sheet-head-requires c κs = search needs
