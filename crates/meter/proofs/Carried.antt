@@ -28,15 +28,15 @@ use Rattle.meter.specs.Counting.{rowOf, tallyOf, byOne}
 use Rattle.meter.specs.Tallying.{placed}
 use Rattle.meter.specs.Sheet.{judgeRecord}
 use Rattle.meter.specs.Streaming.{State, noRecords, startOf, taking, stepOf, finishOf}
-use Rattle.meter.specs.Records.{lastOf, recordOf, faultNumber, faultOffset, faulty, RecordTold, clearTable}
+use Rattle.meter.specs.Records.{lastOf, recordOf, faultNumber, faultOffset, faulty, clearTable}
 use Rattle.meter.specs.Adding.{Adds, Added, withBlock}
 use Rattle.meter.specs.Progress.{Carries, begun, Steps}
 use Rattle.meter.specs.declared.records.RecordFault.{RecordFault}
 use Rattle.meter.specs.declared.records.LastKey.the-variants as lasts
-use Rattle.meter.specs.declared.records.RecordAnswer.the-variants as records
 use Rattle.meter.specs.declared.stream.Progress.{Progress}
 use Rattle.meter.proofs.Amounts.{those-fewer, add-fewer, tally-fewer}
 use Rattle.meter.proofs.Blocks.{standing-number}
+use Rattle.meter.proofs.Judging.{KeptOf, matches-map}
 use Rattle.meter.proofs.Streaming.{step-refused, step-good}
 use Rattle.meter.proofs.Putting.{sheet-short, sheet-many, sheet-all, tally-laid}
 
@@ -93,16 +93,16 @@ module _ {ids counts t : List ℕ} {q : Progress} {w : State byOne} (s : Steps i
   judged : {a : Answer Placed} → judgeRecord (lastOf (q .last)) (recordOf key block) ≡ a → judgeRecord (w .last) (recordOf key block) ≡ a
   judged h = ap (λ (l : Option ℤ). judgeRecord l (recordOf key block)) (sym (s .carries .last)) ∙ h
 
-  pub stepped-refused : (f : RecordFault) → RecordTold block (records.Refused f) (judgeRecord (lastOf (q .last)) (recordOf key block)) → stepOf byOne p w (recordOf key block) ≡ faulty f (q .records)
+  pub stepped-refused : (f : RecordFault) → judgeRecord (lastOf (q .last)) (recordOf key block) ≡ faulty f 0 → stepOf byOne p w (recordOf key block) ≡ faulty f (q .records)
   stepped-refused f h = step-refused byOne p w (recordOf key block) (judged h) ∙ ap (λ (i : ℕ). refusal (faultNumber f) i (faultOffset f)) (sym (s .carries .records))
 
-  module _ {at : Coordinates} {f : Found} (h : RecordTold block (records.Taken at f) (judgeRecord (lastOf (q .last)) (recordOf key block))) where
+  module _ {at : Coordinates} {f : Found} (h : Matches (KeptOf block) (good (at, f)) (judgeRecord (lastOf (q .last)) (recordOf key block))) where
     abbrev taken : Placed
     taken = h .0
 
     pub may-step : Adds block f counts t (q .tally) (taken .block) (w .rows)
     may-step = record {
-      found = h .3;
+      found = h .2 .1;
       clear = s .counts-clear;
       runs = s .carries .runs;
       light = omega (arith, s .carries .light, s .number);
@@ -113,7 +113,7 @@ module _ {ids counts t : List ℕ} {q : Progress} {w : State byOne} (s : Steps i
         → Added counts′ t t′ r (w .rows) (withBlock p at (taken .block) (w .rows))
         → Matches (Carries t′) (good (record { last = lasts.Key k; records = n; tally = r })) (stepOf byOne p w (recordOf key block)) × (counts′ ≡ clearTable)
     stepped-taken {counts′} {t′} {r} {k} {n} e g a =
-        let same : withBlock p at (taken .block) (w .rows) ≡ plus ones (tallyOf byOne (nodesIn p (taken ∷ []))) (w .rows) = ap (λ (x : Placed). plus ones (tallyOf byOne (nodesIn p (x ∷ []))) (w .rows)) (sym (placed-same taken (h .2))) in
+        let same : withBlock p at (taken .block) (w .rows) ≡ plus ones (tallyOf byOne (nodesIn p (taken ∷ []))) (w .rows) = ap (λ (x : Placed). plus ones (tallyOf byOne (nodesIn p (x ∷ []))) (w .rows)) (sym (placed-same taken (h .2 .0))) in
         let nodes = block-nodes p taken in (
           (
             taking byOne p w key taken,

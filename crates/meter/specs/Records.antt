@@ -7,6 +7,7 @@ use lib.IntN.{ℤ}
 use lib.ListN.{take, drop, replicate}
 use Rattle.wire.specs.Read.{done}
 use Rattle.wire.specs.Answer.{Answer, good, refusal, outOfRange, sheetMalformed}
+use Rattle.position.specs.declared.key.Coordinates.{Coordinates}
 use Rattle.mapblock.specs.Data.{Block}
 use Rattle.mapblock.specs.Layout.{all}
 use Rattle.mapblock.specs.Block.{verdict}
@@ -57,13 +58,17 @@ faultOffset (faults.Block f p) = p
 abbrev pub faulty : {A : Type 0} → RecordFault → ℕ → Answer A
 faulty f i = refusal (faultNumber f) i (faultOffset f)
 
+-- what the code keeps of a record that is taken: where its block stands, and what the scan found in it
+abbrev pub scanned : Placed → Coordinates × Found
+scanned x = (x .at, found (x .block))
+
+-- the record is told as 0
+abbrev pub toldRecord : RecordAnswer → Answer (Coordinates × Found)
+toldRecord (records.Taken at w) = good (at, w)
+toldRecord (records.Refused f) = faulty f 0
+
 -- the scan found the block b in s
 pub record FoundAs (s : List ℕ) (w : Found) (b : Block) : Type 0 where
   pub end : ℕ
   pub taken : verdict all s ≡ done b end
   pub shows : found b ≡ w
-
--- what was judged of a record with these bytes
-abbrev pub RecordTold : List ℕ → RecordAnswer → Answer Placed → Type 0
-RecordTold s (records.Taken at w) a = (x : Placed) × (a ≡ good x) × (x .at ≡ at) × FoundAs s w (x .block)
-RecordTold s (records.Refused f) a = a ≡ faulty f 0

@@ -88,7 +88,7 @@ pub enum SheetAnswer {
 }
 
 // What finishing answered, as tallying the sheet answers it.
-pub fn finished(a: FinishAnswer) -> SheetAnswer
+pub(crate) fn finished(a: FinishAnswer) -> SheetAnswer
     ensures { λ r. ⌜ toldSheet r ≡ toldFinish a ⌝ }
 {
     match a {
