@@ -36,7 +36,7 @@ use Rattle.meter.specs.declared.records.LastKey.the-variants as lasts
 use Rattle.meter.specs.declared.stream.Progress.{Progress}
 use Rattle.meter.proofs.Amounts.{those-fewer, add-fewer, tally-fewer}
 use Rattle.meter.proofs.Blocks.{standing-number}
-use Rattle.meter.proofs.Judging.{KeptOf, matches-map}
+use Rattle.meter.proofs.Judging.{KeptOf}
 use Rattle.meter.proofs.Streaming.{step-refused, step-good}
 use Rattle.meter.proofs.Putting.{sheet-short, sheet-many, sheet-all, tally-laid}
 

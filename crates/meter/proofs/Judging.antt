@@ -1,12 +1,12 @@
 -- A record judged, as the code told it.
 use Prim.Native.Nat.{ℕ}
-use mathlib.Core.Path.{_≡_, refl, ap, sym, subst⁻¹, _∙_}
+use mathlib.Core.Path.{_≡_, refl, ap, sym, _∙_}
 use mathlib.Core.Bool.{Bool, true, false}
 use mathlib.Core.List.{List}
 use mathlib.Core.Option.{Option}
 use lib.IntN.{ℤ}
 use Rattle.wire.specs.Read.{done, refused, mapRead, map-done, map-refused}
-use Rattle.wire.specs.Answer.{Answer, good, refusal, plain, mapAnswer, Matches, outOfRange, sheetMalformed}
+use Rattle.wire.specs.Answer.{Answer, good, refusal, plain, mapAnswer, Matches, matches-map, outOfRange, sheetMalformed}
 use Rattle.position.specs.Keys.{splitOf}
 use Rattle.position.specs.declared.key.Coordinates.{Coordinates}
 use Rattle.mapblock.specs.Layout.{all}
@@ -23,10 +23,6 @@ use Rattle.meter.specs.Sheet.{SheetRecord, rises, judgedIn, judgeRecord}
 use Rattle.meter.specs.Records.{clearTable, scanned, FoundAs}
 use Rattle.meter.proofs.Blocks.{block-by}
 use Rattle.meter.proofs.Steps.{judge-taken}
-
-pub matches-map : {A B : Type 0} (R : A → B → Type 0) (f : B → A) (b : Answer B) {a : Answer A} → a ≡ mapAnswer f b → ((x : B) → b ≡ good x → R (f x) x) → Matches R a b
-matches-map R f (good x) e k = subst⁻¹ (λ a. Matches R a (good x)) e (x, refl, k x refl)
-matches-map R f (refusal n r o) e k = subst⁻¹ (λ a. Matches R a (refusal n r o)) e refl
 
 -- ---- as the code tells it
 module _ (free : ℕ → Bool) (last : Option ℤ) (r : SheetRecord) where
@@ -58,7 +54,7 @@ KeptOf s w x = (x .at ≡ w .0) × FoundAs s (w .1) (x .block)
 
 module _ (last : Option ℤ) (r : SheetRecord) where
   -- the verdict is document 01's
-  clear-judged : (t : List ℕ) → t ≡ clearTable → judgedIn (freeIn t) last r ≡ judgeRecord last r
+  pub clear-judged : (t : List ℕ) → t ≡ clearTable → judgedIn (freeIn t) last r ≡ judgeRecord last r
   unfolding clearTable
   clear-judged t e = ap (λ (free : ℕ → Bool). judgedIn free last r) (ap freeIn e ∙ clear-all 65536)
 

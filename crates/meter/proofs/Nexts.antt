@@ -1,5 +1,5 @@
 -- A record that the program takes, and the end of its input, as the code told them.
-use Prim.Native.Nat.{ℕ, _≤_, _<_}
+use Prim.Native.Nat.{ℕ, suc, _≤_, _<_}
 use mathlib.Core.Path.{_≡_, refl, ap, sym, subst, _∙_}
 use mathlib.Core.List.{List}
 use native.Mathlib.Omega.{arith}
@@ -10,7 +10,7 @@ use Rattle.meter.specs.Streaming.{State, takeOf, finishOf}
 use Rattle.meter.specs.Records.{clearTable}
 use Rattle.meter.specs.Progress.{Carries, Steps, toldFinish, FinishTold}
 use Rattle.meter.specs.SheetTold.{toldSheet}
-use Rattle.meter.specs.Program.{everything, mostTally, blockLengthOf, nextOf, countedFrom, toldNext, CarriesFirst}
+use Rattle.meter.specs.Program.{everything, mostTally, blockLengthOf, nextOf, countedFrom, nextFaulty, toldNext, CarriesFirst}
 use Rattle.meter.specs.declared.records.RecordFault.{RecordFault}
 use Rattle.meter.specs.declared.sheet.SheetAnswer.{SheetAnswer}
 use Rattle.meter.specs.declared.sheet.SheetAnswer.the-variants as sheets
@@ -20,9 +20,10 @@ use Rattle.meter.specs.declared.stream.TakeAnswer.{TakeAnswer}
 use Rattle.meter.specs.declared.stream.TakeAnswer.the-variants as takes
 use Rattle.meter.specs.declared.program.Next.{Next}
 use Rattle.meter.specs.declared.program.Next.the-variants as nexts
+use Rattle.meter.specs.declared.program.NextFault.{NextFault}
 use Rattle.meter.specs.declared.program.NextFault.the-variants as faults
 use Rattle.meter.proofs.Taking.{TakeTold}
-use Rattle.meter.proofs.Sheetcount.{next-unread, next-take, counted-more, counted-none}
+use Rattle.meter.proofs.Sheetcount.{next-unread, next-take, counted-refused, counted-more, counted-none}
 
 -- ---- its block is not to be read
 pub next-stops : (w : State byOne) (s : List ℕ) (x : ℕ) {ids counts t : List ℕ} {q : Progress} → Steps ids counts t q w
@@ -46,6 +47,19 @@ module _ (w : State byOne) (s : List ℕ) (n : ℕ) (h : good n ≡ blockLengthO
 
   pub next-taken : {q : Progress} {o : ℕ} → a ≡ takes.Taken q o → Told (nexts.On q)
   next-taken e = let x = told e in ((x .0 .0, next-take w s (sym h) ∙ x .0 .1, x .0 .2 .0), x .1)
+
+-- ---- it was refused
+-- it is the refusal of all records that are left
+pub stopped-all : (t : List ℕ) (w : State byOne) (s : List ℕ) (k : ℕ) (f : NextFault) → Matches (CarriesFirst t) (nextFaulty f) (nextOf w s) → countedFrom (suc k) w s ≡ nextFaulty f
+stopped-all t w s k (faults.Misframed i) h = counted-refused w s k h
+stopped-all t w s k (faults.TooLong i) h = counted-refused w s k h
+stopped-all t w s k (faults.Record e i) h = counted-refused w s k h
+
+-- and it leaves a lent buffer as it was
+pub stopped-lent : (d : List ℕ) (f : NextFault) → Answered (nextFaulty f) d d (nextFaulty f)
+stopped-lent d (faults.Misframed i) = (refl, refl)
+stopped-lent d (faults.TooLong i) = (refl, refl)
+stopped-lent d (faults.Record e i) = (refl, refl)
 
 -- ---- the end
 -- a byte more

@@ -85,9 +85,9 @@ module _ (p : Part) (s d : List ℕ) (spare : ℕ) where
     pub fits : length d ≤ spare
     pub same : whole ≡ blocksTally p s (length d)
 
-  pub begun : (t : List ℕ) (q : Progress) → Matches (Carries t) (good q) (startOf byOne p (length d) spare) → Begun t q
+  pub start-begun : (t : List ℕ) (q : Progress) → Matches (Carries t) (good q) (startOf byOne p (length d) spare) → Begun t q
   unfolding startOf tallySheetOf
-  begun t q (w, e, c) = go (goodPart p) (leb (length d) spare) refl refl e
+  start-begun t q (w, e, c) = go (goodPart p) (leb (length d) spare) refl refl e
     where
       go : (a b : Bool) → goodPart p ≡ a → leb (length d) spare ≡ b → cond a (cond b (good (noRecords byOne)) (plain partsMisfit)) (plain badPart) ≡ good w → Begun t q
       go true true f g h =
@@ -98,4 +98,4 @@ module _ (p : Part) (s d : List ℕ) (spare : ℕ) where
 
   pub sheet-put : {t e : List ℕ} {q : Progress} (r : SheetAnswer) → Matches (Carries t) (good q) (startOf byOne p (length d) spare)
       → (Carries t q (noRecords byOne) → length d ≤ spare → SheetPut p s d e r) → Answered (toldSheet r) d e whole
-  sheet-put {t} {q = q} r g f = let k = begun t q g in rw (k .same) (f (k .carries) (k .fits))
+  sheet-put {t} {q = q} r g f = let k = start-begun t q g in rw (k .same) (f (k .carries) (k .fits))

@@ -69,7 +69,10 @@ pub enum Next {
     Stop(NextFault),
 }
 
-// Takes the record at the front of some bytes, unless its block is too long. The spare, `places` and `scratch` are as after a step.
+// Takes the record at the front of some bytes, unless its block is too long. It is an inner function of the program, and so is end_sheet: the
+// buffers carry a state between records. What it answers is promised where `ids` and `counts` are clear, the spare carries the state that `p`
+// tells, and a u32 holds the number of the record (`Steps`); the counters are then clear again. Of every state: the spare keeps its length, and
+// `ids` comes back as it was. The spare, `places` and `scratch` are as after a step.
 pub fn take_next(
     p: Progress,
     s: &[u8],
@@ -116,7 +119,8 @@ pub fn stopped(f: NextFault) -> SheetAnswer
     }
 }
 
-// Behind the last record: no byte more, and then the tally. A refusal leaves the output as it was.
+// Behind the last record: no byte more, and then the tally. What it answers is promised where the spare carries the state that `p` tells, the
+// output has MOST_TALLY bytes and the spare no fewer. Of every state: a refusal leaves the output as it was.
 pub fn end_sheet(p: Progress, rest: &[u8], spare: &[u8], out: &mut [u8]) -> SheetAnswer
     ensures { λ r. ⌜ ((w : State byOne) → Carries (now (spare .entry)) p w → length (now (out .entry)) ≡ mostTally → mostTally ≤ length (now (spare .entry))
         → Answered (toldSheet r) (now (out .entry)) (now (out .exit)) (countedFrom 0 w (now (rest .entry)))) ⌝ }

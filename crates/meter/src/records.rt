@@ -24,7 +24,7 @@ pub const LENGTH_AT: usize = 8;
 pub const BLOCK_AT: usize = 12;
 
 // A record's key and the length of its block, or that it is not whole.
-pub enum FrameRead {
+pub(crate) enum FrameRead {
     Record(i64, usize),
     Misframed,
 }
@@ -65,7 +65,7 @@ pub enum RecordFault {
     Block(Fault, usize),
 }
 
-pub enum RecordAnswer {
+pub(crate) enum RecordAnswer {
     // Where the block stands, and what the scan found in it.
     Taken(Coordinates, Found),
     Refused(RecordFault),
