@@ -116,7 +116,7 @@ fn count_into(
     requires { ⌜ Ready (now bytes) (now out) (now spare) (now ids) (now counts) ⌝ }
     ensures { λ r. ⌜ CountedInto (now (out .entry)) (now (out .exit)) r ⌝ }
 {
-    match start(Lot::whole_world(), Span::all_time(), out.len(), spare.len()) {
+    match start(Lot::WORLD, Span::ALL_TIME, out.len(), spare.len()) {
         StartAnswer::BadPart => SheetAnswer::BadPart,
         StartAnswer::Misfit => SheetAnswer::Misfit,
         StartAnswer::Started(p) => read_sheet(p, bytes, out, spare, ids, counts, places, scratch),
