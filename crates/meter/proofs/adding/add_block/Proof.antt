@@ -44,7 +44,7 @@ same-length : tie.Need-same-length
 same-length c = search needs
 
 returns-2 : tie.Need-returns-2
-returns-2 c = (c .before .before .before .before .add-used .ensures .0, λ b R a. added-block (part (c .before .before .before .before .before .before .before .before .before .before .before .before .before .before .before .before .before .before .before .before .before .before .before .before .before .before .args .lot) (c .before .before .before .before .before .before .before .before .before .before .before .before .before .before .before .before .before .before .before .before .before .before .before .before .before .before .args .span)) (c .before .before .before .before .before .before .before .before .before .before .before .before .before .before .before .before .before .before .before .before .before .before .before .before .before .before .args .at) (λ i. c .before .before .before .before .before .before .before .before .before .before .before .before .before .before .before .before .before .before .before .before .before .before .before .before .before .shared-slice-known .given i .fits) a (sym (c .before .before .before .before .before .before .before .before .before .before .before .before .before .before .before .before .before .before .before .before .before .before .has .ensures) ∙ not-false _ (c .before .before .before .before .before .before .before .before .before .before .before .before .before .before .before .before .before .before .before .before .before .if1 .left)) (c .before .before .before .before .before .before .before .before .before .before .before .before .before .before .before .before .before .before .before .cut .ensures) (c .before .before .before .before .before .before .before .before .before .before .before .before .before .before .before .before .before .before .cut2 .ensures) record { counts = c .before .before .before .before .before .before .before .before .before .before .before .before .before .before .before .before .count-in .ensures .0; uses = λ l r f. used-places _ _ r f (c .before .before .before .before .before .before .before .before .before .before .before .before .before .used .ensures .1); adds = c .before .before .before .before .add-used .ensures .1; clears = λ l r. c .clear .ensures ∙ ap (unmarked _) (all-run r) })
+returns-2 c = (c .before .before .before .before .add-used .ensures .0, λ b R a. added-block (part (c .before .before .before .before .before .before .before .before .before .before .before .before .before .before .before .before .before .before .before .before .before .before .before .before .before .before .args .lot) (c .before .before .before .before .before .before .before .before .before .before .before .before .before .before .before .before .before .before .before .before .before .before .before .before .before .before .args .span)) (c .before .before .before .before .before .before .before .before .before .before .before .before .before .before .before .before .before .before .before .before .before .before .before .before .before .before .args .at) (λ i. c .before .before .before .before .before .before .before .before .before .before .before .before .before .before .before .before .before .before .before .before .before .before .before .before .before .shared-slice-known .given i .fits) a (sym (c .before .before .before .before .before .before .before .before .before .before .before .before .before .before .before .before .before .before .before .before .before .before .has .ensures) ∙ not-false _ (c .before .before .before .before .before .before .before .before .before .before .before .before .before .before .before .before .before .before .before .before .before .if1 .left)) (c .before .before .before .before .before .before .before .before .before .before .before .before .before .before .before .before .before .before .before .cut .ensures .bytes) (c .before .before .before .before .before .before .before .before .before .before .before .before .before .before .before .before .before .before .cut2 .ensures .bytes) record { counts = c .before .before .before .before .before .before .before .before .before .before .before .before .before .before .before .before .count-in .ensures .0; uses = λ l r f. used-places _ _ r f (c .before .before .before .before .before .before .before .before .before .before .before .before .before .used .ensures .1); adds = c .before .before .before .before .add-used .ensures .1; clears = λ l r. c .clear .ensures ∙ ap (unmarked _) (all-run r) })
 
 pub add-block-spec : {M : Type 1} → statement M
 add-block-spec =
