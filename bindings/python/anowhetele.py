@@ -24,7 +24,6 @@ import operator
 import os
 import sys
 from array import array
-from contextlib import ExitStack
 from ctypes import c_int, c_int32, c_int64, c_size_t, c_ssize_t, c_uint8, c_uint16, c_uint32, c_uint64, c_void_p
 from mmap import mmap
 from typing import Iterator, NamedTuple, Optional, Tuple, Union
@@ -152,7 +151,8 @@ _SIGNATURES = {
 
 def _load():
     here = os.path.dirname(os.path.abspath(__file__))
-    path = os.environ.get('ANOWHETELE_LIB') or os.path.join(here, '../../target/python/libanowhetele.so')
+    # a name without a folder would be looked for among the system's libraries
+    path = os.path.abspath(os.environ.get('ANOWHETELE_LIB') or os.path.join(here, '../../target/python/libanowhetele.so'))
     if not os.path.exists(path):
         raise ImportError(f'there is no {path}: run bindings/python/build in the repository, or name the library in ANOWHETELE_LIB')
     library = ctypes.CDLL(path)
@@ -181,7 +181,8 @@ def _python(name, result, *arguments):
 _get_buffer = _python('PyObject_GetBuffer', c_int, ctypes.py_object, ctypes.POINTER(_Buffer), c_int)
 _release_buffer = _python('PyBuffer_Release', None, ctypes.POINTER(_Buffer))
 _bytes_start = _python('PyBytes_AsString', c_void_p, ctypes.py_object)
-_new_bytes = _python('PyBytes_FromStringAndSize', ctypes.py_object, ctypes.c_char_p, c_ssize_t)
+# without a start the new bytes are not filled
+_new_bytes = _python('PyBytes_FromStringAndSize', ctypes.py_object, c_void_p, c_ssize_t)
 
 
 # ---- Numbers and bytes, on their way in and out
@@ -223,25 +224,28 @@ def _exported(data: BytesLike) -> _Buffer:
     return buffer
 
 
-class _Lent:
-    """A bytes-like object, lent to the library: where its bytes start, and how many they are. Until the `with` ends its owner can neither resize nor
-    close it."""
+class _Loans:
+    """Bytes-like objects that are lent to the library. Until the `with` ends they are there, and their owner can neither resize nor close them."""
 
-    def __init__(self, data: BytesLike):
-        self._bytes, self._buffer = None, None
+    def __init__(self):
+        self._bytes, self._buffers = [], []
+
+    def lend(self, data: BytesLike) -> Tuple[int, int]:
+        """Where the bytes start, and how many they are."""
         if type(data) is bytes:
-            self._bytes, self.start, self.length = data, _bytes_start(data), len(data)
-        else:
-            self._buffer = _exported(data)
-            # what is empty may have no address, and the library wants one
-            self.start, self.length = self._buffer.start or _bytes_start(b''), self._buffer.length
+            self._bytes.append(data)
+            return _bytes_start(data), len(data)
+        buffer = _exported(data)
+        self._buffers.append(buffer)
+        # what is empty may have no address, and the library wants one
+        return buffer.start or _bytes_start(b''), buffer.length
 
-    def __enter__(self) -> '_Lent':
+    def __enter__(self) -> '_Loans':
         return self
 
     def __exit__(self, *_):
-        if self._buffer is not None:
-            _release_buffer(self._buffer)
+        for buffer in self._buffers:
+            _release_buffer(buffer)
 
 
 def _output(room: int) -> bytes:
@@ -262,7 +266,7 @@ def _told(answer, record=None) -> int:
 
 def _part(start: int, part) -> bytes:
     """A copy of a part of the bytes that start there."""
-    return ctypes.string_at(start + part.start, part.length)
+    return _new_bytes(start + part.start, part.length)
 
 
 # ---- Keys, lots, spans
@@ -374,23 +378,26 @@ def _taken(start, block) -> Block:
 def read(block: BytesLike) -> Tuple[Block, Nodes]:
     """Refused: 1 to 8."""
     param0, param1, param2 = array('H', bytes(2 * NODES)), _output(NODES), _output(NODES)
-    with _Lent(block) as lent:
-        found = _library.anow_read(lent.start, lent.length, param0.buffer_info()[0], NODES, param1, NODES, param2, NODES)
-        return _taken(lent.start, found), Nodes(param0, param1, param2)
+    with _Loans() as loans:
+        start, length = loans.lend(block)
+        found = _library.anow_read(start, length, param0.buffer_info()[0], NODES, param1, NODES, param2, NODES)
+        return _taken(start, found), Nodes(param0, param1, param2)
 
 
 def sections(block: BytesLike) -> Block:
     """The same without the nodes. Refused: 1 to 8."""
-    with _Lent(block) as lent:
-        return _taken(lent.start, _library.anow_sections(lent.start, lent.length))
+    with _Loans() as loans:
+        start, length = loans.lend(block)
+        return _taken(start, _library.anow_sections(start, length))
 
 
 def node_name(block: BytesLike, index: int) -> bytes:
     """The name of the node at an index, 256*z + 16*y + x. Refused: 1 to 8, then 16 for an index above 4,095."""
-    with _Lent(block) as lent:
-        node = _library.anow_node_name(lent.start, lent.length, *_unsigned(64, index))
+    with _Loans() as loans:
+        start, length = loans.lend(block)
+        node = _library.anow_node_name(start, length, *_unsigned(64, index))
         _told(node.answer)
-        return _part(lent.start, node.name)
+        return _part(start, node.name)
 
 
 def light_count(lighting: int) -> int:
@@ -408,16 +415,17 @@ def _sixteen_bits(numbers) -> array:
 def write(block: Block, nodes: Nodes, room: Optional[int] = None) -> bytes:
     """The block that these parts make; counts are worked out from the rows. TypeError for a param0 that is bytes.
     Refused: 2; 12 where the parts do not fit; what the reader would say of the bytes (3 to 6 and 8); 11."""
-    with ExitStack() as loans:
-        given = (_sixteen_bits(nodes.param0), nodes.param1, nodes.param2, *block[1:])
-        param0, *lists = [loans.enter_context(_Lent(data)) for data in given]
+    param0 = _sixteen_bits(nodes.param0)
+    with _Loans() as loans:
+        start, length = loans.lend(param0)
+        lists = [loans.lend(data) for data in (nodes.param1, nodes.param2, *block[1:])]
         if room is None:
-            # params of two bytes and sixteen bits for each node, the rows, and beside them 22 bytes at most
-            room = 5 * NODES + sum(lent.length for lent in lists[2:])
+            # four bytes for each node, the rows, and beside them 22 bytes at most
+            room = 5 * NODES + sum(length for _, length in lists[2:])
         out = _output(room)
-        arguments = [argument for lent in lists for argument in (lent.start, lent.length)]
-        length = _told(_library.anow_write(block.head._c(), param0.start, param0.length // 2, *arguments, out, room))
-    return out[:length]
+        arguments = [argument for lent in lists for argument in lent]
+        written = _told(_library.anow_write(block.head._c(), start, length // 2, *arguments, out, room))
+    return out[:written]
 
 
 # ---- Rows of a section, from the front
@@ -464,9 +472,10 @@ def _row(kind, start, row):
 
 
 def _front(kind, part, ask):
-    with _Lent(part) as lent:
-        row, length = _row(kind, lent.start, ask(lent.start, lent.length))
-        return row, ctypes.string_at(lent.start + length, lent.length - length)
+    with _Loans() as loans:
+        start, length = loans.lend(part)
+        row, behind = _row(kind, start, ask(start, length))
+        return row, _new_bytes(start + behind, length - behind)
 
 
 def _each(kind, section, ask):
@@ -476,12 +485,12 @@ def _each(kind, section, ask):
 
 def _rows(kind, section, ask):
     """Each row is asked of what remains, which is not copied: the address moves on."""
-    with section, _Lent(section) as lent:
-        at = 0
-        while at < lent.length:
-            row, length = _row(kind, lent.start + at, ask(lent.start + at, lent.length - at))
+    with section, _Loans() as loans:
+        at, left = loans.lend(section)
+        while left:
+            row, length = _row(kind, at, ask(at, left))
             yield row
-            at += length
+            at, left = at + length, left - length
 
 
 def _ask_metadata(version):
@@ -639,17 +648,19 @@ def _enough(length: int) -> int:
 
 def tally_block(key: int, block: BytesLike, lot: Lot = Lot.WORLD, span: Span = Span.ALL_TIME, room: Optional[int] = None) -> Tally:
     """The nodes of the block at a key that stand in a lot, if the block was saved within a span. Refused: 10; 9; 1 to 8; 11."""
-    with _Lent(block) as lent:
-        room = _enough(lent.length) if room is None else room
+    with _Loans() as loans:
+        start, length = loans.lend(block)
+        room = _enough(length) if room is None else room
         out = _output(room)
-        return _written(out, _told(_library.anow_tally_block(*_s64(key), lent.start, lent.length, lot._c(), span._c(), out, room)))
+        return _written(out, _told(_library.anow_tally_block(*_s64(key), start, length, lot._c(), span._c(), out, room)))
 
 
 def tally_sheet(sheet: BytesLike, lot: Lot = Lot.WORLD, span: Span = Span.ALL_TIME, room: Optional[int] = None) -> Tally:
     """The same of a sheet. Without a room two and a half times the sheet's length of memory is reserved, but only what the tally needs is touched.
     Refused: 10; 15; by record 15, 9, 15 and 1 to 8; 11; 14."""
-    with _Lent(sheet) as lent:
-        room = _enough(lent.length) if room is None else room
+    with _Loans() as loans:
+        start, length = loans.lend(sheet)
+        room = _enough(length) if room is None else room
         out, spare = _output(room), _output(room)
-        answer = _library.anow_tally_sheet(lent.start, lent.length, lot._c(), span._c(), out, room, spare, room)
+        answer = _library.anow_tally_sheet(start, length, lot._c(), span._c(), out, room, spare, room)
         return _written(out, _told(answer, answer.record))
