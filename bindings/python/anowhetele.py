@@ -228,12 +228,12 @@ class _Loans:
     """Bytes-like objects that are lent to the library. Until the `with` ends they are there, and their owner can neither resize nor close them."""
 
     def __init__(self):
-        self._bytes, self._buffers = [], []
+        self._kept, self._buffers = [], []
 
     def lend(self, data: BytesLike) -> Tuple[int, int]:
         """Where the bytes start, and how many they are."""
         if type(data) is bytes:
-            self._bytes.append(data)
+            self._kept.append(data)
             return _bytes_start(data), len(data)
         buffer = _exported(data)
         self._buffers.append(buffer)
@@ -424,7 +424,7 @@ def write(block: Block, nodes: Nodes, room: Optional[int] = None) -> bytes:
             room = 5 * NODES + sum(length for _, length in lists[2:])
         out = _output(room)
         arguments = [argument for lent in lists for argument in lent]
-        written = _told(_library.anow_write(block.head._c(), start, length // 2, *arguments, out, room))
+        written = _told(_library.anow_write(block.head._c(), start, length // 2, *arguments, out, len(out)))
     return out[:written]
 
 
@@ -622,7 +622,7 @@ class Tally:
             # each row of the sum is a row of one of them, with another count
             room = len(a) + len(b)
         out = _output(room)
-        return _written(out, _told(_library.anow_tally_merge(a, len(a), b, len(b), out, room)))
+        return _written(out, _told(_library.anow_tally_merge(a, len(a), b, len(b), out, len(out))))
 
 
 def _written(out, length) -> Tally:
@@ -652,7 +652,7 @@ def tally_block(key: int, block: BytesLike, lot: Lot = Lot.WORLD, span: Span = S
         start, length = loans.lend(block)
         room = _enough(length) if room is None else room
         out = _output(room)
-        return _written(out, _told(_library.anow_tally_block(*_s64(key), start, length, lot._c(), span._c(), out, room)))
+        return _written(out, _told(_library.anow_tally_block(*_s64(key), start, length, lot._c(), span._c(), out, len(out))))
 
 
 def tally_sheet(sheet: BytesLike, lot: Lot = Lot.WORLD, span: Span = Span.ALL_TIME, room: Optional[int] = None) -> Tally:
@@ -662,5 +662,5 @@ def tally_sheet(sheet: BytesLike, lot: Lot = Lot.WORLD, span: Span = Span.ALL_TI
         start, length = loans.lend(sheet)
         room = _enough(length) if room is None else room
         out, spare = _output(room), _output(room)
-        answer = _library.anow_tally_sheet(start, length, lot._c(), span._c(), out, room, spare, room)
+        answer = _library.anow_tally_sheet(start, length, lot._c(), span._c(), out, len(out), spare, len(spare))
         return _written(out, _told(answer, answer.record))

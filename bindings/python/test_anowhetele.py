@@ -70,20 +70,15 @@ class Case(unittest.TestCase):
 
 
 class Refusals(Case):
-    BOTH = Refused(8, 20, 1)
-    ALL = (BOTH, Refused(1, 0), Refused(15, 0, 7), Refused(13))
-
     def test_copies_say_the_same(self):
-        for refused in self.ALL:
-            ways = [copy.copy, copy.deepcopy]
-            ways += [lambda x, p=protocol: pickle.loads(pickle.dumps(x, p)) for protocol in range(pickle.HIGHEST_PROTOCOL + 1)]
-            for way in ways:
-                again = way(refused)
+        ways = [copy.copy, copy.deepcopy]
+        ways += [lambda refused, p=protocol: pickle.loads(pickle.dumps(refused, p)) for protocol in range(pickle.HIGHEST_PROTOCOL + 1)]
+        for number, offset, record in ((8, 20, 1), (1, 0, None), (15, None, 7), (13, None, None)):
+            refused = Refused(number, offset, record)
+            for again in (way(refused) for way in ways):
                 self.assertIs(type(again), Refused)
-                self.assertEqual((again.number, again.refusal, again.offset, again.record, again.words, str(again)),
-                                 (refused.number, refused.refusal, refused.offset, refused.record, refused.words, str(refused)))
-        self.assertEqual((self.BOTH.offset, self.BOTH.record, Refused(13).offset, Refused(13).record), (20, 1, None, None))
-        self.assertEqual(str(Refused(Refusal.NO_ROOM)), 'refused 11: result longer than the output lent')
+                self.assertEqual((again.number, again.refusal, again.offset, again.record), (number, Refusal(number), offset, record))
+                self.assertEqual((str(again), again.words), (str(refused), refused.words))
 
     def test_a_pool_hands_them_on(self):
         with multiprocessing.Pool(2) as pool:
