@@ -1,21 +1,36 @@
 """Anowhetele: the nodes standing on a lot of a Luanti world, counted name by name. Bytes in, bytes out, over a library that is proved.
 
     import anowhetele
-    tally = anowhetele.tally_sheet(open('world.wsh', 'rb').read(), room=8192)
+    with open('world.wsh', 'rb') as file:
+        tally = anowhetele.tally_sheet(file.read())
     for name, count in tally:
         print(count, name.decode())
 
-A call that is refused raises Refused, with document 01's number and words, and where the fault lies. The shared library is the one that
-ANOWHETELE_LIB names, or the one that bindings/python/build makes.
+A call that is refused raises Refused, with document 01's number and words, and where the fault lies.
+
+Where bytes are taken, any bytes-like object will do: bytes, a bytearray, a memoryview, a mapped file, an array. The library reads it where it stands;
+one that is not contiguous is copied first. During the call it cannot be resized or closed, and nobody may write it, neither another thread
+nor, for a mapped file, another program. What comes back is new bytes.
+
+A call that writes takes a room, the longest result wanted, and is refused 11 where the result is longer. Without a room every result is taken.
+
+Each call may be made from any thread that has 1 MB of stack. The shared library is the one that ANOWHETELE_LIB names, or the one that
+bindings/python/build makes. The Python is CPython, whose own functions are asked where an object's bytes stand.
 """
 import ctypes
 import enum
+import functools
+import operator
 import os
+import sys
 from array import array
-from ctypes import c_int32, c_int64, c_size_t, c_uint8, c_uint16, c_uint32, c_uint64
-from typing import Iterator, NamedTuple, Optional, Tuple
+from ctypes import c_int, c_int32, c_int64, c_size_t, c_ssize_t, c_uint8, c_uint16, c_uint32, c_uint64, c_void_p
+from mmap import mmap
+from typing import Iterator, NamedTuple, Optional, Tuple, Union
 
 NODES = 4096
+
+BytesLike = Union[bytes, bytearray, memoryview, mmap, array]
 
 
 # numbers: made by bindings/make from bindings/numbers.txt
@@ -65,12 +80,16 @@ class Refused(Exception):
     """A refused call. `offset` is where the field that was refused starts, from the first byte of its block or part; `record` is a sheet's, from 0,
     or the number of records where no record has the fault. Either is None where document 01 gives none."""
 
-    def __init__(self, number: int, offset: int = 0, record: Optional[int] = None):
+    def __init__(self, number: int, offset: Optional[int] = 0, record: Optional[int] = None):
         self.refusal = Refusal(number)
         has_offset, self.words = _TABLE[self.refusal]
         self.offset = offset if has_offset else None
         self.record = record
-        super().__init__(f'refused {number}{self._place()}: {self.words}')
+        super().__init__(f'refused {self.number}{self._place()}: {self.words}')
+
+    def __reduce__(self):
+        """For pickle and copy: an exception is otherwise made anew from its text, which is no number."""
+        return type(self), (self.number, self.offset, self.record), self.__dict__
 
     @property
     def number(self) -> int:
@@ -105,8 +124,8 @@ _MetadataRow = _struct('_MetadataRow', ('answer', _Answer), ('position', c_uint3
 _ObjectRow = _struct('_ObjectRow', ('answer', _Answer), ('kind', c_uint32), ('x', c_int32), ('y', c_int32), ('z', c_int32), ('data', _Part))
 _TimerRow = _struct('_TimerRow', ('answer', _Answer), ('position', c_uint32), ('timeout', c_int32), ('elapsed', c_int32))
 
-_BYTES = [ctypes.c_char_p, c_size_t]
-_OUT = [ctypes.c_void_p, c_size_t]
+_BYTES = [c_void_p, c_size_t]
+_OUT = [c_void_p, c_size_t]
 
 _SIGNATURES = {
     'anow_key_join': (_Key, [c_int32] * 3),
@@ -132,7 +151,8 @@ _SIGNATURES = {
 
 def _load():
     here = os.path.dirname(os.path.abspath(__file__))
-    path = os.environ.get('ANOWHETELE_LIB') or os.path.join(here, '../../target/python/libanowhetele.so')
+    # a name without a folder would be looked for among the system's libraries
+    path = os.path.abspath(os.environ.get('ANOWHETELE_LIB') or os.path.join(here, '../../target/python/libanowhetele.so'))
     if not os.path.exists(path):
         raise ImportError(f'there is no {path}: run bindings/python/build in the repository, or name the library in ANOWHETELE_LIB')
     library = ctypes.CDLL(path)
@@ -145,11 +165,32 @@ def _load():
 _library = _load()
 
 
+# ---- Python's own functions
+
+
+# Py_buffer, which has had these fields since Python 3.3
+_Buffer = _struct('_Buffer', ('start', c_void_p), ('owner', c_void_p), ('length', c_ssize_t), ('item_size', c_ssize_t), ('read_only', c_int),
+                  ('dimensions', c_int), *((name, c_void_p) for name in ('format', 'shape', 'strides', 'suboffsets', 'internal')))
+
+
+def _python(name, result, *arguments):
+    """A function object of this module alone: whoever else uses ctypes.pythonapi may declare the same function in another way."""
+    return ctypes.PYFUNCTYPE(result, *arguments)((name, ctypes.pythonapi))
+
+
+_get_buffer = _python('PyObject_GetBuffer', c_int, ctypes.py_object, ctypes.POINTER(_Buffer), c_int)
+_release_buffer = _python('PyBuffer_Release', None, ctypes.POINTER(_Buffer))
+_bytes_start = _python('PyBytes_AsString', c_void_p, ctypes.py_object)
+# without a start the new bytes are not filled
+_new_bytes = _python('PyBytes_FromStringAndSize', ctypes.py_object, c_void_p, c_ssize_t)
+
+
 # ---- Numbers and bytes, on their way in and out
 
 
 def _within(low, high, *values):
-    """ctypes would cut a number to its width in silence."""
+    """Whole numbers, as they are: ctypes would cut a number to its width in silence. TypeError for what is no whole number."""
+    values = [operator.index(value) for value in values]
     for value in values:
         if not low <= value <= high:
             raise OverflowError(f'{value} is not in {low}..{high}')
@@ -160,17 +201,56 @@ def _s32(*values):
     return _within(-2**31, 2**31 - 1, *values)
 
 
+def _s64(*values):
+    return _within(-2**63, 2**63 - 1, *values)
+
+
 def _unsigned(bits, *values):
     return _within(0, 2**bits - 1, *values)
 
 
-def _bytes(data) -> bytes:
-    return data if isinstance(data, bytes) else bytes(memoryview(data))
+def _bytes(data: BytesLike) -> bytes:
+    """A copy, but for bytes, which never change."""
+    return data if type(data) is bytes else bytes(memoryview(data))
 
 
-def _given(data):
-    data = _bytes(data)
-    return data, len(data)
+def _exported(data: BytesLike) -> _Buffer:
+    """The buffer of an object. One that is not contiguous is copied, since the library takes one run."""
+    buffer = _Buffer()
+    try:
+        _get_buffer(data, buffer, 0)
+    except BufferError:
+        _get_buffer(bytes(memoryview(data)), buffer, 0)
+    return buffer
+
+
+class _Loans:
+    """Bytes-like objects that are lent to the library. Until the `with` ends they are there, and their owner can neither resize nor close them."""
+
+    def __init__(self):
+        self._kept, self._buffers = [], []
+
+    def lend(self, data: BytesLike) -> Tuple[int, int]:
+        """Where the bytes start, and how many they are."""
+        if type(data) is bytes:
+            self._kept.append(data)
+            return _bytes_start(data), len(data)
+        buffer = _exported(data)
+        self._buffers.append(buffer)
+        # what is empty may have no address, and the library wants one
+        return buffer.start or _bytes_start(b''), buffer.length
+
+    def __enter__(self) -> '_Loans':
+        return self
+
+    def __exit__(self, *_):
+        for buffer in self._buffers:
+            _release_buffer(buffer)
+
+
+def _output(room: int) -> bytes:
+    """New bytes, for the library to write before anybody sees them. They are not cleared: that would take as long as to tally a sheet."""
+    return _new_bytes(None, *_within(0, sys.maxsize, room))
 
 
 def _judge(number):
@@ -178,14 +258,15 @@ def _judge(number):
         raise Refused(number)
 
 
-def _told(answer) -> int:
+def _told(answer, record=None) -> int:
     if answer.number:
-        raise Refused(answer.number, answer.offset)
+        raise Refused(answer.number, answer.offset, record)
     return answer.length
 
 
-def _part(data: bytes, part) -> bytes:
-    return data[part.start:part.start + part.length]
+def _part(start: int, part) -> bytes:
+    """A copy of a part of the bytes that start there."""
+    return _new_bytes(start + part.start, part.length)
 
 
 # ---- Keys, lots, spans
@@ -200,13 +281,15 @@ def key_join(x: int, y: int, z: int) -> int:
 
 def key_split(key: int) -> Tuple[int, int, int]:
     """The block's coordinates x, y and z. Refused: 9."""
-    split = _library.anow_key_split(*_within(-2**63, 2**63 - 1, key))
+    split = _library.anow_key_split(*_s64(key))
     _judge(split.number)
     return split.x, split.y, split.z
 
 
 class Lot(NamedTuple):
-    """Node coordinates, both ends inside: the least on each axis, then the greatest. Lot.WORLD is the whole world."""
+    """Node coordinates, both ends inside: the least on each axis, then the greatest. Lot.WORLD is the whole world.
+
+    `(x, y, z) in lot` asks what `lot.has(x, y, z)` does, and is a TypeError where that is: for anything but three whole numbers."""
     x0: int
     y0: int
     z0: int
@@ -220,6 +303,9 @@ class Lot(NamedTuple):
         _judge(asked.number)
         return asked.inside == 1
 
+    def __contains__(self, node) -> bool:
+        return self.has(*node)
+
     def _c(self):
         return _Lot(*_s32(*self))
 
@@ -228,7 +314,9 @@ Lot.WORLD = Lot(-32768, -32768, -32768, 32767, 32767, 32767)
 
 
 class Span(NamedTuple):
-    """Seconds: `start` is inside, `until` is not. Span.ALL_TIME has every second that is known; 0xffffffff, which stands for none, lies in no span."""
+    """Seconds: `start` is inside, `until` is not. Span.ALL_TIME has every second that is known; 0xffffffff, which stands for none, lies in no span.
+
+    `second in span` asks what `span.has(second)` does, and is a TypeError where that is: for anything but a whole number."""
     start: int
     until: int
 
@@ -237,6 +325,9 @@ class Span(NamedTuple):
         asked = _library.anow_span_has(self._c(), *_unsigned(32, second))
         _judge(asked.number)
         return asked.inside == 1
+
+    def __contains__(self, second) -> bool:
+        return self.has(second)
 
     def _c(self):
         return _Span(*_unsigned(32, *self))
@@ -257,8 +348,8 @@ class Head(NamedTuple):
     timer_byte: int
 
     def _c(self):
-        _unsigned(8, self.version, self.flags, self.timer_byte)
-        return _Head(self.version, self.flags, *_unsigned(16, self.lighting), *_unsigned(32, self.timestamp), self.timer_byte)
+        version, flags, timer_byte = _unsigned(8, self.version, self.flags, self.timer_byte)
+        return _Head(version, flags, *_unsigned(16, self.lighting), *_unsigned(32, self.timestamp), timer_byte)
 
 
 class Block(NamedTuple):
@@ -271,38 +362,42 @@ class Block(NamedTuple):
 
 
 class Nodes(NamedTuple):
-    """The three numbers of each node, by its index 256*z + 16*y + x: param0 as native sixteen-bit numbers."""
+    """The three numbers of each node, by its index 256*z + 16*y + x: param0 as native sixteen-bit numbers. To be written it may be any sequence of
+    numbers, but not bytes."""
     param0: array
     param1: bytes
     param2: bytes
 
 
-def _taken(data, block) -> Block:
+def _taken(start, block) -> Block:
     _told(block.answer)
     head = Head(*(getattr(block.head, field) for field in Head._fields))
-    return Block(head, *(_part(data, getattr(block, name)) for name in Block._fields[1:]))
+    return Block(head, *(_part(start, getattr(block, name)) for name in Block._fields[1:]))
 
 
-def read(block: bytes) -> Tuple[Block, Nodes]:
+def read(block: BytesLike) -> Tuple[Block, Nodes]:
     """Refused: 1 to 8."""
-    block = _bytes(block)
-    param0, param1, param2 = (c_uint16 * NODES)(), (c_uint8 * NODES)(), (c_uint8 * NODES)()
-    found = _library.anow_read(block, len(block), param0, NODES, param1, NODES, param2, NODES)
-    return _taken(block, found), Nodes(array('H', bytes(param0)), bytes(param1), bytes(param2))
+    param0, param1, param2 = array('H', bytes(2 * NODES)), _output(NODES), _output(NODES)
+    with _Loans() as loans:
+        start, length = loans.lend(block)
+        found = _library.anow_read(start, length, param0.buffer_info()[0], NODES, param1, NODES, param2, NODES)
+        return _taken(start, found), Nodes(param0, param1, param2)
 
 
-def sections(block: bytes) -> Block:
+def sections(block: BytesLike) -> Block:
     """The same without the nodes. Refused: 1 to 8."""
-    block = _bytes(block)
-    return _taken(block, _library.anow_sections(block, len(block)))
+    with _Loans() as loans:
+        start, length = loans.lend(block)
+        return _taken(start, _library.anow_sections(start, length))
 
 
-def node_name(block: bytes, index: int) -> bytes:
+def node_name(block: BytesLike, index: int) -> bytes:
     """The name of the node at an index, 256*z + 16*y + x. Refused: 1 to 8, then 16 for an index above 4,095."""
-    block = _bytes(block)
-    node = _library.anow_node_name(block, len(block), *_unsigned(64, index))
-    _told(node.answer)
-    return _part(block, node.name)
+    with _Loans() as loans:
+        start, length = loans.lend(block)
+        node = _library.anow_node_name(start, length, *_unsigned(64, index))
+        _told(node.answer)
+        return _part(start, node.name)
 
 
 def light_count(lighting: int) -> int:
@@ -310,19 +405,27 @@ def light_count(lighting: int) -> int:
     return _library.anow_light_count(*_unsigned(16, lighting))
 
 
+def _sixteen_bits(numbers) -> array:
+    """The numbers in an array, which would take bytes in the machine's byte order, in silence."""
+    if isinstance(numbers, (bytes, bytearray)):
+        raise TypeError('param0 is a sequence of numbers and not bytes, which could be of either byte order')
+    return array('H', numbers)
+
+
 def write(block: Block, nodes: Nodes, room: Optional[int] = None) -> bytes:
-    """The block that these parts make; counts are worked out from the rows. The room is the longest block wanted, without it whatever the parts need.
+    """The block that these parts make; counts are worked out from the rows. TypeError for a param0 that is bytes.
     Refused: 2; 12 where the parts do not fit; what the reader would say of the bytes (3 to 6 and 8); 11."""
-    parts = [_bytes(part) for part in block[1:]]
-    if room is None:
-        # four bytes for each node, and beside the rows some forty more
-        room = 5 * NODES + sum(map(len, parts))
-    out = ctypes.create_string_buffer(room)
-    param0 = array('H', nodes.param0)
-    lists = [(param0.buffer_info()[0], len(param0)), _given(nodes.param1), _given(nodes.param2)]
-    arguments = [argument for pair in lists + [_given(part) for part in parts] for argument in pair]
-    length = _told(_library.anow_write(block.head._c(), *arguments, out, room))
-    return out.raw[:length]
+    param0 = _sixteen_bits(nodes.param0)
+    with _Loans() as loans:
+        start, length = loans.lend(param0)
+        lists = [loans.lend(data) for data in (nodes.param1, nodes.param2, *block[1:])]
+        if room is None:
+            # four bytes for each node, the rows, and beside them 22 bytes at most
+            room = 5 * NODES + sum(length for _, length in lists[2:])
+        out = _output(room)
+        arguments = [argument for lent in lists for argument in lent]
+        written = _told(_library.anow_write(block.head._c(), start, length // 2, *arguments, out, len(out)))
+    return out[:written]
 
 
 # ---- Rows of a section, from the front
@@ -361,76 +464,82 @@ class TimerRow(NamedTuple):
     elapsed: int
 
 
-def _row(kind, part, row):
+def _row(kind, start, row):
     """The row in Python's types, and its length."""
     length = _told(row.answer)
     values = (getattr(row, field) for field in kind._fields)
-    return kind(*(_part(part, value) if isinstance(value, _Part) else value for value in values)), length
+    return kind(*(_part(start, value) if isinstance(value, _Part) else value for value in values)), length
 
 
 def _front(kind, part, ask):
-    part = _bytes(part)
-    row, length = _row(kind, part, ask(part, len(part)))
-    return row, part[length:]
+    with _Loans() as loans:
+        start, length = loans.lend(part)
+        row, behind = _row(kind, start, ask(start, length))
+        return row, _new_bytes(start + behind, length - behind)
 
 
 def _each(kind, section, ask):
-    """Each row is asked of what remains, which is not copied: the address moves on. A refused row ends the rows."""
-    section = _bytes(section)
-    start = ctypes.cast(section, ctypes.c_void_p).value
-    at = 0
-    while at < len(section):
-        row = ask(ctypes.c_char_p(start + at), len(section) - at)
-        length = _told(row.answer)
-        yield _row(kind, section[at:at + length], row)[0]
-        at += length
+    """The section is the library's from now on, until its rows end or are dropped."""
+    return _rows(kind, memoryview(section), ask)
+
+
+def _rows(kind, section, ask):
+    """Each row is asked of what remains, which is not copied: the address moves on."""
+    with section, _Loans() as loans:
+        at, left = loans.lend(section)
+        while left:
+            row, length = _row(kind, at, ask(at, left))
+            yield row
+            at, left = at + length, left - length
 
 
 def _ask_metadata(version):
-    _unsigned(8, version)
-    return lambda part, length: _library.anow_row_metadata(version, part, length)
+    version, = _unsigned(8, version)
+    return lambda start, length: _library.anow_row_metadata(version, start, length)
 
 
-def name_row(part: bytes) -> Tuple[NameRow, bytes]:
+def name_row(part: BytesLike) -> Tuple[NameRow, bytes]:
     """The front row of a part, and what remains behind it. Refused: 16 for an empty part, then 1."""
     return _front(NameRow, part, _library.anow_row_name)
 
 
-def metadata_row(version: int, part: bytes) -> Tuple[MetadataRow, bytes]:
+def metadata_row(version: int, part: BytesLike) -> Tuple[MetadataRow, bytes]:
     """Refused: 2, 16, then 1, 3 or 4."""
     return _front(MetadataRow, part, _ask_metadata(version))
 
 
-def object_row(part: bytes) -> Tuple[ObjectRow, bytes]:
+def object_row(part: BytesLike) -> Tuple[ObjectRow, bytes]:
     """Refused: 16, then 1."""
     return _front(ObjectRow, part, _library.anow_row_object)
 
 
-def timer_row(part: bytes) -> Tuple[TimerRow, bytes]:
+def timer_row(part: BytesLike) -> Tuple[TimerRow, bytes]:
     """Refused: 16, then 1 or 4."""
     return _front(TimerRow, part, _library.anow_row_timer)
 
 
-def name_rows(section: bytes) -> Iterator[NameRow]:
+def name_rows(section: BytesLike) -> Iterator[NameRow]:
+    """Every row of a section, which cannot be resized or closed until they end or are dropped. A refused row ends them, with an offset from its own
+    first byte. Refused: 1."""
     return _each(NameRow, section, _library.anow_row_name)
 
 
-def metadata_rows(version: int, section: bytes) -> Iterator[MetadataRow]:
+def metadata_rows(version: int, section: BytesLike) -> Iterator[MetadataRow]:
+    """Refused: 2, then 1, 3 or 4."""
     return _each(MetadataRow, section, _ask_metadata(version))
 
 
-def object_rows(section: bytes) -> Iterator[ObjectRow]:
+def object_rows(section: BytesLike) -> Iterator[ObjectRow]:
+    """Refused: 1."""
     return _each(ObjectRow, section, _library.anow_row_object)
 
 
-def timer_rows(section: bytes) -> Iterator[TimerRow]:
+def timer_rows(section: BytesLike) -> Iterator[TimerRow]:
+    """Refused: 1 or 4."""
     return _each(TimerRow, section, _library.anow_row_timer)
 
 
 # ---- Tallies
-
-# The longest tally that a call gives where its caller says nothing else.
-ROOM = 1 << 20
 
 
 class Row(NamedTuple):
@@ -440,66 +549,118 @@ class Row(NamedTuple):
 
 
 class Tally:
-    """A well-formed tally: its bytes, and its rows in the order of their names. Refused: 13 for bytes that are no tally."""
+    """A well-formed tally: its bytes, and its rows in the order of their names. Refused: 13 for bytes that are no tally.
 
-    def __init__(self, data: bytes):
-        self.bytes = _bytes(data)
-        _told(_library.anow_tally_check(self.bytes, len(self.bytes)))
+    `name in tally`, `tally[name]` and `tally.get(name)` ask for the row of a name. A name is bytes-like; a str is in no tally, and is a TypeError as it
+    is for `in` of bytes."""
+
+    def __init__(self, data: BytesLike):
+        self._data = _bytes(data)
+        _told(_library.anow_tally_check(self._data, len(self._data)))
+
+    @property
+    def bytes(self) -> bytes:
+        return self._data
 
     def __iter__(self) -> Iterator[Row]:
         at = 9
-        while at < len(self.bytes):
+        while at < len(self._data):
             name = at + 2
-            count = name + int.from_bytes(self.bytes[at:name], 'big')
+            count = name + int.from_bytes(self._data[at:name], 'big')
             at = count + 8
-            yield Row(self.bytes[name:count], int.from_bytes(self.bytes[count:at], 'big'))
+            yield Row(self._data[name:count], int.from_bytes(self._data[count:at], 'big'))
 
     def __len__(self) -> int:
-        return int.from_bytes(self.bytes[5:9], 'big')
+        return int.from_bytes(self._data[5:9], 'big')
+
+    @functools.cached_property
+    def _counts(self):
+        """The counts by name, made for the first question: rows are not of one length, and cannot be searched as they stand."""
+        return dict(iter(self))
+
+    def __contains__(self, name: BytesLike) -> bool:
+        return _bytes(name) in self._counts
+
+    def __getitem__(self, name: BytesLike) -> int:
+        """The count of a name. KeyError for a name that has no row."""
+        return self._counts[_bytes(name)]
+
+    def get(self, name: BytesLike, default: int = 0) -> int:
+        """The count of a name, or the default for a name that has no row."""
+        return self._counts.get(_bytes(name), default)
 
     def __eq__(self, other) -> bool:
-        return isinstance(other, Tally) and self.bytes == other.bytes
+        return self._data == other._data if isinstance(other, Tally) else NotImplemented
 
     def __hash__(self) -> int:
-        return hash(self.bytes)
+        return hash(self._data)
 
     def __repr__(self) -> str:
-        return f'Tally({self.bytes!r})'
+        return f'Tally({self._data!r})'
 
-    def add(self, name: bytes, count: int, room: int = ROOM) -> 'Tally':
-        """The tally with a count added to a name; the room is never less than the tally's length. Refused: 12 for a name above 65,535 bytes; 14; 11."""
-        used = len(self.bytes)
-        out = ctypes.create_string_buffer(self.bytes, max(room, used))
-        name, length = _given(name)
-        return _written(out, _told(_library.anow_tally_add(out, len(out), used, name, length, *_unsigned(64, count))))
+    def __reduce__(self):
+        """For pickle and copy: the bytes alone, which are checked again."""
+        return type(self), (self._data,)
 
-    def merge(self, other: 'Tally', room: int = ROOM) -> 'Tally':
+    def add(self, name: BytesLike, count: int, room: Optional[int] = None) -> 'Tally':
+        """The tally with a count added to a name. Refused: 12 for a name above 65,535 bytes; 14; 11."""
+        name, used = _bytes(name), len(self._data)
+        if room is None:
+            # at most one row is new: its length, the name and the count
+            room = used + 2 + len(name) + 8
+        out = _output(max(room, used))
+        ctypes.memmove(out, self._data, used)
+        length = _told(_library.anow_tally_add(out, len(out), used, name, len(name), *_unsigned(64, count)))
+        if length > room:
+            raise Refused(Refusal.NO_ROOM)
+        return _written(out, length)
+
+    def merge(self, other: 'Tally', room: Optional[int] = None) -> 'Tally':
         """The sum of two tallies. Refused: 14; 11."""
-        out = ctypes.create_string_buffer(room)
-        return _written(out, _told(_library.anow_tally_merge(*_given(self.bytes), *_given(other.bytes), out, room)))
+        a, b = self._data, other._data
+        if room is None:
+            # each row of the sum is a row of one of them, with another count
+            room = len(a) + len(b)
+        out = _output(room)
+        return _written(out, _told(_library.anow_tally_merge(a, len(a), b, len(b), out, len(out))))
 
 
 def _written(out, length) -> Tally:
     """What the library wrote is a tally, and need not be checked again."""
     tally = Tally.__new__(Tally)
-    tally.bytes = out.raw[:length]
+    tally._data = out[:length]
     return tally
 
 
 Tally.EMPTY = Tally(b'TLY\0\1\0\0\0\0')
 
 
-def tally_block(key: int, block: bytes, lot: Lot = Lot.WORLD, span: Span = Span.ALL_TIME, room: int = ROOM) -> Tally:
+def _enough(length: int) -> int:
+    """Room for the tally of any block or sheet of a length: five quarters of it.
+
+    A name row of a block is four bytes and the name, a row of a tally ten bytes and the name. So the tally of k names, of n bytes together, has
+    9 + 10k + n bytes; and its block at least F + 4k + n, where F is what the shortest block has beside its name row. Five quarters of that are enough
+    where 9 + 5k is at most five quarters of F. Up to version 23 F is 12,306, and there are 128 + 2,048 ids: 10,889 is below 15,382. From 24 on F is
+    16,402, and 4,096 nodes have at most as many names: 20,489 is below 20,502. A sheet has nine bytes beside its records, as a tally beside its rows, and
+    every row of its tally is in the tally of a block."""
+    return 5 * length // 4
+
+
+def tally_block(key: int, block: BytesLike, lot: Lot = Lot.WORLD, span: Span = Span.ALL_TIME, room: Optional[int] = None) -> Tally:
     """The nodes of the block at a key that stand in a lot, if the block was saved within a span. Refused: 10; 9; 1 to 8; 11."""
-    _within(-2**63, 2**63 - 1, key)
-    out = ctypes.create_string_buffer(room)
-    return _written(out, _told(_library.anow_tally_block(key, *_given(block), lot._c(), span._c(), out, room)))
+    with _Loans() as loans:
+        start, length = loans.lend(block)
+        room = _enough(length) if room is None else room
+        out = _output(room)
+        return _written(out, _told(_library.anow_tally_block(*_s64(key), start, length, lot._c(), span._c(), out, len(out))))
 
 
-def tally_sheet(sheet: bytes, lot: Lot = Lot.WORLD, span: Span = Span.ALL_TIME, room: int = ROOM) -> Tally:
-    """The same of a sheet. Refused: 10; 15; by record 15, 9, 15 and 1 to 8; 11; 14."""
-    out, spare = ctypes.create_string_buffer(room), ctypes.create_string_buffer(room)
-    answer = _library.anow_tally_sheet(*_given(sheet), lot._c(), span._c(), out, room, spare, room)
-    if answer.number:
-        raise Refused(answer.number, answer.offset, answer.record)
-    return _written(out, answer.length)
+def tally_sheet(sheet: BytesLike, lot: Lot = Lot.WORLD, span: Span = Span.ALL_TIME, room: Optional[int] = None) -> Tally:
+    """The same of a sheet. Without a room two and a half times the sheet's length of memory is reserved, but only what the tally needs is touched.
+    Refused: 10; 15; by record 15, 9, 15 and 1 to 8; 11; 14."""
+    with _Loans() as loans:
+        start, length = loans.lend(sheet)
+        room = _enough(length) if room is None else room
+        out, spare = _output(room), _output(room)
+        answer = _library.anow_tally_sheet(start, length, lot._c(), span._c(), out, len(out), spare, len(spare))
+        return _written(out, _told(answer, answer.record))

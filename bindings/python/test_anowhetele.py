@@ -1,7 +1,17 @@
 """The binding over the library: python3 -m unittest discover bindings/python, after bindings/python/build."""
+import copy
+import itertools
+import mmap
+import multiprocessing
 import os
+import pickle
 import struct
+import tempfile
+import tracemalloc
 import unittest
+from array import array
+from concurrent.futures import ThreadPoolExecutor
+from unittest import mock
 
 import anowhetele
 from anowhetele import Head, Lot, MetadataRow, NameRow, ObjectRow, Refusal, Refused, Row, Span, Tally, TimerRow
@@ -21,6 +31,29 @@ def sheet(*records):
     return b'WSH\0\1' + struct.pack('>I', len(records)) + b''.join(struct.pack('>qI', key, len(block)) + block for key, block in records)
 
 
+def short_names():
+    """Ever more names, the shortest first."""
+    for length in itertools.count():
+        for letters in itertools.product(range(256), repeat=length):
+            yield bytes(letters)
+
+
+# all content ids that blocks up to version 23 can have
+OLD_IDS = [*range(128), *range(2048, 4096)]
+
+
+def crowded(version, ids, names):
+    """A block of a version up to 24 that uses all these ids, with the next of the names for each, and has no other row."""
+    used = list(itertools.islice(itertools.cycle(ids), anowhetele.NODES))
+    if version < 24:
+        params = b'\1\2' + bytes(i if i < 128 else i // 16 for i in used) + bytes(4096) + bytes(0 if i < 128 else i % 16 * 16 for i in used)
+    else:
+        params = b'\2\2' + struct.pack('>4096H', *used) + bytes(8192)
+    metadata = b'\0\1\0\0' if version == 22 else b'\1\0\0\0'
+    rows = b''.join(struct.pack('>HH', i, len(name)) + name for i, name in zip(ids, names))
+    return bytes([version, 0]) + params + metadata + struct.pack('>BHIBH', 0, 0, 5, 0, len(ids)) + rows
+
+
 INVENTORY = b'EndInventoryList\nEndInventory\n'
 METADATA = b'\x0f\xff\0\0\0\1\0\4text\0\0\0\2hi\1' + INVENTORY
 OBJECT = b'\7\xff\xff\xff\xff\0\0\0\2\0\0\0\3\0\2ox'
@@ -34,6 +67,31 @@ class Case(unittest.TestCase):
             call(*arguments, **named)
         self.assertEqual(str(caught.exception), text)
         return caught.exception
+
+
+class Refusals(Case):
+    def test_copies_say_the_same(self):
+        ways = [copy.copy, copy.deepcopy]
+        ways += [lambda refused, p=protocol: pickle.loads(pickle.dumps(refused, p)) for protocol in range(pickle.HIGHEST_PROTOCOL + 1)]
+        for number, offset, record in ((8, 20, 1), (1, 0, None), (15, None, 7), (13, None, None)):
+            refused = Refused(number, offset, record)
+            for again in (way(refused) for way in ways):
+                self.assertIs(type(again), Refused)
+                self.assertEqual((again.number, again.refusal, again.offset, again.record), (number, Refusal(number), offset, record))
+                self.assertEqual((str(again), again.words), (str(refused), refused.words))
+
+    def test_a_pool_hands_them_on(self):
+        with multiprocessing.Pool(2) as pool:
+            tallies = pool.map_async(anowhetele.tally_sheet, [sheet((k, air())) for k in range(9)])
+            self.assertEqual(tallies.get(timeout=20), 9 * [Tally(AIR)])
+            for call, given, text in (
+                    (anowhetele.tally_sheet, [sheet((-1, air())), sheet((-1, air()), (5, b''))],
+                     'refused 1 at offset 0 of record 1: bytes end inside a field, or an inventory has no end line'),
+                    (anowhetele.tally_sheet, [b'', sheet((-1, air()))],
+                     'refused 15 at record 0: sheet mark, version, framing, or keys not rising'),
+                    (anowhetele.sections, [air(), b'\x1e'], 'refused 2 at offset 0: version outside 22..29'),
+                    (Tally, [AIR, b'TLY'], 'refused 13: tally malformed')):
+                self.refused(text, lambda: pool.map_async(call, given).get(timeout=20))
 
 
 class Places(Case):
@@ -56,6 +114,31 @@ class Places(Case):
         self.assertFalse(Span(0, 1_000_000).has(1_000_000))
         self.refused('refused 10: lot out of the world or turned round; span turned round', Lot(1, 0, 0, 0, 0, 0).has, 0, 0, 0)
 
+    def test_in_asks_what_has_does(self):
+        lot, span = Lot(-1, -1, -1, 3, 3, 3), Span(5, 9)
+        self.assertIn((1, 2, 0), lot)
+        self.assertIn([-1, 3, 0], lot)
+        self.assertNotIn((4, 0, 0), lot)
+        for second, inside in ((4, False), (5, True), (8, True), (9, False)):
+            self.assertEqual(second in span, inside)
+        for node in (3, None, 'abc', (1, 1), (1, 1, 1, 1), (1, 1, '1'), (1.0, 1, 1)):
+            with self.assertRaises(TypeError):
+                node in lot
+        for second in ('5', b'5', 5.0, None, (5,)):
+            with self.assertRaises(TypeError):
+                second in span
+        for question in (lambda: (2**31, 0, 0) in lot, lambda: -1 in span, lambda: 2**32 in span):
+            with self.assertRaises(OverflowError):
+                question()
+        for question in (lambda: (0, 0, 0) in Lot(1, 0, 0, 0, 0, 0), lambda: 1 in Span(2, 1)):
+            self.refused('refused 10: lot out of the world or turned round; span turned round', question)
+
+    def test_they_are_still_tuples(self):
+        lot, (start, until) = Lot(-1, -2, -3, 3, 2, 1), Span(5, 9)
+        self.assertEqual((start, until), Span(5, 9))
+        self.assertEqual((lot, {lot: 1}[-1, -2, -3, 3, 2, 1], lot.index(3)), ((-1, -2, -3, 3, 2, 1), 1, 3))
+        self.assertEqual(pickle.loads(pickle.dumps(lot._replace(x0=0))), Lot(0, -2, -3, 3, 2, 1))
+
 
 class Blocks(Case):
     def test_what_was_read_writes_back(self):
@@ -66,6 +149,20 @@ class Blocks(Case):
         self.assertEqual(anowhetele.write(block, nodes), FURNISHED)
         self.refused('refused 11: result longer than the output lent', anowhetele.write, block, nodes, len(FURNISHED) - 1)
         self.refused('refused 12: parts do not fit', anowhetele.write, block, nodes._replace(param1=b''))
+
+    def test_param0_is_numbers(self):
+        block, nodes = anowhetele.read(crowded(24, range(4096), short_names()))
+        self.assertEqual(list(nodes.param0), list(range(4096)))
+        written = anowhetele.write(block, nodes)
+        for param0 in (list(nodes.param0), array('L', nodes.param0), memoryview(nodes.param0), range(4096)):
+            self.assertEqual(anowhetele.write(block, nodes._replace(param0=param0)), written)
+        for param0 in (nodes.param0.tobytes(), bytearray(8192), bytes(4096), 'a' * 4096, 4096 * [0.5], None):
+            with self.assertRaises(TypeError):
+                anowhetele.write(block, nodes._replace(param0=param0))
+        with self.assertRaises(OverflowError):
+            anowhetele.write(block, nodes._replace(param0=4096 * [65536]))
+        for param0 in ([], range(4095), memoryview(bytes(8192))):
+            self.refused('refused 12: parts do not fit', anowhetele.write, block, nodes._replace(param0=param0))
 
     def test_rows(self):
         block = anowhetele.sections(FURNISHED)
@@ -115,6 +212,195 @@ class Tallies(Case):
         self.assertEqual(len(tally), 2)
         self.refused('refused 14: a count above 2^64-1, or more than 2^32-1 rows', tally.add, b'air', 1)
         self.refused('refused 13: tally malformed', Tally, b'TLY')
+
+    def test_counts_by_name(self):
+        tally = Tally.EMPTY.add(b'default:stone', 3).add(b'', 2**64 - 1)
+        for name in (b'default:stone', bytearray(b'default:stone'), memoryview(b'default:stone')):
+            self.assertTrue(name in tally)
+            self.assertEqual((tally[name], tally.get(name), tally.get(name, None)), (3, 3, 3))
+        self.assertEqual((b'' in tally, tally[b'']), (True, 2**64 - 1))
+        self.assertFalse(b'default:ston' in tally)
+        self.assertEqual((tally.get(b'air'), tally.get(b'air', None), b'' in Tally.EMPTY), (0, None, False))
+        self.assertEqual(dict(tally), {b'': 2**64 - 1, b'default:stone': 3})
+        with self.assertRaises(KeyError):
+            tally[b'air']
+        for name in ('default:stone', 0, None, Row(b'default:stone', 3)):
+            for question in (lambda: name in tally, lambda: tally[name], lambda: tally.get(name)):
+                with self.assertRaises(TypeError):
+                    question()
+
+    def test_a_tally_is_a_value(self):
+        given = bytearray(AIR)
+        tally = Tally(given)
+        given[-1] = 7
+        self.assertEqual((tally.bytes, tally[b'air'], hash(tally)), (AIR, 4096, hash(Tally(AIR))))
+        for again in (copy.copy(tally), copy.deepcopy(tally), pickle.loads(pickle.dumps(tally))):
+            self.assertEqual((again, again[b'air']), (tally, 4096))
+        with self.assertRaises(AttributeError):
+            tally.bytes = b''
+        self.assertNotEqual(tally, AIR)
+        self.assertEqual(tally, mock.ANY)
+
+
+class Rooms(Case):
+    """Without a room every result is taken; with one that is a byte too short none."""
+
+    def told(self, call, *arguments):
+        """The result without a room, which is also that of the room it needs."""
+        result = call(*arguments)
+        length = len(result.bytes)
+        self.assertEqual(call(*arguments, room=length), result)
+        with self.assertRaises(Refused) as caught:
+            call(*arguments, room=length - 1)
+        self.assertEqual(caught.exception.refusal, Refusal.NO_ROOM)
+        return result
+
+    def test_the_longest_tallies(self):
+        for version, ids in ((22, OLD_IDS), (23, OLD_IDS), (24, range(4096))):
+            self.assertEqual(len(self.told(anowhetele.tally_block, 0, crowded(version, ids, short_names()))), len(ids))
+        names = short_names()
+        records = [(key, crowded(24, range(4096), names)) for key in range(5)]
+        self.assertEqual(len(self.told(anowhetele.tally_sheet, sheet(*records))), 5 * 4096)
+
+    def test_the_shortest_results(self):
+        self.assertEqual(self.told(anowhetele.tally_sheet, sheet()), Tally.EMPTY)
+        self.assertEqual(self.told(Tally.EMPTY.merge, Tally.EMPTY), Tally.EMPTY)
+        self.assertEqual(self.told(Tally.EMPTY.add, b'air', 0), Tally.EMPTY)
+        self.assertEqual(self.told(Tally(AIR).add, b'air', 1)[b'air'], 4097)
+        self.assertEqual(self.told(Tally(AIR).add, bytes(65535), 1)[bytes(65535)], 1)
+        self.assertEqual(len(self.told(Tally(AIR).merge, Tally.EMPTY.add(b'', 1))), 2)
+
+    def test_other_refusals_come_first(self):
+        self.refused('refused 1 at offset 0: bytes end inside a field, or an inventory has no end line', anowhetele.tally_block, 0, b'', room=0)
+        self.refused('refused 15 at record 0: sheet mark, version, framing, or keys not rising', anowhetele.tally_sheet, b'')
+        self.refused('refused 12: parts do not fit', Tally.EMPTY.add, bytes(65536), 1)
+        self.refused('refused 12: parts do not fit', Tally.EMPTY.add, bytes(65536), 1, room=0)
+        for room in (-1, 2**64):
+            with self.assertRaises(OverflowError):
+                anowhetele.tally_block(0, air(), room=room)
+
+
+class Odd(bytes):
+    """Bytes that do not tell their length."""
+
+    def __len__(self):
+        return 1 << 40
+
+
+class Buffers(Case):
+    """What is bytes-like is lent as it stands, and given back."""
+
+    def each(self, data):
+        """The same bytes in other objects."""
+        wide = bytearray(2 * len(data))
+        wide[::2] = data
+        yield from (data, bytearray(data), memoryview(data), memoryview(bytearray(data)), memoryview(b'x' + data + b'y')[1:-1], memoryview(wide)[::2],
+                    array('B', data), Odd(data))
+
+    def test_all_say_the_same(self):
+        good, furnished = sheet((-1, air())), anowhetele.sections(FURNISHED)
+        for data in self.each(FURNISHED):
+            self.assertEqual(anowhetele.sections(data), furnished)
+            self.assertEqual(anowhetele.read(data), anowhetele.read(FURNISHED))
+            self.assertEqual(anowhetele.node_name(data, 0), b'air')
+            self.assertEqual(anowhetele.tally_block(-1, data), Tally(AIR))
+        for data in self.each(good):
+            self.assertEqual(anowhetele.tally_sheet(data), Tally(AIR))
+        for data in self.each(2 * furnished.timers):
+            self.assertEqual(anowhetele.timer_row(data), (TimerRow(9, 1000, -2), furnished.timers))
+            self.assertEqual(list(anowhetele.timer_rows(data)), 2 * [TimerRow(9, 1000, -2)])
+        for data in self.each(AIR):
+            self.assertEqual(Tally(data), Tally(AIR))
+        block, nodes = anowhetele.read(FURNISHED)
+        for parts in zip(*map(self.each, block[1:])):
+            self.assertEqual(anowhetele.write(block._make((block.head, *parts)), nodes), FURNISHED)
+        for param1, param2 in zip(self.each(nodes.param1), self.each(nodes.param2)):
+            self.assertEqual(anowhetele.write(block, nodes._replace(param1=param1, param2=param2)), FURNISHED)
+
+    def test_parts_are_bytes_of_their_own(self):
+        data = bytearray(FURNISHED)
+        block, nodes = anowhetele.read(data)
+        name, front = anowhetele.node_name(data, 0), anowhetele.name_row(memoryview(data)[11:19])
+        data[:] = bytes(len(data))
+        self.assertEqual((block, nodes), anowhetele.read(FURNISHED))
+        self.assertEqual((name, front), (b'air', (NameRow(0, b'air'), b'\2')))
+
+    def test_nothing_is_copied(self):
+        good = sheet(*((key, air()) for key in range(100)))
+        for data in (good, bytearray(good), memoryview(good), array('B', good)):
+            self.assertLess(self.taken(anowhetele.tally_sheet, data, room=64), 4096)
+        tally = Tally(AIR)
+        for call, given in ((tally.merge, (tally,)), (tally.add, (b'air', 1))):
+            self.assertLess(self.taken(call, *given), 4096)
+
+    def taken(self, call, *arguments, **named):
+        """The most memory that Python has for a call, in bytes."""
+        call(*arguments, **named)
+        tracemalloc.start()
+        call(*arguments, **named)
+        _, peak = tracemalloc.get_traced_memory()
+        tracemalloc.stop()
+        return peak
+
+    def test_threads_may_share_one(self):
+        data = bytearray(sheet(*((key, air()) for key in range(100))))
+        with ThreadPoolExecutor(4) as threads:
+            tallies = list(threads.map(anowhetele.tally_sheet, 40 * [data]))
+        self.assertEqual({tally[b'air'] for tally in tallies}, {100 * 4096})
+        data.append(0)
+
+    def test_a_mapped_file(self):
+        with tempfile.TemporaryFile() as file:
+            file.write(sheet((-1, air())))
+            file.flush()
+            mapped = mmap.mmap(file.fileno(), 0, access=mmap.ACCESS_READ)
+        self.assertEqual(anowhetele.tally_sheet(mapped), Tally(AIR))
+        self.refused('refused 2 at offset 0: version outside 22..29', anowhetele.sections, mapped)
+        self.refused('refused 13: tally malformed', Tally, mapped)
+        mapped.close()
+        with self.assertRaises(ValueError):
+            anowhetele.tally_sheet(mapped)
+
+    def test_they_are_given_back(self):
+        good, bad = bytearray(sheet((-1, air()))), bytearray(FURNISHED)
+        bad[0] = 30
+        kept = []
+        anowhetele.tally_sheet(good)
+        for call in (anowhetele.tally_sheet, anowhetele.sections, anowhetele.read, lambda data: anowhetele.tally_block(-1, data), Tally,
+                     lambda data: anowhetele.node_name(data, 0), anowhetele.timer_row, lambda data: anowhetele.metadata_row(30, data)):
+            with self.assertRaises(Refused) as caught:
+                call(bad)
+            # an exception keeps the call's variables alive
+            kept.append(caught.exception)
+        block, nodes = anowhetele.read(FURNISHED)
+        for parts in (block._replace(timers=bad), block._replace(timers=bad, names=good, objects='')):
+            with self.assertRaises((Refused, TypeError)) as caught:
+                anowhetele.write(parts, nodes)
+            kept.append(caught.exception)
+        for data in (good, bad):
+            data.append(0)
+
+    def test_rows_give_back_at_their_end(self):
+        rows = bytearray(2 * TIMER)
+        list(anowhetele.timer_rows(rows))
+        rows.append(0)
+        with self.assertRaises(Refused) as caught:
+            list(anowhetele.timer_rows(rows))
+        self.assertEqual(caught.exception.offset, 0)
+        rows.append(0)
+        anowhetele.timer_rows(rows)
+        started = anowhetele.timer_rows(rows)
+        next(started)
+        with self.assertRaises(BufferError):
+            rows.append(0)
+        started.close()
+        rows.append(0)
+
+    def test_what_is_no_bytes(self):
+        for call in (anowhetele.tally_sheet, anowhetele.sections, anowhetele.name_row, anowhetele.name_rows, Tally):
+            for data in ('air', 5, None, [1, 2]):
+                with self.assertRaises(TypeError):
+                    call(data)
 
 
 if __name__ == '__main__':

@@ -1,4 +1,5 @@
 /* Tallies a sheet file: tally_sheet FILE [x0 y0 z0 x1 y1 z1 [from until]]. Without a lot it is the whole world, without a span all time.
+ * It ends with 1 for a sheet that is refused, and with 2 where its words, its input or its output fail.
  * From the repository's root, after `rt staticlib anowhetele`:
  *     gcc -Wall -Wextra -O2 -I include examples/c/tally_sheet.c target/staticlib/libanowhetele.a -o target/tally_sheet */
 #include <inttypes.h>
@@ -83,6 +84,14 @@ static void print_rows(const uint8_t *tally, size_t length)
     }
 }
 
+/* Standard output keeps the mark of a write that failed, and closing it writes what is left. */
+static void close_output(void)
+{
+    int failed = ferror(stdout);
+    if (fclose(stdout) || failed)
+        fail("cannot write to", "standard output");
+}
+
 static void print_refusal(anow_answer answer)
 {
     fprintf(stderr, "refused %" PRIu32, answer.number);
@@ -110,5 +119,6 @@ int main(int argc, char **argv)
         return 1;
     }
     print_rows(out, (size_t)answer.length);
+    close_output();
     return 0;
 }

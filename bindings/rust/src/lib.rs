@@ -14,6 +14,8 @@
 //! assert_eq!(refused.to_string(), "refused 15 at record 0: sheet mark, version, framing, or keys not rising");
 //! # Ok::<(), anowhetele::Refused>(())
 //! ```
+//!
+//! A function may be called from any thread that has 1 MB of stack.
 mod block;
 mod position;
 pub mod raw;
