@@ -1,5 +1,5 @@
 -- Parts of which each node of the whole lies in exactly one: their tallies sum up to the whole's, and the cut law follows.
-use Prim.Native.Nat.{ℕ, _+_}
+use Prim.Native.Nat.{ℕ, suc, _+_}
 use mathlib.Core.Path.{_≡_, refl, sym, ap, subst, _∙_}
 use mathlib.Core.Bool.{Bool, true, false, cond}
 use mathlib.Core.List.{List, [], _∷_, _++_}
@@ -13,7 +13,7 @@ use Rattle.tally.specs.Tally.{tally}
 use Rattle.tally.specs.Theorems.{merged, Merges, AllTallies, sumOf, Fits}
 use Rattle.tally.proofs.Canon.{count-plus, canonical-plus, determined, plus-unit}
 use Rattle.tally.proofs.Fitting.{fits-left, fits-right}
-use Rattle.tally.proofs.MergeLaw.{merge-law, empty-changes-nothing}
+use Rattle.tally.proofs.MergeLaw.{merge-law, leaves-one, empty-changes-nothing}
 use Rattle.meter.specs.Standing.{Part, goodPart, Placed, Node, inPart, those, standing, nodesIn}
 use Rattle.meter.specs.Counting.{Measure, MeasureRows, amountOf}
 use Rattle.meter.specs.Cuts.{Cuts, uncut, cut, lower, upper, shares, allGood, Partition}
@@ -226,12 +226,20 @@ module _ (m : Measure) where
           last (u ∷ []) e f = ap (λ (z : List ℕ). z ∷ []) (f u refl)
           last (u ∷ w ∷ left) e f = absurd (omega arith)
 
+      whole-left : (t a c : List ℕ) (more : List (List ℕ)) → Gives (tallied m) room x whole out t → AllGive m (tallied m) room x (p ∷ ps) outs (a ∷ c ∷ more)
+          → Merges (merged (m .kind)) room (a ∷ c ∷ more) (suc (length more)) [] (t ∷ [])
+      whole-left t a c more g k =
+          let u = leaves-one (merged (m .kind)) room out (g .size) a (c ∷ more) (λ made log left r. all-merges t a c more made log left g k r .none-refused) in
+          let same : u .0 ≡ t = all-merges t a c more (suc (length more)) [] (u .0 ∷ []) g k (u .1) .one-left (u .0) refl in
+          subst (λ (y : List ℕ). Merges (merged (m .kind)) room (a ∷ c ∷ more) (suc (length more)) [] (y ∷ [])) same (u .1)
+
   pub partition-law : PartitionLaw m (tallied m) (merged (m .kind))
   partition-law room x whole p ps out outs b h size o = record {
     exactly = (parts-tallied room x b whole p ps out outs h o, whole-tallied room x b whole p ps out outs h size);
     counts = λ q u t g. exact m .counts room x q u t b g;
     one-part = only-part room x b whole p ps out outs h;
     merges = all-merges room x b whole p ps out outs h;
+    leaves-one = whole-left room x b whole p ps out outs h;
   }
 
   -- ---- a list of cuts leaves at least one part

@@ -180,6 +180,9 @@ module _ (m : Measure) where
     pub merges : (t a b : List ℕ) (more : List (List ℕ)) (made : ℕ) (log : List ℕ) (left : List (List ℕ))
         → Gives f room x whole out t → AllGive f room x parts outs (a ∷ b ∷ more) → Merges g room (a ∷ b ∷ more) made log left
         → GivesWhole t (a ∷ b ∷ more) made log left
+    -- and some list of merges leaves one
+    pub leaves-one : (t a b : List ℕ) (more : List (List ℕ)) → Gives f room x whole out t → AllGive f room x parts outs (a ∷ b ∷ more)
+        → Merges g room (a ∷ b ∷ more) (suc (length more)) [] (t ∷ [])
 
   -- for every block or sheet and every list of cuts, whatever the outputs held
   abbrev pub EveryCut : Tallier → Merger → Type 0

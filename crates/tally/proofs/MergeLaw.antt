@@ -195,6 +195,24 @@ merge-law k room a b more made log left h m =
     two : (t : List ℕ) → a ∷ b ∷ more ≡ t ∷ [] → ⊥
     two t e = let z : _≡_ {A = ℕ} 0 1 = cc in omega arith
 
+-- ---- where no list of merges has a refusal, merging the first two again and again leaves one
+module _ (m : Merger) (room : ℕ) (out : List ℕ) (size : length out ≡ room) where
+  abbrev NoneRefused : List (List ℕ) → Type 0
+  NoneRefused ts = (made : ℕ) (log : List ℕ) (left : List (List ℕ)) → Merges m room ts made log left → log ≡ []
+
+  pub leaves-one : (a : List ℕ) (more : List (List ℕ)) → NoneRefused (a ∷ more) → (u : List ℕ) × Merges m room (a ∷ more) (length more) [] (u ∷ [])
+  leaves-one a [] h = (a, stop)
+  leaves-one a (b ∷ more) h = go (m a b out .0) refl (λ t. leaves-one t more)
+    where
+      go : (r : Answer ℕ) → m a b out .0 ≡ r → ((t : List ℕ) → NoneRefused (t ∷ more) → (u : List ℕ) × Merges m room (t ∷ more) (length more) [] (u ∷ []))
+          → (u : List ℕ) × Merges m room (a ∷ b ∷ more) (suc (length more)) [] (u ∷ [])
+      go (good n) e on =
+          let x = on (take n (m a b out .1)) (λ made log left l. h (suc made) log left (done here here size e l)) in
+          (x .0, done here here size e (x .1))
+      go (refusal n r o) e on =
+          let none = h 0 (n ∷ []) (a ∷ b ∷ more) (refused here here size e stop) in
+          let z : _≡_ {A = ℕ} 0 1 = cc in absurd (omega arith)
+
 -- ---- the empty tally
 no-rows : (k : Kind) → rowsOf k (emptyTally k) ≡ some []
 no-rows k = rows-of-tally k [] tt refl
