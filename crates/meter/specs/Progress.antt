@@ -3,7 +3,7 @@ use Prim.Native.Nat.{ℕ, _*_, _≤_, _<_}
 use mathlib.Core.Path.{_≡_}
 use mathlib.Core.List.{List}
 use lib.ListN.{length}
-use Rattle.wire.specs.Answer.{Answer, good, refusal, plain, badPart, partsMisfit, sheetMalformed, noRoom, tooMany, Answered}
+use Rattle.wire.specs.Answer.{Answer, good, refusal, plain, badPart, partsMisfit, sheetMalformed, noRoom, tooMany}
 use Rattle.names.specs.Used.{heavy}
 use Rattle.running.specs.Running.{Runs, none}
 use Rattle.meter.specs.Counting.{byOne}
@@ -54,17 +54,16 @@ abbrev pub toldStep : StepAnswer → Answer Progress
 toldStep (steps.Taken p) = good p
 toldStep (steps.Refused f i) = faulty f i
 
--- a record that is taken lies within the bytes that it is taken from
-abbrev pub TakenInside : List ℕ → TakeAnswer → Type 0
-TakenInside s (takes.Taken p n) = n ≤ length s
-TakenInside s (takes.Misframed i) = Unit {0}
-TakenInside s (takes.Refused f i) = Unit {0}
-
 -- with where the record ends
 abbrev pub toldTake : TakeAnswer → Answer (Progress × ℕ)
 toldTake (takes.Taken p n) = good (p, n)
 toldTake (takes.Misframed i) = refusal sheetMalformed i 0
 toldTake (takes.Refused f i) = faulty f i
+
+-- a record that is taken lies within the bytes that it is taken from
+abbrev pub TakenInside : List ℕ → Answer (Progress × ℕ) → Type 0
+TakenInside s (good x) = x .1 ≤ length s
+TakenInside s (refusal n r o) = Unit {0}
 
 abbrev pub toldFinish : FinishAnswer → Answer ℕ
 toldFinish (finishes.Tallied n) = good n
@@ -75,6 +74,3 @@ toldFinish (finishes.TooMany i) = refusal tooMany i 0
 abbrev pub Untouched : {A : Type 0} → Answer A → List ℕ → List ℕ → Type 0
 Untouched (good a) before after = Unit {0}
 Untouched (refusal n r o) before after = after ≡ before
-
-abbrev pub FinishTold : List ℕ → List ℕ → FinishAnswer → Answer (List ℕ) → Type 0
-FinishTold before after r a = Answered (toldFinish r) before after a
