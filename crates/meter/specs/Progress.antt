@@ -37,18 +37,18 @@ CarriesTo t p w = Carries t (p .0) (w .0) × (p .1 ≡ w .1)
 abbrev pub begun : Progress
 begun = record { last = lasts.Nothing; records = 0; tally = none }
 
--- ---- what the answers say
-abbrev pub toldStart : StartAnswer → Answer Progress
-toldStart (starts.Started p) = good p
-toldStart starts.BadPart = plain badPart
-toldStart starts.Misfit = plain partsMisfit
-
 -- a step from a state that is carried, with clear tables, to a record whose number a u32 holds
 pub record Steps (ids counts t : List ℕ) (p : Progress) (w : State byOne) : Type 0 where
   pub ids-clear : ids ≡ clearTable
   pub counts-clear : counts ≡ clearTable
   pub carries : Carries t p w
   pub number : w .records < 4294967295
+
+-- ---- what the answers say
+abbrev pub toldStart : StartAnswer → Answer Progress
+toldStart (starts.Started p) = good p
+toldStart starts.BadPart = plain badPart
+toldStart starts.Misfit = plain partsMisfit
 
 abbrev pub toldStep : StepAnswer → Answer Progress
 toldStep (steps.Taken p) = good p
