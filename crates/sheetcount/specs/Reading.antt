@@ -10,11 +10,12 @@ use Rattle.meter.specs.Streaming.{State, noRecords}
 use Rattle.meter.specs.Records.{clearTable}
 use Rattle.meter.specs.Progress.{Carries}
 use Rattle.meter.specs.SheetTold.{toldSheet}
-use Rattle.meter.specs.Program.{mostBlock, mostTally, countedFrom, sheetcountOf, Refuses}
+use Rattle.meter.specs.Program.{mostBlock, mostTally, countedFrom, sheetcountOf, nextFaulty}
 use Rattle.meter.specs.declared.sheet.SheetAnswer.{SheetAnswer}
 use Rattle.meter.specs.declared.stream.Progress.{Progress}
 use Rattle.meter.specs.declared.program.Next.{Next}
 use Rattle.meter.specs.declared.program.Next.the-variants as nexts
+use Rattle.meter.specs.declared.program.NextFault.{NextFault}
 
 -- the longest record: twelve bytes and its block
 abbrev pub longest : ℕ
@@ -37,14 +38,14 @@ pub record Reached (count left : ℕ) (t : List ℕ) (q : Progress) : Type 0 whe
   pub same : (rest : List ℕ) → countedFrom count (noRecords byOne) (s ++ rest) ≡ countedFrom left v rest
 
 -- one is refused, in the bytes s
-pub record Stopped (count : ℕ) (r : SheetAnswer) : Type 0 where
+pub record Stopped (count : ℕ) (f : NextFault) : Type 0 where
   pub s : List ℕ
   pub bytes : Bytes s
-  pub refuses : Refuses r (countedFrom count (noRecords byOne) s)
+  pub refuses : countedFrom count (noRecords byOne) s ≡ nextFaulty f
 
 abbrev pub AllTold : ℕ → List ℕ → Next → Type 0
 AllTold count t (nexts.On q) = Reached count 0 t q
-AllTold count t (nexts.Stop r) = Stopped count r
+AllTold count t (nexts.Stop f) = Stopped count f
 
 -- ---- the whole
 -- the buffers that are lent, with clear tables

@@ -9,6 +9,7 @@ use meter::program::MOST_TALLY;
 use meter::program::Next;
 use meter::program::block_length;
 use meter::program::end_sheet;
+use meter::program::stopped;
 use meter::program::take_next;
 use meter::records::BLOCK_AT;
 use meter::sheet::SheetAnswer;
@@ -64,8 +65,8 @@ fn take_all(
     while 0 < left {
         let n = read_record(bytes);
         match take_next(now, &bytes[..n], spare, ids, counts, places, scratch) {
-            Next::Stop(a) => {
-                return Next::Stop(a);
+            Next::Stop(f) => {
+                return Next::Stop(f);
             }
             Next::On(next) => {
                 now = next;
@@ -95,7 +96,7 @@ fn read_sheet(
         return SheetAnswer::Malformed(0);
     };
     match take_all(count, p, bytes, spare, ids, counts, places, scratch) {
-        Next::Stop(a) => a,
+        Next::Stop(f) => stopped(f),
         Next::On(q) => {
             let more = io::read_full(STDIN_FILENO, &mut bytes[..1]);
             end_sheet(q, &bytes[..more], spare, out)

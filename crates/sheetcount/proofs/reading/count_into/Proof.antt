@@ -1,30 +1,14 @@
 use borrow.Author.Needs.{needs}
-use mathlib.Core.Path.{subst}
-use mathlib.Core.List.{List, []}
-use Prim.Native.Nat.{ℕ}
 use denote.Ref.{now}
-use lib.ListN.{length}
-use Rattle.meter.specs.Adding.{part}
-use Rattle.meter.specs.Counting.{byOne}
-use Rattle.meter.specs.Streaming.{startOf}
-use Rattle.meter.specs.Progress.{StartTold}
-use Rattle.meter.specs.declared.stream.StartAnswer.{StartAnswer}
+use Rattle.wire.proofs.Steps.{told-as}
+use Rattle.meter.specs.Progress.{toldStart}
 use Rattle.sheetcount.proofs.Whole.{never-bad, started}
 use Rattle.sheetcount.proofs.reading.count_into.Statement.{statement}
 use Rattle.sheetcount.proofs.reading.count_into.Tie as tie
 
 -- where the function starts, and what starting told
 abbrev begun : tie.After-start → tie.Start
-begun x = x .before .before .before .before .before .before
-
-abbrev Told : tie.After-start → List ℕ → StartAnswer → Type 0
-Told x t a = StartTold t a (startOf byOne (part (x .before .before .whole-world .result) (x .before .all-time .result)) (length (now (begun x .args .out))) (length (now (begun x .args .spare))))
-
-whole-world-requires : tie.Need-whole-world-requires
-whole-world-requires c κs = search needs
-
-all-time-requires : tie.Need-all-time-requires
-all-time-requires c κs = search needs
+begun x = x .before .before .before .before
 
 start-requires : tie.Need-start-requires
 start-requires c κs = search needs
@@ -43,19 +27,19 @@ read-sheet-requires c κs =
     let x = c .before .before .before .before .before .before .before .before .before .before in
     let s = begun x in
     let t = now (s .args .spare) in
-    (s .pre, started _ _ (x .before .before .whole-world .ensures) (x .before .all-time .ensures) _ _ (s .pre .out-long) (s .pre .spare-long) t _ (subst (Told x t) (c .before .before .before .before .before .before .before .before .p .given .1) (x .start .ensures t)))
+    (s .pre, started _ _ (s .pre .out-long) (s .pre .spare-long) t _ (told-as toldStart (x .start .ensures) (c .before .before .before .before .before .before .before .before .p .given .1)))
 
 returns : tie.Need-returns
 returns c =
     let x = c .before .before in
     let s = begun x in
-    never-bad _ _ (x .before .before .whole-world .ensures) (x .before .all-time .ensures) _ _ (s .pre .out-long) (s .pre .spare-long) (subst (Told x []) (c .enum-told .given .1) (x .start .ensures []))
+    never-bad _ _ (s .pre .out-long) (s .pre .spare-long) (told-as toldStart (x .start .ensures) (c .enum-told .given .1))
 
 returns-2 : tie.Need-returns-2
 returns-2 c =
     let x = c .before .before in
     let s = begun x in
-    never-bad _ _ (x .before .before .whole-world .ensures) (x .before .all-time .ensures) _ _ (s .pre .out-long) (s .pre .spare-long) (subst (Told x []) (c .enum-told2 .given .1) (x .start .ensures []))
+    never-bad _ _ (s .pre .out-long) (s .pre .spare-long) (told-as toldStart (x .start .ensures) (c .enum-told2 .given .1))
 
 same-length : tie.Need-same-length
 same-length c = search needs
@@ -73,8 +57,6 @@ pub count-into-spec : {M : Type 1} → statement M
 count-into-spec =
     tie.close
     (tie.spec
-    whole-world-requires
-    all-time-requires
     start-requires
     enum-told
     enum-told-2

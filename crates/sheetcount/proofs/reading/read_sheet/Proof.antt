@@ -7,8 +7,8 @@ use lib.ListN.{length, take, drop, length-append}
 use lib.Seq.{length-take-le}
 use denote.Ref.{now}
 use Rattle.wire.specs.Bytes.{bytes-take}
-use Rattle.wire.specs.Told.{HeadTold}
-use Rattle.meter.specs.Sheet.{misframed, sheetMark}
+use Rattle.wire.specs.Told.{toldHead}
+use Rattle.wire.proofs.Steps.{told-as}
 use Rattle.sheetcount.specs.Reading.{longest, AllTold}
 use Rattle.sheetcount.proofs.Whole.{counted-headless, counted-stopped, counted-ended}
 use Rattle.sheetcount.proofs.reading.read_sheet.Statement.{statement}
@@ -77,7 +77,7 @@ returns : tie.Need-returns
 returns c =
     let x = c .before .before in
     let s = take (size x) (filled x) in
-    counted-headless s (now (begun x .args .out)) (bytes-take (size x) (filled x) (λ j. x .before .before .slice-known4 .given j .fits)) (subst (HeadTold misframed sheetMark s) (c .enum-told .given .1) (x .sheet-head .ensures))
+    counted-headless s (now (begun x .args .out)) (bytes-take (size x) (filled x) (λ j. x .before .before .slice-known4 .given j .fits)) (told-as toldHead (x .sheet-head .ensures) (c .enum-told .given .1))
 
 take-all-requires : tie.Need-take-all-requires
 take-all-requires c κs =
@@ -85,8 +85,11 @@ take-all-requires c κs =
     let s = begun x in
     (x .before .before .before .bytes .given .1 ∙ s .pre .0 .bytes-long, record { carries = s .pre .1; ids-clear = s .pre .0 .ids-clear; counts-clear = s .pre .0 .counts-clear })
 
-enum-known-a : tie.Need-enum-known-a
-enum-known-a c = search needs
+enum-known-f : tie.Need-enum-known-f
+enum-known-f c = search needs
+
+stopped-requires : tie.Need-stopped-requires
+stopped-requires c κs = search needs
 
 enum-known-q : tie.Need-enum-known-q
 enum-known-q c = search needs
@@ -117,8 +120,8 @@ same-length-3 c = search needs
 
 returns-2 : tie.Need-returns-2
 returns-2 c =
-    let y = c .before .before .before .before .before .before .before in
-    counted-stopped (count y) (fits y) (now (begun (headed y) .args .out)) _ (subst (AllTold (count y) (y .take-all .last .1 .1 .1 .0)) (c .before .a .given .1) (y .take-all .ensures .1))
+    let y = c .before .before .before .before .before .before .before .before in
+    counted-stopped (count y) (fits y) (now (begun (headed y) .args .out)) _ (c .stopped .result) (c .stopped .ensures) (subst (AllTold (count y) (y .take-all .last .1 .1 .1 .0)) (c .before .before .f .given .1) (y .take-all .ensures .1))
 
 same-length-4 : tie.Need-same-length-4
 same-length-4 c =
@@ -157,7 +160,8 @@ read-sheet-spec =
     same-length
     returns
     take-all-requires
-    enum-known-a
+    enum-known-f
+    stopped-requires
     enum-known-q
     slice-relend-prefix-read-full-2
     slice-aggregate-read-full-2

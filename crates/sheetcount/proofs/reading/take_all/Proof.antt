@@ -55,8 +55,8 @@ slice-aggregate-take-next c = sym (length-take-le _ _ (slice-reshare-prefix-take
 take-next-requires : tie.Need-take-next-requires Inv-loop μ-loop
 take-next-requires c κs = search needs
 
-enum-known-a : tie.Need-enum-known-a Inv-loop μ-loop
-enum-known-a c = search needs
+enum-known-f : tie.Need-enum-known-f Inv-loop μ-loop
+enum-known-f c = search needs
 
 same-length : tie.Need-same-length Inv-loop μ-loop
 same-length c = search needs
@@ -68,7 +68,7 @@ returns : tie.Need-returns Inv-loop μ-loop
 returns c =
     let x = c .before .before .before .before .before in
     let l = turned x in
-    (x .take-next .ensures .0 ∙ l .loop .inv .0 .size, going-stop (l .loop .inv .0) (l .before .before .before .fits .count .fits) (filled x .before .before .before .before .loop-test .taken) (take (size x) (bytes x)) (spare x) (ids x) (counts x) (bytes-take (size x) (bytes x) (λ j. filled x .slice-known3 .given j .fits)) (x .take-next .result) (x .take-next .ensures .1 .1) (c .before .a .given .1))
+    (x .take-next .ensures .0 ∙ l .loop .inv .0 .size, going-stop (l .loop .inv .0) (l .before .before .before .fits .count .fits) (filled x .before .before .before .before .loop-test .taken) (take (size x) (bytes x)) (spare x) (ids x) (counts x) (bytes-take (size x) (bytes x) (λ j. filled x .slice-known3 .given j .fits)) (x .take-next .result) (x .take-next .ensures .1 .1) (c .before .f .given .1))
 
 enum-known-next : tie.Need-enum-known-next Inv-loop μ-loop
 enum-known-next c = search needs
@@ -106,7 +106,7 @@ take-all-spec =
     slice-reshare-prefix-take-next
     slice-aggregate-take-next
     take-next-requires
-    enum-known-a
+    enum-known-f
     same-length
     same-length-2
     returns
