@@ -26,7 +26,7 @@ use Rattle.meter.specs.Tallying.{placed, placedAt}
 use Rattle.meter.proofs.Amounts.{AllNamed, named-append, named-those, tally-canonical}
 
 -- ---- a block that is taken is well formed, and its bytes are the block's
-block-by : (x : Read Fault Block) (b : Block) → blockAnswer x ≡ good b → (n : ℕ) × (x ≡ done b n)
+pub block-by : (x : Read Fault Block) (b : Block) → blockAnswer x ≡ good b → (n : ℕ) × (x ≡ done b n)
 block-by (done c n) b h = let e : c ≡ b = cc in (n, rw e)
 block-by (refused f p) b h = no-good h
 

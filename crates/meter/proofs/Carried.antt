@@ -1,14 +1,15 @@
 -- A sheet between its records: what start, a step and finish make of the state.
 use Prim.Native.Nat.{ℕ, zero-le, _+_, _-_, _%_, _≤_, _<_}
-use mathlib.Core.Path.{_≡_, refl, sym, ap, subst, _∙_}
-use mathlib.Core.Bool.{true, false}
+use mathlib.Core.Path.{_≡_, refl, sym, ap, subst, subst⁻¹, _∙_}
+use mathlib.Core.Bool.{Bool, true, false, cond}
 use mathlib.Core.List.{List, [], _∷_, _++_}
 use mathlib.Core.Option.{Option, some}
 use native.Mathlib.Omega.{arith}
+use lib.Dec.{leb}
 use lib.IntN.{ℤ}
 use lib.ListN.{length, take, drop}
 use borrow.Author.Tests.{le-leb, lt-leb}
-use Rattle.wire.specs.Answer.{Answer, good, refusal, plain, badPart, partsMisfit, noRoom, tooMany, Answered}
+use Rattle.wire.specs.Answer.{Answer, good, refusal, plain, badPart, partsMisfit, noRoom, tooMany, mapAnswer, Answered, Matches}
 use Rattle.wire.specs.Store.{stored, laid}
 use Rattle.wire.proofs.Laid.{stored-fits, laid-length}
 use Rattle.position.specs.declared.key.Coordinates.{Coordinates}
@@ -27,38 +28,49 @@ use Rattle.meter.specs.Counting.{rowOf, tallyOf, byOne}
 use Rattle.meter.specs.Tallying.{placed}
 use Rattle.meter.specs.Sheet.{judgeRecord}
 use Rattle.meter.specs.Streaming.{State, noRecords, startOf, taking, stepOf, finishOf}
-use Rattle.meter.specs.Records.{lastOf, recordOf, faultNumber, faultOffset, faulty, RecordTold}
+use Rattle.meter.specs.Records.{lastOf, recordOf, faultNumber, faultOffset, faulty, clearTable}
 use Rattle.meter.specs.Adding.{Adds, Added, withBlock}
-use Rattle.meter.specs.Progress.{Carries, StartTold, Steps, StepTold}
+use Rattle.meter.specs.Progress.{Carries, begun, Steps}
 use Rattle.meter.specs.declared.records.RecordFault.{RecordFault}
 use Rattle.meter.specs.declared.records.LastKey.the-variants as lasts
-use Rattle.meter.specs.declared.records.RecordAnswer.the-variants as records
 use Rattle.meter.specs.declared.stream.Progress.{Progress}
-use Rattle.meter.specs.declared.stream.StartAnswer.the-variants as starts
-use Rattle.meter.specs.declared.stream.StepAnswer.the-variants as steps
 use Rattle.meter.proofs.Amounts.{those-fewer, add-fewer, tally-fewer}
 use Rattle.meter.proofs.Blocks.{standing-number}
+use Rattle.meter.proofs.Judging.{KeptOf}
 use Rattle.meter.proofs.Streaming.{step-refused, step-good}
 use Rattle.meter.proofs.Putting.{sheet-short, sheet-many, sheet-all, tally-laid}
 
 -- ---- start
+-- every spare carries it
+pub begun-carried : (t : List ℕ) → Carries t begun (noRecords byOne)
+begun-carried t = record { last = refl; records = refl; runs = runs-empty t; light = zero-le; few = zero-le }
+
 module _ (p : Part) (room spare : ℕ) where
-  pub start-bad : goodPart p ≡ false → startOf byOne p room spare ≡ plain badPart
+  abbrev starting : Answer Progress
+  starting = mapAnswer (λ (_ : State byOne). begun) (startOf byOne p room spare)
+
+  pub start-bad : goodPart p ≡ false → plain badPart ≡ starting
   unfolding startOf
   start-bad h = rw h
 
   module _ (h : goodPart p ≡ true) where
-    pub start-misfit : spare < room → startOf byOne p room spare ≡ plain partsMisfit
+    pub start-misfit : spare < room → plain partsMisfit ≡ starting
     unfolding startOf
     start-misfit k = rw (h, lt-leb room spare k)
 
-    pub start-good : room ≤ spare → {u : Running} → u ≡ none → (t : List ℕ) → StartTold t (starts.Started (record { last = lasts.Nothing; records = 0; tally = u })) (startOf byOne p room spare)
+    pub start-good : room ≤ spare → {u : Running} → u ≡ none → good (record { last = lasts.Nothing; records = 0; tally = u }) ≡ starting
     unfolding startOf
-    start-good k e t = (
-      noRecords byOne,
-      rw (h, le-leb room spare k),
-      record { last = refl; records = refl; runs = subst (λ (v : Running). Runs t v []) (sym e) (runs-empty t); light = zero-le; few = zero-le },
-    )
+    start-good k e = rw (e, h, le-leb room spare k)
+
+  -- what start told, by what any spare carries
+  pub start-matches : (t : List ℕ) {a : Answer Progress} → a ≡ starting → Matches (Carries t) a (startOf byOne p room spare)
+  unfolding startOf
+  start-matches t e = subst⁻¹ (λ (a : Answer Progress). Matches (Carries t) a (startOf byOne p room spare)) e (go (goodPart p) (leb room spare))
+    where
+      go : (g b : Bool) → let x = cond g (cond b (good (noRecords byOne)) (plain partsMisfit)) (plain badPart) in Matches (Carries t) (mapAnswer (λ (_ : State byOne). begun) x) x
+      go true true = (noRecords byOne, refl, begun-carried t)
+      go true false = refl
+      go false b = refl
 
 -- ---- a step
 heavy-tally : (l : List Node) → heavy (tallyOf byOne l) ≡ length l
@@ -81,16 +93,16 @@ module _ {ids counts t : List ℕ} {q : Progress} {w : State byOne} (s : Steps i
   judged : {a : Answer Placed} → judgeRecord (lastOf (q .last)) (recordOf key block) ≡ a → judgeRecord (w .last) (recordOf key block) ≡ a
   judged h = ap (λ (l : Option ℤ). judgeRecord l (recordOf key block)) (sym (s .carries .last)) ∙ h
 
-  pub stepped-refused : (f : RecordFault) → RecordTold block (records.Refused f) (judgeRecord (lastOf (q .last)) (recordOf key block)) → stepOf byOne p w (recordOf key block) ≡ faulty f (q .records)
+  pub stepped-refused : (f : RecordFault) → judgeRecord (lastOf (q .last)) (recordOf key block) ≡ faulty f 0 → stepOf byOne p w (recordOf key block) ≡ faulty f (q .records)
   stepped-refused f h = step-refused byOne p w (recordOf key block) (judged h) ∙ ap (λ (i : ℕ). refusal (faultNumber f) i (faultOffset f)) (sym (s .carries .records))
 
-  module _ {at : Coordinates} {f : Found} (h : RecordTold block (records.Taken at f) (judgeRecord (lastOf (q .last)) (recordOf key block))) where
+  module _ {at : Coordinates} {f : Found} (h : Matches (KeptOf block) (good (at, f)) (judgeRecord (lastOf (q .last)) (recordOf key block))) where
     abbrev taken : Placed
     taken = h .0
 
     pub may-step : Adds block f counts t (q .tally) (taken .block) (w .rows)
     may-step = record {
-      found = h .3;
+      found = h .2 .1;
       clear = s .counts-clear;
       runs = s .carries .runs;
       light = omega (arith, s .carries .light, s .number);
@@ -99,19 +111,21 @@ module _ {ids counts t : List ℕ} {q : Progress} {w : State byOne} (s : Steps i
 
     pub stepped-taken : {counts′ t′ : List ℕ} {r : Running} {k : ℤ} {n : ℕ} → k ≡ key → n ≡ (q .records + 1) % 4294967296
         → Added counts′ t t′ r (w .rows) (withBlock p at (taken .block) (w .rows))
-        → StepTold counts′ t′ (steps.Taken (record { last = lasts.Key k; records = n; tally = r })) (stepOf byOne p w (recordOf key block))
+        → Matches (Carries t′) (good (record { last = lasts.Key k; records = n; tally = r })) (stepOf byOne p w (recordOf key block)) × (counts′ ≡ clearTable)
     stepped-taken {counts′} {t′} {r} {k} {n} e g a =
-        let same : withBlock p at (taken .block) (w .rows) ≡ plus ones (tallyOf byOne (nodesIn p (taken ∷ []))) (w .rows) = ap (λ (x : Placed). plus ones (tallyOf byOne (nodesIn p (x ∷ []))) (w .rows)) (sym (placed-same taken (h .2))) in
+        let same : withBlock p at (taken .block) (w .rows) ≡ plus ones (tallyOf byOne (nodesIn p (taken ∷ []))) (w .rows) = ap (λ (x : Placed). plus ones (tallyOf byOne (nodesIn p (x ∷ []))) (w .rows)) (sym (placed-same taken (h .2 .0))) in
         let nodes = block-nodes p taken in (
-          taking byOne p w key taken,
-          step-good byOne p w (recordOf key block) (judged (h .1)),
-          record {
-            last = ap some e;
-            records = omega (arith, g, s .carries .records, s .number);
-            runs = subst (Runs t′ r) same (a .absorbed .runs);
-            light = omega (arith, heavy-plus (tallyOf byOne (nodesIn p (taken ∷ []))) (w .rows), heavy-tally (nodesIn p (taken ∷ [])), s .carries .light);
-            few = omega (arith, plus-fewer (tallyOf byOne (nodesIn p (taken ∷ []))) (w .rows), tally-fewer byOne (nodesIn p (taken ∷ [])), s .carries .few);
-          },
+          (
+            taking byOne p w key taken,
+            step-good byOne p w (recordOf key block) (judged (h .1)),
+            record {
+              last = ap some e;
+              records = omega (arith, g, s .carries .records, s .number);
+              runs = subst (Runs t′ r) same (a .absorbed .runs);
+              light = omega (arith, heavy-plus (tallyOf byOne (nodesIn p (taken ∷ []))) (w .rows), heavy-tally (nodesIn p (taken ∷ [])), s .carries .light);
+              few = omega (arith, plus-fewer (tallyOf byOne (nodesIn p (taken ∷ []))) (w .rows), tally-fewer byOne (nodesIn p (taken ∷ [])), s .carries .few);
+            },
+          ),
           a .clear,
         )
 

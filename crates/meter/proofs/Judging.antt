@@ -1,45 +1,66 @@
 -- A record judged, as the code told it.
 use Prim.Native.Nat.{ℕ}
 use mathlib.Core.Path.{_≡_, refl, ap, sym, _∙_}
-use mathlib.Core.Bool.{true, false}
+use mathlib.Core.Bool.{Bool, true, false}
 use mathlib.Core.List.{List}
 use mathlib.Core.Option.{Option}
 use lib.IntN.{ℤ}
-use Rattle.wire.specs.Bytes.{Bytes}
-use Rattle.wire.specs.Read.{Read, done, refused, mapRead}
-use Rattle.wire.specs.Answer.{good, plain, outOfRange}
+use Rattle.wire.specs.Read.{done, refused, mapRead, map-done, map-refused}
+use Rattle.wire.specs.Answer.{Answer, good, refusal, plain, mapAnswer, Matches, matches-map, outOfRange, sheetMalformed}
 use Rattle.position.specs.Keys.{splitOf}
 use Rattle.position.specs.declared.key.Coordinates.{Coordinates}
 use Rattle.mapblock.specs.Layout.{all}
 use Rattle.mapblock.specs.Block.{verdict}
+use Rattle.mapblock.specs.Numbers.{number}
+use Rattle.mapblock.specs.Questions.{blockOf}
 use Rattle.mapblock.specs.Sections.{found}
 use Rattle.mapblock.specs.Table.{freeIn}
 use Rattle.mapblock.specs.declared.fault.Fault.{Fault}
 use Rattle.mapblock.specs.declared.scan.Found.{Found}
-use Rattle.mapblock.proofs.BlockAnswers.{clear-table, block-refused, taken-as}
-use Rattle.meter.specs.Sheet.{SheetRecord, rises, judgeRecord}
-use Rattle.meter.specs.Records.{clearTable, RecordTold, faulty}
-use Rattle.meter.specs.declared.records.RecordFault.the-variants as faults
-use Rattle.meter.specs.declared.records.RecordAnswer.the-variants as records
-use Rattle.meter.proofs.Steps.{judge-astray, judge-falling, judge-refused, judge-good}
+use Rattle.mapblock.proofs.BlockAnswers.{clear-all}
+use Rattle.meter.specs.Standing.{Placed}
+use Rattle.meter.specs.Sheet.{SheetRecord, rises, judgedIn, judgeRecord}
+use Rattle.meter.specs.Records.{clearTable, scanned, FoundAs}
+use Rattle.meter.proofs.Blocks.{block-by}
+use Rattle.meter.proofs.Steps.{judge-taken}
 
--- what the scan told by a clear table
-pub by-clear : (s t : List ℕ) → t ≡ clearTable → {r : Read Fault Found} → r ≡ mapRead found (verdict (freeIn t) s) → r ≡ mapRead found (verdict all s)
-unfolding clearTable
-by-clear s t e h = clear-table 65536 s (h ∙ ap (λ (l : List ℕ). mapRead found (verdict (freeIn l) s)) e)
+-- ---- as the code tells it
+module _ (free : ℕ → Bool) (last : Option ℤ) (r : SheetRecord) where
+  abbrev judged : Answer (Coordinates × Found)
+  judged = mapAnswer scanned (judgedIn free last r)
+
+  pub judged-astray : plain outOfRange ≡ splitOf (r .key) → plain outOfRange ≡ judged
+  unfolding judgedIn
+  judged-astray h = rw (sym h)
+
+  module _ {c : Coordinates} (h : good c ≡ splitOf (r .key)) where
+    pub judged-falling : rises last (r .key) ≡ false → plain sheetMalformed ≡ judged
+    unfolding judgedIn
+    judged-falling f = rw (sym h, f)
+
+    module _ (u : rises last (r .key) ≡ true) where
+      pub judged-refused : {f : Fault} {p : ℕ} → refused f p ≡ mapRead found (verdict free (r .block)) → refusal (number f) 0 p ≡ judged
+      unfolding judgedIn
+      judged-refused {f} {p} k = rw (sym h, u, map-refused found (verdict free (r .block)) f p (sym k))
+
+      pub judged-taken : {w : Found} {n : ℕ} → done w n ≡ mapRead found (verdict free (r .block)) → good (c, w) ≡ judged
+      unfolding judgedIn
+      judged-taken {w} {n} k = let x = map-done found (verdict free (r .block)) w n (sym k) in rw (sym h, u, x .1, x .2)
+
+-- ---- by a clear table
+-- what the code keeps of a block that stands in s
+abbrev pub KeptOf : List ℕ → Coordinates × Found → Placed → Type 0
+KeptOf s w x = (x .at ≡ w .0) × FoundAs s (w .1) (x .block)
 
 module _ (last : Option ℤ) (r : SheetRecord) where
-  pub judged-astray : plain outOfRange ≡ splitOf (r .key) → judgeRecord last r ≡ faulty faults.OutOfRange 0
-  judged-astray h = judge-astray last r (sym h)
+  -- the verdict is document 01's
+  pub clear-judged : (t : List ℕ) → t ≡ clearTable → judgedIn (freeIn t) last r ≡ judgeRecord last r
+  unfolding clearTable
+  clear-judged t e = ap (λ (free : ℕ → Bool). judgedIn free last r) (ap freeIn e ∙ clear-all 65536)
 
-  pub judged-falling : {c : Coordinates} → good c ≡ splitOf (r .key) → rises last (r .key) ≡ false → judgeRecord last r ≡ faulty faults.NotRising 0
-  judged-falling h f = judge-falling last r (sym h) f
+  kept : (x : Placed) → judgeRecord last r ≡ good x → KeptOf (r .block) (scanned x) x
+  unfolding blockOf
+  kept x h = let y = block-by (verdict all (r .block)) (x .block) (judge-taken last r x h .2) in (refl, record { end = y .0; taken = y .1; shows = refl })
 
-  module _ (t : List ℕ) (e : t ≡ clearTable) {c : Coordinates} (h : good c ≡ splitOf (r .key)) (u : rises last (r .key) ≡ true) where
-    pub judged-refused : {f : Fault} {p : ℕ} → refused f p ≡ mapRead found (verdict (freeIn t) (r .block)) → judgeRecord last r ≡ faulty (faults.Block f p) 0
-    judged-refused k = judge-refused last r (sym h) u (block-refused (r .block) (by-clear (r .block) t e k))
-
-    pub judged-taken : {w : Found} {n : ℕ} → Bytes (r .block) → done w n ≡ mapRead found (verdict (freeIn t) (r .block)) → RecordTold (r .block) (records.Taken c w) (judgeRecord last r)
-    judged-taken b k =
-        let x = taken-as (r .block) b (by-clear (r .block) t e k) in
-        (_, judge-good last r (sym h) u (x .answer), refl, record { end = x .n; taken = x .reads; shows = x .shows })
+  pub record-matches : (t : List ℕ) → t ≡ clearTable → {a : Answer (Coordinates × Found)} → a ≡ mapAnswer scanned (judgedIn (freeIn t) last r) → Matches (KeptOf (r .block)) a (judgeRecord last r)
+  record-matches t e h = matches-map (KeptOf (r .block)) scanned (judgeRecord last r) (h ∙ ap (mapAnswer scanned) (clear-judged t e)) kept

@@ -1,21 +1,16 @@
 -- A record that the program takes, and the end of its input, as the code told them.
-use Prim.Native.Nat.{ℕ, _≤_, _<_}
-use mathlib.Core.Path.{_≡_, refl, ap, ap₂, sym, subst, _∙_}
+use Prim.Native.Nat.{ℕ, suc, _≤_, _<_}
+use mathlib.Core.Path.{_≡_, refl, ap, sym, subst, _∙_}
 use mathlib.Core.List.{List}
 use native.Mathlib.Omega.{arith}
 use lib.ListN.{length}
-use Rattle.wire.specs.Answer.{Answer, good, refusal, sheetMalformed, Answered}
-use Rattle.position.specs.Lots.{world}
-use Rattle.position.specs.Spans.{allTime}
-use Rattle.position.specs.declared.lot.Lot.{Lot}
-use Rattle.position.specs.declared.span.Span.{Span}
-use Rattle.meter.specs.Standing.{Part}
-use Rattle.meter.specs.Adding.{part}
+use Rattle.wire.specs.Answer.{Answer, good, refusal, sheetMalformed, Answered, Matches}
 use Rattle.meter.specs.Counting.{byOne}
 use Rattle.meter.specs.Streaming.{State, takeOf, finishOf}
-use Rattle.meter.specs.Progress.{Carries, Steps, TakeTold, toldFinish, FinishTold}
+use Rattle.meter.specs.Records.{clearTable}
+use Rattle.meter.specs.Progress.{Carries, Steps, toldFinish, FinishTold}
 use Rattle.meter.specs.SheetTold.{toldSheet}
-use Rattle.meter.specs.Program.{everything, mostTally, blockLengthOf, countedFrom, NextTold}
+use Rattle.meter.specs.Program.{everything, mostTally, blockLengthOf, nextOf, countedFrom, nextFaulty, toldNext, CarriesFirst}
 use Rattle.meter.specs.declared.records.RecordFault.{RecordFault}
 use Rattle.meter.specs.declared.sheet.SheetAnswer.{SheetAnswer}
 use Rattle.meter.specs.declared.sheet.SheetAnswer.the-variants as sheets
@@ -23,31 +18,48 @@ use Rattle.meter.specs.declared.stream.Progress.{Progress}
 use Rattle.meter.specs.declared.stream.FinishAnswer.{FinishAnswer}
 use Rattle.meter.specs.declared.stream.TakeAnswer.{TakeAnswer}
 use Rattle.meter.specs.declared.stream.TakeAnswer.the-variants as takes
+use Rattle.meter.specs.declared.program.Next.{Next}
 use Rattle.meter.specs.declared.program.Next.the-variants as nexts
-use Rattle.meter.proofs.Sheetcount.{next-unread, next-take, counted-more, counted-none}
+use Rattle.meter.specs.declared.program.NextFault.{NextFault}
+use Rattle.meter.specs.declared.program.NextFault.the-variants as faults
+use Rattle.meter.proofs.Taking.{TakeTold}
+use Rattle.meter.proofs.Sheetcount.{next-unread, next-take, counted-refused, counted-more, counted-none}
 
 -- ---- its block is not to be read
-pub next-stops : (w : State byOne) (s : List ℕ) (x : ℕ) (r : SheetAnswer) {ids counts t : List ℕ} {q : Progress} → Steps ids counts t q w → toldSheet r ≡ refusal x (q .records) 0
-    → refusal x (w .records) 0 ≡ blockLengthOf (w .records) s → NextTold w s counts t (nexts.Stop r)
-next-stops w s x r {q = q} k e h =
-    (record { n = x; i = q .records; o = 0; told = e; same = next-unread w s (sym h) ∙ ap (λ (j : ℕ). refusal x j 0) (sym (k .carries .records)) }, k .counts-clear)
+pub next-stops : (w : State byOne) (s : List ℕ) (x : ℕ) {ids counts t : List ℕ} {q : Progress} → Steps ids counts t q w
+    → refusal x (w .records) 0 ≡ blockLengthOf (w .records) s → (nextOf w s ≡ refusal x (q .records) 0) × (counts ≡ clearTable)
+next-stops w s x k h = (next-unread w s (sym h) ∙ ap (λ (j : ℕ). refusal x j 0) (sym (k .carries .records)), k .counts-clear)
 
 -- ---- the record was taken or refused
-module _ (w : State byOne) (s : List ℕ) (n : ℕ) (h : good n ≡ blockLengthOf (w .records) s) (lot : Lot) (span : Span) (l : lot ≡ world) (m : span ≡ allTime) (counts t : List ℕ) (a : TakeAnswer)
-    (y : TakeTold counts t a (takeOf byOne (part lot span) w s)) where
+module _ (w : State byOne) (s : List ℕ) (n : ℕ) (h : good n ≡ blockLengthOf (w .records) s) (counts t : List ℕ) (a : TakeAnswer)
+    (y : TakeTold counts t a (takeOf byOne everything w s)) where
   told : {b : TakeAnswer} → a ≡ b → TakeTold counts t b (takeOf byOne everything w s)
-  told {b} e =
-      subst (λ (p : Part). TakeTold counts t b (takeOf byOne p w s)) (ap₂ part l m)
-      (subst (λ (c : TakeAnswer). TakeTold counts t c (takeOf byOne (part lot span) w s)) e y)
+  told e = subst (λ (c : TakeAnswer). TakeTold counts t c (takeOf byOne everything w s)) e y
 
-  pub next-misframed : {i : ℕ} → a ≡ takes.Misframed i → NextTold w s counts t (nexts.Stop (sheets.Malformed i))
-  next-misframed e = (record { n = _; i = _; o = _; told = refl; same = next-take w s (sym h) ∙ told e .0 }, told e .1)
+  abbrev Told : Next → Type 0
+  Told r = Matches (CarriesFirst t) (toldNext r) (nextOf w s) × (counts ≡ clearTable)
 
-  pub next-refused : {f : RecordFault} {i : ℕ} → a ≡ takes.Refused f i → NextTold w s counts t (nexts.Stop (sheets.Record f i))
-  next-refused e = (record { n = _; i = _; o = _; told = refl; same = next-take w s (sym h) ∙ told e .0 }, told e .1)
+  pub next-misframed : {i : ℕ} → a ≡ takes.Misframed i → Told (nexts.Stop (faults.Misframed i))
+  next-misframed e = (next-take w s (sym h) ∙ told e .0, told e .1)
 
-  pub next-taken : {q : Progress} {o : ℕ} → a ≡ takes.Taken q o → NextTold w s counts t (nexts.On q)
-  next-taken {o = o} e = let x = told e in (o, x .0, next-take w s (sym h) ∙ x .1, x .2, x .3)
+  pub next-refused : {f : RecordFault} {i : ℕ} → a ≡ takes.Refused f i → Told (nexts.Stop (faults.Record f i))
+  next-refused e = (next-take w s (sym h) ∙ told e .0, told e .1)
+
+  pub next-taken : {q : Progress} {o : ℕ} → a ≡ takes.Taken q o → Told (nexts.On q)
+  next-taken e = let x = told e in ((x .0 .0, next-take w s (sym h) ∙ x .0 .1, x .0 .2 .0), x .1)
+
+-- ---- it was refused
+-- it is the refusal of all records that are left
+pub stopped-all : (t : List ℕ) (w : State byOne) (s : List ℕ) (k : ℕ) (f : NextFault) → Matches (CarriesFirst t) (nextFaulty f) (nextOf w s) → countedFrom (suc k) w s ≡ nextFaulty f
+stopped-all t w s k (faults.Misframed i) h = counted-refused w s k h
+stopped-all t w s k (faults.TooLong i) h = counted-refused w s k h
+stopped-all t w s k (faults.Record e i) h = counted-refused w s k h
+
+-- and it leaves a lent buffer as it was
+pub stopped-lent : (d : List ℕ) (f : NextFault) → Answered (nextFaulty f) d d (nextFaulty f)
+stopped-lent d (faults.Misframed i) = (refl, refl)
+stopped-lent d (faults.TooLong i) = (refl, refl)
+stopped-lent d (faults.Record e i) = (refl, refl)
 
 -- ---- the end
 -- a byte more

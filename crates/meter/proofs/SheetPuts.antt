@@ -10,15 +10,14 @@ use lib.ListN.{length, drop}
 use borrow.Author.Tests.{leb-true}
 use Rattle.wire.specs.Bytes.{Bytes, bytes-drop}
 use Rattle.wire.specs.Read.{done, Misread, at-place}
-use Rattle.wire.specs.Answer.{Answer, good, refusal, plain, no-good, badPart, partsMisfit, thenAnswer, Answered}
+use Rattle.wire.specs.Answer.{Answer, good, refusal, plain, no-good, badPart, partsMisfit, thenAnswer, Answered, Matches}
 use Rattle.meter.specs.Standing.{Part, goodPart, nodesIn}
 use Rattle.meter.specs.Counting.{tallyOf, byOne}
 use Rattle.meter.specs.Sheet.{sheetHead, recordsFrom, sheetOf, fittedSheet, tallySheetOf}
 use Rattle.meter.specs.Streaming.{State, noRecords, startOf, finishOf}
-use Rattle.meter.specs.Progress.{Carries, StartTold, FinishTold, toldFinish}
+use Rattle.meter.specs.Progress.{Carries, FinishTold, toldFinish}
 use Rattle.meter.specs.SheetTold.{answerFrom, Numbered, toldSheet, SheetPut}
 use Rattle.meter.specs.declared.stream.Progress.{Progress}
-use Rattle.meter.specs.declared.stream.StartAnswer.the-variants as starts
 use Rattle.meter.specs.declared.stream.FinishAnswer.{FinishAnswer}
 use Rattle.meter.specs.declared.sheet.SheetAnswer.{SheetAnswer}
 use Rattle.meter.specs.declared.sheet.SheetAnswer.the-variants as sheets
@@ -86,9 +85,9 @@ module _ (p : Part) (s d : List ℕ) (spare : ℕ) where
     pub fits : length d ≤ spare
     pub same : whole ≡ blocksTally p s (length d)
 
-  pub begun : (t : List ℕ) (q : Progress) → StartTold t (starts.Started q) (startOf byOne p (length d) spare) → Begun t q
+  pub start-begun : (t : List ℕ) (q : Progress) → Matches (Carries t) (good q) (startOf byOne p (length d) spare) → Begun t q
   unfolding startOf tallySheetOf
-  begun t q (w, e, c) = go (goodPart p) (leb (length d) spare) refl refl e
+  start-begun t q (w, e, c) = go (goodPart p) (leb (length d) spare) refl refl e
     where
       go : (a b : Bool) → goodPart p ≡ a → leb (length d) spare ≡ b → cond a (cond b (good (noRecords byOne)) (plain partsMisfit)) (plain badPart) ≡ good w → Begun t q
       go true true f g h =
@@ -97,6 +96,6 @@ module _ (p : Part) (s d : List ℕ) (spare : ℕ) where
       go true false f g h = no-good h
       go false b f g h = no-good h
 
-  pub sheet-put : {t e : List ℕ} {q : Progress} (r : SheetAnswer) → StartTold t (starts.Started q) (startOf byOne p (length d) spare)
+  pub sheet-put : {t e : List ℕ} {q : Progress} (r : SheetAnswer) → Matches (Carries t) (good q) (startOf byOne p (length d) spare)
       → (Carries t q (noRecords byOne) → length d ≤ spare → SheetPut p s d e r) → Answered (toldSheet r) d e whole
-  sheet-put {t} {q = q} r g f = let k = begun t q g in rw (k .same) (f (k .carries) (k .fits))
+  sheet-put {t} {q = q} r g f = let k = start-begun t q g in rw (k .same) (f (k .carries) (k .fits))

@@ -12,7 +12,7 @@ use borrow.Author.Tests.{eq-eqb, ne-eqb}
 use Rattle.wire.specs.Read.{Read, done, refused}
 use Rattle.wire.specs.Format.{_⨾_, along}
 use Rattle.wire.specs.Formats.{s64, half64, counted}
-use Rattle.wire.specs.Answer.{Answer, good, refusal, plain, mapAnswer, outOfRange, sheetMalformed, no-good, then-good, map-good}
+use Rattle.wire.specs.Answer.{Answer, good, refusal, plain, mapAnswer, sheetMalformed, no-good, then-good, map-good}
 use Rattle.wire.specs.Told.{Short, short}
 use Rattle.wire.proofs.Steps.{signed-told, counted-told}
 use Rattle.position.specs.Keys.{splitOf}
@@ -21,7 +21,7 @@ use Rattle.mapblock.specs.Data.{Block}
 use Rattle.mapblock.specs.Questions.{blockOf}
 use Rattle.meter.specs.Standing.{Placed}
 use Rattle.meter.specs.Tallying.{placed}
-use Rattle.meter.specs.Sheet.{Misframed, misframed, SheetRecord, frame, sheetHead, rises, judgeRecord, recordsFrom, sheetOf}
+use Rattle.meter.specs.Sheet.{Misframed, misframed, SheetRecord, frame, sheetHead, rises, judgedIn, judgeRecord, recordsFrom, sheetOf}
 
 -- ---- a record's framing, by its fields as the leaves tell them
 module _ (s : List ℕ) where
@@ -57,27 +57,13 @@ module _ (s : List ℕ) where
 
 -- ---- a record judged
 module _ (last : Option ℤ) (r : SheetRecord) where
-  pub judge-astray : splitOf (r .key) ≡ plain outOfRange → judgeRecord last r ≡ plain outOfRange
-  unfolding judgeRecord
-  judge-astray h = rw h
-
-  module _ {c : Coordinates} (h : splitOf (r .key) ≡ good c) where
-    pub judge-falling : rises last (r .key) ≡ false → judgeRecord last r ≡ plain sheetMalformed
-    unfolding judgeRecord
-    judge-falling f = rw (h, f)
-
-    module _ (u : rises last (r .key) ≡ true) where
-      pub judge-refused : {n i o : ℕ} → blockOf (r .block) ≡ refusal n i o → judgeRecord last r ≡ refusal n i o
-      unfolding judgeRecord
-      judge-refused b = rw (h, u, b)
-
-      pub judge-good : {b : Block} → blockOf (r .block) ≡ good b → judgeRecord last r ≡ good (placed c b)
-      unfolding judgeRecord
-      judge-good b = rw (h, u, b)
+  pub judge-good : {c : Coordinates} {b : Block} → splitOf (r .key) ≡ good c → rises last (r .key) ≡ true → blockOf (r .block) ≡ good b → judgeRecord last r ≡ good (placed c b)
+  unfolding judgedIn blockOf
+  judge-good {c} h u b = rw (h, u) (ap (mapAnswer (placed c)) b)
 
   -- a record that is taken: its key has a place and rises, and its block is taken
   pub judge-taken : (x : Placed) → judgeRecord last r ≡ good x → (splitOf (r .key) ≡ good (x .at)) × (rises last (r .key) ≡ true) × (blockOf (r .block) ≡ good (x .block))
-  unfolding judgeRecord
+  unfolding judgedIn blockOf
   judge-taken x h =
       let y = then-good (splitOf (r .key)) (λ c. cond (rises last (r .key)) (mapAnswer (placed c) (blockOf (r .block))) (plain sheetMalformed)) x h in
       let u = rising (rises last (r .key)) (mapAnswer (placed (y .0)) (blockOf (r .block))) (y .2) in

@@ -6,23 +6,24 @@ use native.Mathlib.Omega.{arith}
 use lib.IntN.{ℤ}
 use lib.ListN.{length, take, drop}
 use Rattle.wire.specs.Bytes.{Bytes}
-use Rattle.wire.specs.Read.{Read, done, refused, Misread, at-place}
+use Rattle.wire.specs.Read.{Read, done, refused, found, found-done, found-none, Misread, at-place}
 use Rattle.wire.specs.Format.{ends-in}
-use Rattle.wire.specs.Answer.{Answer, good, refusal, sheetMalformed, no-good, thenAnswer}
+use Rattle.wire.specs.Answer.{Answer, good, refusal, sheetMalformed, no-good, thenAnswer, Matches}
 use Rattle.tally.specs.Rows.{Canonical}
 use Rattle.tally.specs.Tally.{ones}
 use Rattle.meter.specs.Standing.{Part, Placed}
 use Rattle.meter.specs.Counting.{byOne}
 use Rattle.meter.specs.Sheet.{Misframed, SheetRecord, frame, judgeRecord}
 use Rattle.meter.specs.Streaming.{State, taking, stepOf, takeOf}
-use Rattle.meter.specs.Records.{recordOf, FrameTold}
-use Rattle.meter.specs.Progress.{Steps, StepTold, TakeTold}
+use Rattle.meter.specs.Records.{clearTable, recordOf, toldFrame}
+use Rattle.meter.specs.Progress.{Carries, CarriesTo, Steps, toldStep, toldTake}
 use Rattle.meter.specs.SheetTold.{answerFrom}
 use Rattle.meter.specs.declared.records.FrameRead.the-variants as frames
 use Rattle.meter.specs.declared.records.RecordFault.{RecordFault}
 use Rattle.meter.specs.declared.stream.Progress.{Progress}
 use Rattle.meter.specs.declared.stream.StepAnswer.{StepAnswer}
 use Rattle.meter.specs.declared.stream.StepAnswer.the-variants as steps
+use Rattle.meter.specs.declared.stream.TakeAnswer.{TakeAnswer}
 use Rattle.meter.specs.declared.stream.TakeAnswer.the-variants as takes
 use Rattle.meter.proofs.Steps.{records-misframed, records-refused}
 use Rattle.meter.proofs.Streaming.{finishing, step-refused, step-good, record-on}
@@ -52,14 +53,14 @@ module _ (p : Part) (w : State byOne) (r : SheetRecord) where
 abbrev pub blockIn : List ℕ → ℕ → List ℕ
 blockIn s n = take ((n + 12) - 12) (drop 12 s)
 
-pub framed-as : (s : List ℕ) (key : ℤ) (n : ℕ) → FrameTold s (frames.Record key n) → frame .read s ≡ done (recordOf key (blockIn s n)) (n + 12)
+pub framed-as : (s : List ℕ) (key : ℤ) (n : ℕ) → toldFrame s (frames.Record key n) ≡ found (frame .read s) → frame .read s ≡ done (recordOf key (blockIn s n)) (n + 12)
 framed-as s key n f =
     let size : n ≡ (n + 12) - 12 = omega arith in
     let end : 12 + n ≡ n + 12 = omega arith in
-    f ∙ ap (λ (i : ℕ). done (recordOf key (take i (drop 12 s))) (12 + n)) size ∙ ap (done (recordOf key (blockIn s n))) end
+    found-done (frame .read s) f ∙ ap (λ (i : ℕ). done (recordOf key (take i (drop 12 s))) (12 + n)) size ∙ ap (done (recordOf key (blockIn s n))) end
 
-pub framed-inside : (s : List ℕ) (key : ℤ) (n : ℕ) → FrameTold s (frames.Record key n) → n + 12 ≤ length s
-framed-inside s key n f = omega (arith, ends-in frame f)
+pub framed-inside : (s : List ℕ) (key : ℤ) (n : ℕ) → toldFrame s (frames.Record key n) ≡ found (frame .read s) → n + 12 ≤ length s
+framed-inside s key n f = omega (arith, ends-in frame (found-done (frame .read s) f))
 
 -- ---- the record at the front
 module _ (p : Part) (w : State byOne) (s : List ℕ) where
@@ -124,13 +125,26 @@ module _ (p : Part) (w : State byOne) (s : List ℕ) where
         record-on byOne p room k s b (x .reads) w c (x .judged) ∙ ap (λ (u : State byOne). answerFrom p room u k (drop n s)) (x .state)
 
 -- ---- what a step told of it is told of the record
-module _ (p : Part) (w : State byOne) (s : List ℕ) where
-  pub told-misframed : {ids counts t : List ℕ} {q : Progress} → Misread (frame .read s) → Steps ids counts t q w → TakeTold counts t (takes.Misframed (q .records)) (takeOf byOne p w s)
-  told-misframed (at-place x f) k = (take-misframed p w s f ∙ ap (λ (i : ℕ). refusal sheetMalformed i 0) (sym (k .carries .records)), k .counts-clear)
+abbrev pub TakeTold : List ℕ → List ℕ → TakeAnswer → Answer (State byOne × ℕ) → Type 0
+TakeTold counts t r a = Matches (CarriesTo t) (toldTake r) a × (counts ≡ clearTable)
 
-  module _ {r : SheetRecord} {n : ℕ} (f : frame .read s ≡ done r n) (counts t : List ℕ) (a : StepAnswer) (h : StepTold counts t a (stepOf byOne p w r)) where
+-- the state after a record that is taken
+pub taken-to : {t : List ℕ} {q : Progress} {n : ℕ} {a : Answer (State byOne × ℕ)} → Matches (CarriesTo t) (good (q, n)) a → (v : State byOne) × (a ≡ good (v, n)) × Carries t q v
+taken-to (x, e, c) = (x .0, e ∙ ap (λ (m : ℕ). good (x .0, m)) (sym (c .1)), c .0)
+
+module _ (p : Part) (w : State byOne) (s : List ℕ) where
+  pub told-misframed : {ids counts t : List ℕ} {q : Progress} → toldFrame s frames.Misframed ≡ found (frame .read s) → Steps ids counts t q w → TakeTold counts t (takes.Misframed (q .records)) (takeOf byOne p w s)
+  told-misframed {q = q} f k = (go (found-none (frame .read s) f) ∙ ap (λ (i : ℕ). refusal sheetMalformed i 0) (sym (k .carries .records)), k .counts-clear)
+    where
+      go : Misread (frame .read s) → takeOf byOne p w s ≡ refusal sheetMalformed (w .records) 0
+      go (at-place x e) = take-misframed p w s e
+
+  module _ {r : SheetRecord} {n : ℕ} (f : frame .read s ≡ done r n) (counts t : List ℕ) (a : StepAnswer) (h : Matches (Carries t) (toldStep a) (stepOf byOne p w r) × (counts ≡ clearTable)) where
+    stepped : {b : StepAnswer} → a ≡ b → Matches (Carries t) (toldStep b) (stepOf byOne p w r)
+    stepped j = subst (λ (b : StepAnswer). Matches (Carries t) (toldStep b) (stepOf byOne p w r)) j (h .0)
+
     pub told-refused : {e : RecordFault} {i : ℕ} → a ≡ steps.Refused e i → TakeTold counts t (takes.Refused e i) (takeOf byOne p w s)
-    told-refused j = let x = subst (λ (b : StepAnswer). StepTold counts t b (stepOf byOne p w r)) j h in (take-refused p w s f (x .0), x .1)
+    told-refused j = (take-refused p w s f (stepped j), h .1)
 
     pub told-taken : {q : Progress} → a ≡ steps.Taken q → TakeTold counts t (takes.Taken q n) (takeOf byOne p w s)
-    told-taken j = let x = subst (λ (b : StepAnswer). StepTold counts t b (stepOf byOne p w r)) j h in (x .0, take-good p w s f (x .1), x .2, x .3)
+    told-taken j = let x = stepped j in (((x .0, n), take-good p w s f (x .1), (x .2, refl)), h .1)

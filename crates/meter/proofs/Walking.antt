@@ -15,8 +15,8 @@ use Rattle.meter.specs.Standing.{Part}
 use Rattle.meter.specs.Counting.{byOne}
 use Rattle.meter.specs.Streaming.{State, takeOf, finishOf}
 use Rattle.meter.specs.Records.{clearTable}
-use Rattle.meter.specs.Progress.{Carries, Steps, TakeTold}
-use Rattle.meter.specs.SheetTold.{answerFrom, Numbered, RecordsTold}
+use Rattle.meter.specs.Progress.{Carries, Steps}
+use Rattle.meter.specs.SheetTold.{answerFrom, Numbered, toldRecords, AnswersFrom}
 use Rattle.meter.specs.declared.records.RecordFault.{RecordFault}
 use Rattle.meter.specs.declared.sheet.Records.{Records}
 use Rattle.meter.specs.declared.sheet.Records.the-variants as records
@@ -25,7 +25,7 @@ use Rattle.meter.specs.declared.stream.TakeAnswer.{TakeAnswer}
 use Rattle.meter.specs.declared.stream.TakeAnswer.the-variants as takes
 use Rattle.meter.proofs.Steps.{records-end, records-more}
 use Rattle.meter.proofs.Streaming.{finishing, finishing-none}
-use Rattle.meter.proofs.Taking.{take-number, from-refused, from-good}
+use Rattle.meter.proofs.Taking.{take-number, from-refused, from-good, TakeTold, taken-to}
 
 -- ---- the walk
 -- a state from which it may begin: the spare carries it, its records can be numbered, and the tables are clear
@@ -60,7 +60,7 @@ walking-start p s count t q ids counts b = record {
 
 -- what is told at the end, of every state that the walk may have begun with
 abbrev pub ToldAll : Part → List ℕ → ℕ → List ℕ → Progress → List ℕ → List ℕ → List ℕ → Records → Type 0
-ToldAll p s count t₀ q₀ ids₀ counts₀ t r = (w : State byOne) → Begins t₀ q₀ ids₀ counts₀ count w → RecordsTold p t w count s r
+ToldAll p s count t₀ q₀ ids₀ counts₀ t r = (w : State byOne) → Begins t₀ q₀ ids₀ counts₀ count w → AnswersFrom p t w count s (toldRecords r)
 
 module _ {p : Part} {s : List ℕ} {count : ℕ} {t₀ : List ℕ} {q₀ : Progress} {ids₀ counts₀ t ids counts rest : List ℕ} {left : ℕ} {q : Progress} (k : Walking p s count t₀ q₀ ids₀ counts₀ t ids counts rest left q) where
   pub walking-more : left ≤ 0 → 0 < length rest → ToldAll p s count t₀ q₀ ids₀ counts₀ t (records.Malformed (q .records))
@@ -111,12 +111,12 @@ module _ {p : Part} {s : List ℕ} {count : ℕ} {t₀ : List ℕ} {q₀ : Progr
       size = l ∙ k .size;
       follows = λ w g.
           let x = k .follows w g in
-          let u = told w g j in
+          let u = taken-to (told w g j .0) in
           record {
             v = u .0;
             carries = u .2;
             ids-clear = z ∙ x .ids-clear;
-            counts-clear = u .3;
+            counts-clear = told w g j .1;
             number = omega (arith, x .number, take-number p (x .v) rest (u .1));
             same = λ room. go left h room (x .v) (u .0) (x .carries .runs .canonical) (u .1) ∙ x .same room;
           };

@@ -17,12 +17,13 @@ use Rattle.meter.specs.Counting.{byOne}
 use Rattle.meter.specs.Sheet.{SheetForm, SheetRecord, frame, sheetHead, framed, tallySheetOf}
 use Rattle.meter.specs.Streaming.{State, noRecords, stepsOf, takeOf, finishOf}
 use Rattle.meter.specs.Theorems.{sheetBytes, Framed}
-use Rattle.meter.specs.Records.{clearTable}
+use Rattle.meter.specs.Records.{faulty}
 use Rattle.meter.specs.Progress.{Carries}
-use Rattle.meter.specs.SheetTold.{toldSheet}
 use Rattle.meter.specs.declared.program.Next.{Next}
 use Rattle.meter.specs.declared.program.Next.the-variants as nexts
-use Rattle.meter.specs.declared.sheet.SheetAnswer.{SheetAnswer}
+use Rattle.meter.specs.declared.program.NextFault.{NextFault}
+use Rattle.meter.specs.declared.program.NextFault.the-variants as faults
+use Rattle.meter.specs.declared.stream.Progress.{Progress}
 use Rattle.meter.specs.declared.program.LengthRead.{LengthRead}
 use Rattle.meter.specs.declared.program.LengthRead.the-variants as lengths
 
@@ -65,18 +66,19 @@ toldLength i (lengths.Block n) = good n
 toldLength i lengths.Misframed = refusal sheetMalformed i 0
 toldLength i lengths.TooLong = refusal noRoom i 0
 
--- the code's answer is the refusal
-pub record Refuses {A : Type 0} (r : SheetAnswer) (a : Answer A) : Type 0 where
-  pub n : ℕ
-  pub i : ℕ
-  pub o : ℕ
-  pub told : toldSheet r ≡ refusal n i o
-  pub same : a ≡ refusal n i o
+-- why the next record is refused
+abbrev pub nextFaulty : {A : Type 0} → NextFault → Answer A
+nextFaulty (faults.Misframed i) = refusal sheetMalformed i 0
+nextFaulty (faults.TooLong i) = refusal noRoom i 0
+nextFaulty (faults.Record f i) = faulty f i
 
--- the record that the bytes s begin with; the counters are clear in either case
-abbrev pub NextTold : State byOne → List ℕ → List ℕ → List ℕ → Next → Type 0
-NextTold w s counts t (nexts.On q) = (n : ℕ) × (v : State byOne) × (nextOf w s ≡ good (v, n)) × Carries t q v × (counts ≡ clearTable)
-NextTold w s counts t (nexts.Stop r) = Refuses r (nextOf w s) × (counts ≡ clearTable)
+abbrev pub toldNext : Next → Answer Progress
+toldNext (nexts.On q) = good q
+toldNext (nexts.Stop f) = nextFaulty f
+
+-- the spare t carries the state after a record; how many bytes the record takes is not told
+abbrev pub CarriesFirst : List ℕ → Progress → State byOne × ℕ → Type 0
+CarriesFirst t q x = Carries t q (x .0)
 
 -- ---- what holds of it
 -- of so many records in these bytes none states a longer block

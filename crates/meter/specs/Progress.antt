@@ -5,10 +5,11 @@ use mathlib.Core.List.{List}
 use lib.ListN.{length}
 use Rattle.wire.specs.Answer.{Answer, good, refusal, plain, badPart, partsMisfit, sheetMalformed, noRoom, tooMany, Answered}
 use Rattle.names.specs.Used.{heavy}
-use Rattle.running.specs.Running.{Runs}
+use Rattle.running.specs.Running.{Runs, none}
 use Rattle.meter.specs.Counting.{byOne}
 use Rattle.meter.specs.Streaming.{State}
 use Rattle.meter.specs.Records.{clearTable, lastOf, faulty}
+use Rattle.meter.specs.declared.records.LastKey.the-variants as lasts
 use Rattle.meter.specs.declared.stream.Progress.{Progress}
 use Rattle.meter.specs.declared.stream.StartAnswer.{StartAnswer}
 use Rattle.meter.specs.declared.stream.StartAnswer.the-variants as starts
@@ -28,10 +29,19 @@ pub record Carries (t : List ℕ) (p : Progress) (w : State byOne) : Type 0 wher
   pub light : heavy (w .rows) ≤ 4096 * w .records
   pub few : length (w .rows) ≤ 4096 * w .records
 
-abbrev pub StartTold : List ℕ → StartAnswer → Answer (State byOne) → Type 0
-StartTold t (starts.Started p) a = (w : State byOne) × (a ≡ good w) × Carries t p w
-StartTold t starts.BadPart a = a ≡ plain badPart
-StartTold t starts.Misfit a = a ≡ plain partsMisfit
+-- the same with where a record ends
+abbrev pub CarriesTo : List ℕ → Progress × ℕ → State byOne × ℕ → Type 0
+CarriesTo t p w = Carries t (p .0) (w .0) × (p .1 ≡ w .1)
+
+-- before any record; every spare carries it
+abbrev pub begun : Progress
+begun = record { last = lasts.Nothing; records = 0; tally = none }
+
+-- ---- what the answers say
+abbrev pub toldStart : StartAnswer → Answer Progress
+toldStart (starts.Started p) = good p
+toldStart starts.BadPart = plain badPart
+toldStart starts.Misfit = plain partsMisfit
 
 -- a step from a state that is carried, with clear tables, to a record whose number a u32 holds
 pub record Steps (ids counts t : List ℕ) (p : Progress) (w : State byOne) : Type 0 where
@@ -40,9 +50,9 @@ pub record Steps (ids counts t : List ℕ) (p : Progress) (w : State byOne) : Ty
   pub carries : Carries t p w
   pub number : w .records < 4294967295
 
-abbrev pub StepTold : List ℕ → List ℕ → StepAnswer → Answer (State byOne) → Type 0
-StepTold counts t (steps.Taken p) a = (w : State byOne) × (a ≡ good w) × Carries t p w × (counts ≡ clearTable)
-StepTold counts t (steps.Refused f i) a = (a ≡ faulty f i) × (counts ≡ clearTable)
+abbrev pub toldStep : StepAnswer → Answer Progress
+toldStep (steps.Taken p) = good p
+toldStep (steps.Refused f i) = faulty f i
 
 -- a record that is taken lies within the bytes that it is taken from
 abbrev pub TakenInside : List ℕ → TakeAnswer → Type 0
@@ -50,10 +60,11 @@ TakenInside s (takes.Taken p n) = n ≤ length s
 TakenInside s (takes.Misframed i) = Unit {0}
 TakenInside s (takes.Refused f i) = Unit {0}
 
-abbrev pub TakeTold : List ℕ → List ℕ → TakeAnswer → Answer (State byOne × ℕ) → Type 0
-TakeTold counts t (takes.Taken p n) a = (w : State byOne) × (a ≡ good (w, n)) × Carries t p w × (counts ≡ clearTable)
-TakeTold counts t (takes.Misframed i) a = (a ≡ refusal sheetMalformed i 0) × (counts ≡ clearTable)
-TakeTold counts t (takes.Refused f i) a = (a ≡ faulty f i) × (counts ≡ clearTable)
+-- with where the record ends
+abbrev pub toldTake : TakeAnswer → Answer (Progress × ℕ)
+toldTake (takes.Taken p n) = good (p, n)
+toldTake (takes.Misframed i) = refusal sheetMalformed i 0
+toldTake (takes.Refused f i) = faulty f i
 
 abbrev pub toldFinish : FinishAnswer → Answer ℕ
 toldFinish (finishes.Tallied n) = good n

@@ -5,8 +5,9 @@ use mathlib.Core.List.{List}
 use mathlib.Core.Option.{Option, some, none}
 use lib.IntN.{ℤ}
 use lib.ListN.{take, drop, replicate}
-use Rattle.wire.specs.Read.{done, Misread}
+use Rattle.wire.specs.Read.{done}
 use Rattle.wire.specs.Answer.{Answer, good, refusal, outOfRange, sheetMalformed}
+use Rattle.position.specs.declared.key.Coordinates.{Coordinates}
 use Rattle.mapblock.specs.Data.{Block}
 use Rattle.mapblock.specs.Layout.{all}
 use Rattle.mapblock.specs.Block.{verdict}
@@ -14,7 +15,7 @@ use Rattle.mapblock.specs.Numbers.{number}
 use Rattle.mapblock.specs.Sections.{found}
 use Rattle.mapblock.specs.declared.scan.Found.{Found}
 use Rattle.meter.specs.Standing.{Placed}
-use Rattle.meter.specs.Sheet.{SheetRecord, frame}
+use Rattle.meter.specs.Sheet.{SheetRecord}
 use Rattle.meter.specs.declared.records.FrameRead.{FrameRead}
 use Rattle.meter.specs.declared.records.FrameRead.the-variants as frames
 use Rattle.meter.specs.declared.records.LastKey.{LastKey}
@@ -32,10 +33,10 @@ clearTable = replicate 65536 0
 abbrev pub recordOf : ℤ → List ℕ → SheetRecord
 recordOf key block = record { key = key; block = block }
 
--- a record's block stands behind the eight bytes of the key and the four of the length
-abbrev pub FrameTold : List ℕ → FrameRead → Type 0
-FrameTold s (frames.Record key n) = frame .read s ≡ done (recordOf key (take n (drop 12 s))) (12 + n)
-FrameTold s frames.Misframed = Misread (frame .read s)
+-- the record at the front of s, and where it ends: its block stands behind the eight bytes of the key and the four of the length
+abbrev pub toldFrame : List ℕ → FrameRead → Option (SheetRecord × ℕ)
+toldFrame s (frames.Record key n) = some (recordOf key (take n (drop 12 s)), 12 + n)
+toldFrame s frames.Misframed = none
 
 -- ---- the verdict on a record
 abbrev pub lastOf : LastKey → Option ℤ
@@ -57,13 +58,17 @@ faultOffset (faults.Block f p) = p
 abbrev pub faulty : {A : Type 0} → RecordFault → ℕ → Answer A
 faulty f i = refusal (faultNumber f) i (faultOffset f)
 
+-- what the code keeps of a record that is taken: where its block stands, and what the scan found in it
+abbrev pub scanned : Placed → Coordinates × Found
+scanned x = (x .at, found (x .block))
+
+-- the record is told as 0
+abbrev pub toldRecord : RecordAnswer → Answer (Coordinates × Found)
+toldRecord (records.Taken at w) = good (at, w)
+toldRecord (records.Refused f) = faulty f 0
+
 -- the scan found the block b in s
 pub record FoundAs (s : List ℕ) (w : Found) (b : Block) : Type 0 where
   pub end : ℕ
   pub taken : verdict all s ≡ done b end
   pub shows : found b ≡ w
-
--- what was judged of a record with these bytes
-abbrev pub RecordTold : List ℕ → RecordAnswer → Answer Placed → Type 0
-RecordTold s (records.Taken at w) a = (x : Placed) × (a ≡ good x) × (x .at ≡ at) × FoundAs s w (x .block)
-RecordTold s (records.Refused f) a = a ≡ faulty f 0

@@ -13,7 +13,9 @@ use Rattle.wire.specs.Format.{Format, such}
 use Rattle.wire.specs.Formats.{_▹_, s64, counted, listed, headed, head, into, Shape}
 use Rattle.wire.specs.Answer.{Answer, good, refusal, plain, mapAnswer, badPart, partsMisfit, sheetMalformed, noRoom, tooMany, thenAnswer}
 use Rattle.position.specs.Keys.{isKey, splitOf}
-use Rattle.mapblock.specs.Questions.{blockOf}
+use Rattle.mapblock.specs.Layout.{all}
+use Rattle.mapblock.specs.Block.{verdict}
+use Rattle.mapblock.specs.Questions.{blockAnswer}
 use Rattle.tally.specs.Tally.{tally, mostRows}
 use Rattle.meter.specs.Standing.{Part, goodPart, Placed, nodesIn}
 use Rattle.meter.specs.Counting.{Measure, MeasureRows, tallyOf}
@@ -80,9 +82,13 @@ abbrev pub framed : {A B : Type 0} → ℕ → Read Misframed A → (A → ℕ �
 framed i (done a n) f = f a n
 framed i (refused e p) f = refusal sheetMalformed i 0
 
--- a record judged against the last key: key 9, rising 15, block 1 to 8
-unfoldable pub judgeRecord : Option ℤ → SheetRecord → Answer Placed
-judgeRecord last r = thenAnswer (splitOf (r .key)) λ c. cond (rises last (r .key)) (mapAnswer (placed c) (blockOf (r .block))) (plain sheetMalformed)
+-- a record judged against the last key, where its names may have the ids that are free: key 9, rising 15, block 1 to 8
+unfoldable pub judgedIn : (ℕ → Bool) → Option ℤ → SheetRecord → Answer Placed
+judgedIn free last r = thenAnswer (splitOf (r .key)) λ c. cond (rises last (r .key)) (mapAnswer (placed c) (blockAnswer (verdict free (r .block)))) (plain sheetMalformed)
+
+-- document 01's verdict on it: before its names all ids are free
+abbrev pub judgeRecord : Option ℤ → SheetRecord → Answer Placed
+judgeRecord = judgedIn all
 
 -- So many records, the first of which is the i-th, after the last key: of each the framing, 15, and what it is judged. Then no byte more, 15.
 unfoldable pub recordsFrom : ℕ → ℕ → Option ℤ → List ℕ → Answer (List Placed)

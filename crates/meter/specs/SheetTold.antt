@@ -12,6 +12,7 @@ use Rattle.meter.specs.Sheet.{recordsFrom, sheetOf, fittedSheet}
 use Rattle.meter.specs.Streaming.{State, finishOf}
 use Rattle.meter.specs.Records.{faulty}
 use Rattle.meter.specs.Progress.{Carries}
+use Rattle.meter.specs.declared.stream.Progress.{Progress}
 use Rattle.meter.specs.declared.sheet.Records.{Records}
 use Rattle.meter.specs.declared.sheet.Records.the-variants as records
 use Rattle.meter.specs.declared.sheet.SheetAnswer.{SheetAnswer}
@@ -27,10 +28,15 @@ answerFrom p room w k s =
 abbrev pub Numbered : State byOne → ℕ → Type 0
 Numbered w k = w .records + k < 4294967296
 
-abbrev pub RecordsTold : Part → List ℕ → State byOne → ℕ → List ℕ → Records → Type 0
-RecordsTold p t w k s (records.Taken q) = (v : State byOne) × Carries t q v × ((room : ℕ) → answerFrom p room w k s ≡ finishOf byOne room v)
-RecordsTold p t w k s (records.Malformed i) = (room : ℕ) → answerFrom p room w k s ≡ refusal sheetMalformed i 0
-RecordsTold p t w k s (records.Refused f i) = (room : ℕ) → answerFrom p room w k s ≡ faulty f i
+abbrev pub toldRecords : Records → Answer Progress
+toldRecords (records.Taken q) = good q
+toldRecords (records.Malformed i) = refusal sheetMalformed i 0
+toldRecords (records.Refused f i) = faulty f i
+
+-- From the state w on the sheet's tally answers what it answers from the state that the spare t carries then, or the refusal.
+abbrev pub AnswersFrom : Part → List ℕ → State byOne → ℕ → List ℕ → Answer Progress → Type 0
+AnswersFrom p t w k s (good q) = (v : State byOne) × Carries t q v × ((room : ℕ) → answerFrom p room w k s ≡ finishOf byOne room v)
+AnswersFrom p t w k s (refusal n i o) = (room : ℕ) → answerFrom p room w k s ≡ refusal n i o
 
 -- ---- the whole
 abbrev pub toldSheet : SheetAnswer → Answer ℕ

@@ -5,7 +5,7 @@ ghost use mathlib.Core.Path.{_≡_};
 ghost use Rattle.meter.specs.Standing.{goodPart};
 
 // Whether neither the lot nor the span is bad.
-pub fn is_part(lot: Lot, span: Span) -> bool
+pub(crate) fn is_part(lot: Lot, span: Span) -> bool
     ensures { λ r. ⌜ r ≡ goodPart (record { lot = lot; span = span }) ⌝ }
 {
     lot.is_good() & span.is_good()

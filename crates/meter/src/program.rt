@@ -1,5 +1,6 @@
 // What the program sheetcount decides, over the bytes that it reads.
 use crate::records::LENGTH_AT;
+use crate::records::RecordFault;
 use crate::sheet::SheetAnswer;
 use crate::sheet::finished;
 use crate::stream::Progress;
@@ -17,12 +18,13 @@ use wire::fields::u32_at;
 ghost use mathlib.Core.Path.{_≡_};
 ghost use Prim.Native.Nat.{ℕ, _≤_};
 ghost use lib.ListN.{length};
-ghost use Rattle.wire.specs.Answer.{Answered};
+ghost use Rattle.wire.specs.Answer.{Answered, Matches};
 ghost use Rattle.meter.specs.Counting.{byOne};
+ghost use Rattle.meter.specs.Records.{clearTable};
 ghost use Rattle.meter.specs.Streaming.{State};
 ghost use Rattle.meter.specs.Progress.{Carries, Steps, Untouched};
 ghost use Rattle.meter.specs.SheetTold.{toldSheet};
-ghost use Rattle.meter.specs.Program.{mostTally, blockLengthOf, toldLength, countedFrom, NextTold};
+ghost use Rattle.meter.specs.Program.{mostTally, blockLengthOf, nextOf, countedFrom, toldLength, nextFaulty, toldNext, CarriesFirst};
 
 // The longest block of a record, and the longest tally.
 pub const MOST_BLOCK: usize = 49152;
@@ -53,13 +55,24 @@ pub fn block_length(s: &[u8]) -> LengthRead
     LengthRead::Block(size)
 }
 
+// Why the next record is refused, with its number.
+pub enum NextFault {
+    Misframed(u32),
+    // Its block is longer than the program holds.
+    TooLong(u32),
+    Record(RecordFault, u32),
+}
+
 // What came of a record: how far the sheet was tallied then, or the refusal.
 pub enum Next {
     On(Progress),
-    Stop(SheetAnswer),
+    Stop(NextFault),
 }
 
-// Takes the record at the front of some bytes, unless its block is too long. The spare, `places` and `scratch` are as after a step.
+// Takes the record at the front of some bytes, unless its block is too long. It is an inner function of the program, and so is end_sheet: the
+// buffers carry a state between records. What it answers is promised where `ids` and `counts` are clear, the spare carries the state that `p`
+// tells, and a u32 holds the number of the record (`Steps`); the counters are then clear again. Of every state: the spare keeps its length, and
+// `ids` comes back as it was. The spare, `places` and `scratch` are as after a step.
 pub fn take_next(
     p: Progress,
     s: &[u8],
@@ -72,30 +85,42 @@ pub fn take_next(
     ensures { λ _. ⌜ length (now (spare .exit)) ≡ length (now (spare .entry)) ⌝ }
     ensures { λ _. ⌜ now (ids .exit) ≡ now (ids .entry) ⌝ }
     ensures { λ r. ⌜ ((w : State byOne) → Steps (now (ids .entry)) (now (counts .entry)) (now (spare .entry)) p w
-        → NextTold w (now (s .entry)) (now (counts .exit)) (now (spare .exit)) r) ⌝ }
+        → Matches (CarriesFirst (now (spare .exit))) (toldNext r) (nextOf w (now (s .entry))) × (now (counts .exit) ≡ clearTable)) ⌝ }
 {
     match block_length(s) {
-        LengthRead::Misframed => Next::Stop(SheetAnswer::Malformed(p.records)),
-        LengthRead::TooLong => Next::Stop(SheetAnswer::NoRoom(p.records)),
+        LengthRead::Misframed => Next::Stop(NextFault::Misframed(p.records)),
+        LengthRead::TooLong => Next::Stop(NextFault::TooLong(p.records)),
         LengthRead::Block(_) => match take_record(
             p,
             s,
-            Lot::whole_world(),
-            Span::all_time(),
+            Lot::WORLD,
+            Span::ALL_TIME,
             spare,
             ids,
             counts,
             places,
             scratch,
         ) {
-            TakeAnswer::Misframed(i) => Next::Stop(SheetAnswer::Malformed(i)),
-            TakeAnswer::Refused(f, i) => Next::Stop(SheetAnswer::Record(f, i)),
+            TakeAnswer::Misframed(i) => Next::Stop(NextFault::Misframed(i)),
+            TakeAnswer::Refused(f, i) => Next::Stop(NextFault::Record(f, i)),
             TakeAnswer::Taken(next, _) => Next::On(next),
         },
     }
 }
 
-// Behind the last record: no byte more, and then the tally. A refusal leaves the output as it was.
+// The refusal of a record, as tallying the sheet answers it.
+pub fn stopped(f: NextFault) -> SheetAnswer
+    ensures { λ r. ⌜ toldSheet r ≡ nextFaulty f ⌝ }
+{
+    match f {
+        NextFault::Misframed(i) => SheetAnswer::Malformed(i),
+        NextFault::TooLong(i) => SheetAnswer::NoRoom(i),
+        NextFault::Record(e, i) => SheetAnswer::Record(e, i),
+    }
+}
+
+// Behind the last record: no byte more, and then the tally. What it answers is promised where the spare carries the state that `p` tells, the
+// output has MOST_TALLY bytes and the spare no fewer. Of every state: a refusal leaves the output as it was.
 pub fn end_sheet(p: Progress, rest: &[u8], spare: &[u8], out: &mut [u8]) -> SheetAnswer
     ensures { λ r. ⌜ ((w : State byOne) → Carries (now (spare .entry)) p w → length (now (out .entry)) ≡ mostTally → mostTally ≤ length (now (spare .entry))
         → Answered (toldSheet r) (now (out .entry)) (now (out .exit)) (countedFrom 0 w (now (rest .entry)))) ⌝ }

@@ -12,8 +12,11 @@ use wire::fields::S64;
 use wire::fields::counted32_at;
 use wire::fields::s64_at;
 ghost use mathlib.Core.Path.{_≡_};
-ghost use Rattle.meter.specs.Sheet.{rises, judgeRecord};
-ghost use Rattle.meter.specs.Records.{clearTable, lastOf, FrameTold, recordOf, RecordTold};
+ghost use Rattle.wire.specs.Read.{found};
+ghost use Rattle.wire.specs.Answer.{mapAnswer};
+ghost use Rattle.mapblock.specs.Table.{freeIn};
+ghost use Rattle.meter.specs.Sheet.{frame, rises, judgedIn};
+ghost use Rattle.meter.specs.Records.{recordOf, toldFrame, lastOf, scanned, toldRecord};
 
 // Where the length of a record's block stands, behind its key, and where the block begins.
 pub const LENGTH_AT: usize = 8;
@@ -21,14 +24,14 @@ pub const LENGTH_AT: usize = 8;
 pub const BLOCK_AT: usize = 12;
 
 // A record's key and the length of its block, or that it is not whole.
-pub enum FrameRead {
+pub(crate) enum FrameRead {
     Record(i64, usize),
     Misframed,
 }
 
 // The framing of the record at the front.
-pub fn frame(s: &[u8]) -> FrameRead
-    ensures { λ r. ⌜ FrameTold (now (s .entry)) r ⌝ }
+pub(crate) fn frame(s: &[u8]) -> FrameRead
+    ensures { λ r. ⌜ toldFrame (now (s .entry)) r ≡ found (frame .read (now (s .entry))) ⌝ }
 {
     let S64::Value(key) = s64_at(s, 0) else {
         return FrameRead::Misframed;
@@ -62,16 +65,21 @@ pub enum RecordFault {
     Block(Fault, usize),
 }
 
-pub enum RecordAnswer {
+pub(crate) enum RecordAnswer {
     // Where the block stands, and what the scan found in it.
     Taken(Coordinates, Found),
     Refused(RecordFault),
 }
 
-// A record judged against the last key. The table of ids is clear, and comes back as it was.
-pub fn judge_record(last: LastKey, key: i64, block: &[u8], ids: &mut [u8; IDS]) -> RecordAnswer
+// A record judged against the last key, by the ids that the table has free. The table comes back as it was.
+pub(crate) fn judge_record(
+    last: LastKey,
+    key: i64,
+    block: &[u8],
+    ids: &mut [u8; IDS],
+) -> RecordAnswer
     ensures { λ _. ⌜ now (ids .exit) ≡ now (ids .entry) ⌝ }
-    ensures { λ r. ⌜ (now (ids .entry) ≡ clearTable → RecordTold (now (block .entry)) r (judgeRecord (lastOf last) (recordOf key (now (block .entry))))) ⌝ }
+    ensures { λ r. ⌜ toldRecord r ≡ mapAnswer scanned (judgedIn (freeIn (now (ids .entry))) (lastOf last) (recordOf key (now (block .entry)))) ⌝ }
 {
     let SplitAnswer::At(at) = split(key) else {
         return RecordAnswer::Refused(RecordFault::OutOfRange);

@@ -24,16 +24,16 @@ ghost use Rattle.meter.specs.Records.{clearTable};
 ghost use Rattle.meter.specs.Sheet.{tallySheetOf};
 ghost use Rattle.meter.specs.Streaming.{State, noRecords};
 ghost use Rattle.meter.specs.Progress.{Carries, toldFinish};
-ghost use Rattle.meter.specs.SheetTold.{Numbered, RecordsTold, toldSheet, SheetPut};
+ghost use Rattle.meter.specs.SheetTold.{Numbered, toldRecords, AnswersFrom, toldSheet, SheetPut};
 
-pub enum Records {
+enum Records {
     Taken(Progress),
     // With the number of the record that is not framed, or of those there are.
     Malformed(u32),
     Refused(RecordFault, u32),
 }
 
-// So many records, and no byte more. The tables are clear, and each step leaves them so.
+// So many records, and no byte more. The tables are clear, and each record leaves them so.
 fn take_records(
     s: &[u8],
     count: u32,
@@ -48,7 +48,7 @@ fn take_records(
 ) -> Records
     ensures { λ _. ⌜ length (now (spare .exit)) ≡ length (now (spare .entry)) ⌝ }
     ensures { λ r. ⌜ (now (ids .entry) ≡ clearTable → now (counts .entry) ≡ clearTable → (w : State byOne) → Carries (now (spare .entry)) p w → Numbered w count
-        → RecordsTold (part lot span) (now (spare .exit)) w count (now (s .entry)) r) ⌝ }
+        → AnswersFrom (part lot span) (now (spare .exit)) w count (now (s .entry)) (toldRecords r)) ⌝ }
 {
     let mut rest = s;
     let mut left = count;
@@ -88,7 +88,7 @@ pub enum SheetAnswer {
 }
 
 // What finishing answered, as tallying the sheet answers it.
-pub fn finished(a: FinishAnswer) -> SheetAnswer
+pub(crate) fn finished(a: FinishAnswer) -> SheetAnswer
     ensures { λ r. ⌜ toldSheet r ≡ toldFinish a ⌝ }
 {
     match a {

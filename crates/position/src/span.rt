@@ -20,20 +20,16 @@ impl Span {
         until: 0xffff_ffff,
     };
 
-    pub fn all_time() -> Span
-        ensures { λ r. ⌜ r ≡ allTime ⌝ }
-    {
-        Span::ALL_TIME
-    }
-
     pub fn is_good(self) -> bool
         ensures { λ r. ⌜ r ≡ goodSpan self ⌝ }
     {
         self.from <= self.until
     }
 
+    // Beside its answer, what the constant is.
     pub fn new(from: u32, until: u32) -> SpanAnswer
         ensures { λ r. ⌜ toldSpan r ≡ spanOf from until ⌝ }
+        ensures { λ _. do ⌜ ((← ⟦Span::ALL_TIME.from⟧ .entry) ≡ allTime .from) × ((← ⟦Span::ALL_TIME.until⟧ .entry) ≡ allTime .until) ⌝ }
     {
         let s = Span { from, until };
         if s.is_good() {

@@ -7,17 +7,18 @@ use native.Mathlib.Nat.{zero-add}
 use native.Mathlib.Omega.{arith}
 use lib.ListN.{length}
 use Rattle.wire.specs.Bytes.{Bytes, bytes-nil, bytes-append}
-use Rattle.wire.specs.Answer.{refusal}
+use Rattle.wire.specs.Answer.{Matches}
 use Rattle.meter.specs.Counting.{byOne}
 use Rattle.meter.specs.Streaming.{State, noRecords}
 use Rattle.meter.specs.Records.{clearTable}
 use Rattle.meter.specs.Progress.{Steps}
-use Rattle.meter.specs.Program.{nextOf, countedFrom, NextTold}
-use Rattle.meter.specs.declared.sheet.SheetAnswer.{SheetAnswer}
+use Rattle.meter.specs.Program.{nextOf, countedFrom, nextFaulty, toldNext, CarriesFirst}
 use Rattle.meter.specs.declared.stream.Progress.{Progress}
-use Rattle.meter.proofs.Sheetcount.{NextBytes, next-bytes, counted-refused}
+use Rattle.meter.proofs.Sheetcount.{NextBytes, next-bytes}
+use Rattle.meter.proofs.Nexts.{stopped-all}
 use Rattle.meter.specs.declared.program.Next.{Next}
 use Rattle.meter.specs.declared.program.Next.the-variants as nexts
+use Rattle.meter.specs.declared.program.NextFault.{NextFault}
 use Rattle.sheetcount_lib.specs.Reading.{longest, Begins, Reached, Stopped}
 
 pub record Going (count : ℕ) (t₀ bytes t ids counts : List ℕ) (left : ℕ) (q : Progress) : Type 0 where
@@ -37,45 +38,43 @@ going-start count l g = record {
 }
 
 module _ {count : ℕ} {t₀ bytes t ids counts : List ℕ} {left : ℕ} {q : Progress} (g : Going count t₀ bytes t ids counts left q) (fits : count < 4294967296) (h : 0 < left)
-    (s t′ ids′ counts′ : List ℕ) (b : Bytes s) (a : Next) (y : (w : State byOne) → Steps ids counts t q w → NextTold w s counts′ t′ a) where
+    (s t′ ids′ counts′ : List ℕ) (b : Bytes s) (a : Next) (y : (w : State byOne) → Steps ids counts t q w → Matches (CarriesFirst t′) (toldNext a) (nextOf w s) × (counts′ ≡ clearTable)) where
   abbrev at : State byOne
   at = g .reached .v
 
   steps : Steps ids counts t q at
   steps = record { ids-clear = g .ids-clear; counts-clear = g .counts-clear; carries = g .reached .carries; number = omega (arith, g .reached .number) }
 
-  told : {c : Next} → a ≡ c → NextTold at s counts′ t′ c
-  told e = subst (NextTold at s counts′ t′) e (y at steps)
+  told : {c : Next} → a ≡ c → Matches (CarriesFirst t′) (toldNext c) (nextOf at s)
+  told e = subst (λ (c : Next). Matches (CarriesFirst t′) (toldNext c) (nextOf at s)) e (y at steps .0)
 
-  pub going-stop : {r : SheetAnswer} → a ≡ nexts.Stop r → Stopped count r
-  going-stop {r} e =
-      let x = told e .0 in
-      record {
-        s = g .reached .s ++ s;
-        bytes = bytes-append (g .reached .s) s (g .reached .bytes) b;
-        refuses = record { n = x .n; i = x .i; o = x .o; told = x .told; same = g .reached .same s ∙ go left h (x .same) };
-      }
+  pub going-stop : {f : NextFault} → a ≡ nexts.Stop f → Stopped count f
+  going-stop {f} e = record {
+    s = g .reached .s ++ s;
+    bytes = bytes-append (g .reached .s) s (g .reached .bytes) b;
+    refuses = g .reached .same s ∙ go left h;
+  }
     where
-      go : (l : ℕ) → 0 < l → {n i o : ℕ} → nextOf at s ≡ refusal n i o → countedFrom l at s ≡ refusal n i o
-      go zero z e = absurd (omega arith)
-      go (suc l) z e = counted-refused at s l e
+      go : (l : ℕ) → 0 < l → countedFrom l at s ≡ nextFaulty f
+      go zero z = absurd (omega arith)
+      go (suc l) z = stopped-all t′ at s l f (told e)
 
   pub going-on : {o : Progress} {bytes′ : List ℕ} → ids′ ≡ ids → length bytes′ ≡ length bytes → length t′ ≡ length t → a ≡ nexts.On o → Going count t₀ bytes′ t′ ids′ counts′ (left - 1) o
   going-on {o} i l z e =
       let x = told e in
-      let n = next-bytes at s b (x .2) in
+      let n = next-bytes at s b (x .1) in
       record {
         long = l ∙ g .long;
         size = z ∙ g .size;
         ids-clear = i ∙ g .ids-clear;
-        counts-clear = x .4;
+        counts-clear = y at steps .1;
         reached = record {
           s = g .reached .s ++ n .bytes;
           bytes = bytes-append (g .reached .s) (n .bytes) (g .reached .bytes) (n .are-bytes);
-          v = x .1;
-          carries = x .3;
+          v = x .0 .0;
+          carries = x .2;
           number = omega (arith, g .reached .number, n .number);
-          same = λ rest. ap (countedFrom count (noRecords byOne)) (append-assoc (g .reached .s) (n .bytes) rest) ∙ g .reached .same (n .bytes ++ rest) ∙ go left h (x .1) n rest;
+          same = λ rest. ap (countedFrom count (noRecords byOne)) (append-assoc (g .reached .s) (n .bytes) rest) ∙ g .reached .same (n .bytes ++ rest) ∙ go left h (x .0 .0) n rest;
         };
       }
     where

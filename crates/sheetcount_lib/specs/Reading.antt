@@ -11,9 +11,10 @@ use Rattle.meter.specs.Streaming.{State, noRecords}
 use Rattle.meter.specs.Records.{clearTable}
 use Rattle.meter.specs.Progress.{Carries}
 use Rattle.meter.specs.SheetTold.{toldSheet}
-use Rattle.meter.specs.Program.{mostBlock, mostTally, countedFrom, sheetcountOf, Refuses}
+use Rattle.meter.specs.Program.{mostBlock, mostTally, countedFrom, sheetcountOf, nextFaulty}
 use Rattle.meter.specs.declared.sheet.SheetAnswer.{SheetAnswer}
 use Rattle.meter.specs.declared.stream.Progress.{Progress}
+use Rattle.meter.specs.declared.program.NextFault.{NextFault}
 use Rattle.sheetcount_lib.specs.declared.reading.BytesRead.{BytesRead}
 use Rattle.sheetcount_lib.specs.declared.reading.BytesRead.the-variants as bytesReads
 use Rattle.sheetcount_lib.specs.declared.reading.RecordsRead.{RecordsRead}
@@ -47,14 +48,14 @@ pub record Reached (count left : ℕ) (t : List ℕ) (q : Progress) : Type 0 whe
   pub same : (rest : List ℕ) → countedFrom count (noRecords byOne) (s ++ rest) ≡ countedFrom left v rest
 
 -- one is refused, in the bytes s
-pub record Stopped (count : ℕ) (r : SheetAnswer) : Type 0 where
+pub record Stopped (count : ℕ) (f : NextFault) : Type 0 where
   pub s : List ℕ
   pub bytes : Bytes s
-  pub refuses : Refuses r (countedFrom count (noRecords byOne) s)
+  pub refuses : countedFrom count (noRecords byOne) s ≡ nextFaulty f
 
 abbrev pub AllTold : ℕ → List ℕ → RecordsRead → Type 0
 AllTold count t (recordsReads.Taken q) = Reached count 0 t q
-AllTold count t (recordsReads.Refused r) = Stopped count r
+AllTold count t (recordsReads.Refused f) = Stopped count f
 AllTold count t recordsReads.Failed = Unit {0}
 
 -- ---- the whole

@@ -7,8 +7,10 @@ use meter::program::LengthRead;
 use meter::program::MOST_BLOCK;
 use meter::program::MOST_TALLY;
 use meter::program::Next;
+use meter::program::NextFault;
 use meter::program::block_length;
 use meter::program::end_sheet;
+use meter::program::stopped;
 use meter::program::take_next;
 use meter::records::BLOCK_AT;
 use meter::sheet::SheetAnswer;
@@ -84,7 +86,7 @@ fn read_record(input: i32, bytes: &mut [u8]) -> BytesRead
 // What came of reading records: how far the sheet was tallied then, or the refusal of one, or that a read failed.
 pub enum RecordsRead {
     Taken(Progress),
-    Refused(SheetAnswer),
+    Refused(NextFault),
     Failed,
 }
 
@@ -111,8 +113,8 @@ fn take_all(
             return RecordsRead::Failed;
         };
         match take_next(now, &bytes[..n], spare, ids, counts, places, scratch) {
-            Next::Stop(a) => {
-                return RecordsRead::Refused(a);
+            Next::Stop(f) => {
+                return RecordsRead::Refused(f);
             }
             Next::On(next) => {
                 now = next;
@@ -163,7 +165,7 @@ fn read_sheet(
     };
     match take_all(input, count, p, bytes, spare, ids, counts, places, scratch) {
         RecordsRead::Failed => SheetRead::Failed,
-        RecordsRead::Refused(a) => SheetRead::Answer(a),
+        RecordsRead::Refused(f) => SheetRead::Answer(stopped(f)),
         RecordsRead::Taken(q) => read_end(input, q, bytes, out, spare),
     }
 }

@@ -1,6 +1,6 @@
 -- The head of a tally, read and written.
 use Prim.Native.Nat.{ℕ, _+_, _≤_}
-use mathlib.Core.Path.{_≡_, refl, ap, sym, _∙_}
+use mathlib.Core.Path.{_≡_, refl, ap, _∙_}
 use mathlib.Core.Bool.{Bool, true, false, cond}
 use mathlib.Core.List.{List}
 use mathlib.Core.Option.{some, none}
@@ -10,25 +10,17 @@ use lib.ListN.{length, drop, length-drop}
 use lib.Seq.{drop-drop}
 use borrow.Author.Tests.{eqb-true, eqb-false, eq-eqb, ne-eqb}
 use Rattle.wire.specs.Choice.{same-test}
-use Rattle.wire.specs.Read.{Read, done, refused, onward, Misread, at-place}
+use Rattle.wire.specs.Read.{Read, done, refused, onward, found, found-done, found-none, Misread, at-place}
 use Rattle.wire.specs.Format.{items, ends-in, such, _⨾_, along, run}
 use Rattle.wire.specs.Formats.{number, u32, behind, listed, headLength, head}
 use Rattle.wire.specs.Store.{stored}
-use Rattle.wire.specs.Told.{short, HeadTold}
-use Rattle.wire.specs.declared.heads.HeadRead.{HeadRead}
-use Rattle.wire.specs.declared.heads.HeadRead.the-variants as heads
-use Rattle.wire.proofs.Steps.{number-told}
+use Rattle.wire.specs.Told.{short}
 use Rattle.wire.proofs.Joints.{listed-refused, listed-done}
 use Rattle.wire.proofs.Headed.{behindHead, headed-misread, headed-done}
 use Rattle.tally.specs.Rows.{Rows}
-use Rattle.tally.specs.Tally.{Malformed, malformed, tallyMark, headBytes, whole, row, tally, rowsOf, ones, one}
-use Rattle.tally.specs.Walks.{StatedRows}
+use Rattle.tally.specs.Tally.{Malformed, malformed, tallyMark, tallyHead, headBytes, whole, row, tally, rowsOf, ones, one}
 
 module _ (t : List ℕ) where
-  refused-none : Misread (tally one .read t) → rowsOf one t ≡ none
-  unfolding rowsOf
-  refused-none (at-place p h) = rw h
-
   -- rows told from the tally's first byte
   outward : headLength ≤ length t → (r : Read Malformed (Rows ones)) → whole t (behindHead (onward 4 (λ a. a) r)) ≡ whole (drop headLength t) r
   outward long (done l i) = ap (λ (b : Bool). cond b (some l) none) (same-test (eqb (3 + (2 + (4 + i))) (length t)) yes no)
@@ -42,19 +34,27 @@ module _ (t : List ℕ) where
           ne-eqb i (length (drop headLength t)) (λ z. p (omega (arith, length-drop headLength t, long)))
   outward long (refused x p) = refl
 
-  -- what the head states decides with the rows
-  pub stated : (r : HeadRead) → HeadTold short tallyMark t r → StatedRows t r
+  -- of a head that states n rows they decide
+  pub stated : {n : ℕ} → some (n, headLength) ≡ found (tallyHead .read t)
+      → (headLength ≤ length t) × (rowsOf one t ≡ whole (drop headLength t) (items (row one) n .read (drop headLength t)))
   unfolding rowsOf tally
-  stated (heads.Number n) h =
-      let x = headed-done tallyMark refl 1 t short malformed u32 (listed 4 (row one)) h in
-      let e : u32 {ends = malformed} .read (drop 5 t) ≡ done n 4 = number-told malformed 4 (drop 5 t) (sym (x .0)) in
+  stated {n} h =
+      let x = headed-done tallyMark refl 1 t malformed malformed u32 (listed 4 (row one)) (found-done (tallyHead .read t) h) in
+      let e : u32 {ends = malformed} .read (drop 5 t) ≡ done n 4 = x .0 in
       let long : headLength ≤ length t = omega (arith, ends-in (u32 {ends = malformed}) e, length-drop 5 t) in
       let rows : listed 4 (row one) .read (drop 5 t) ≡ onward 4 (λ l. l) (items (row one) n .read (drop headLength t)) = listed-done 4 (row one) (drop 5 t) e ∙ rw (drop-drop 4 5 t) in
       (long, ap (whole t) (x .1 ∙ ap behindHead rows) ∙ outward long (items (row one) n .read (drop headLength t)))
-  stated heads.Malformed h =
-      refused-none
-      (headed-misread tallyMark refl 1 t short malformed u32 (listed 4 (row one))
-      (λ x p i. at-place p (listed-refused 4 (row one) (drop 5 t) (number-told malformed 4 (drop 5 t) (sym i)))) h)
+
+  -- with no head it is no tally
+  pub unstated : none ≡ found (tallyHead .read t) → rowsOf one t ≡ none
+  unfolding rowsOf tally
+  unstated h =
+      go
+      (headed-misread tallyMark refl 1 t malformed malformed u32 (listed 4 (row one))
+      (λ x p i. at-place p (listed-refused 4 (row one) (drop 5 t) i)) (found-none (tallyHead .read t) h))
+    where
+      go : Misread (tally one .read t) → whole t (tally one .read t) ≡ none
+      go (at-place p i) = rw i
 
 -- ---- written
 pub head-put : (n : ℕ) (d : List ℕ) {a : List ℕ} → a ≡ stored 0 (head {ends = short} tallyMark .encode n) d → a ≡ stored 0 (headBytes one n) d

@@ -12,8 +12,9 @@ use borrow.Author.Tests.{leb-true, le-leb}
 use Rattle.wire.specs.Bytes.{spell, spell-length}
 use Rattle.wire.specs.Order.{order, isBefore}
 use Rattle.wire.specs.Read.{Read, done, refused}
+pub use Rattle.wire.specs.Read.{found}
 use Rattle.wire.specs.Format.{Format, such, run, along}
-use Rattle.wire.specs.Formats.{_▹_, u64, number, counted, listed, headed, into, Shape}
+use Rattle.wire.specs.Formats.{_▹_, u64, number, counted, listed, headed, head, into, Shape}
 use Rattle.tally.specs.Rows.{Counts, Row, Rows, isName}
 
 -- The one fault of a tally: document 01 gives 13 no offset and tells no two of them apart.
@@ -39,6 +40,10 @@ pub record Kind : Type 1 where
 abbrev pub tallyMark : List ℕ  -- TLY
 tallyMark = 84 ∷ 76 ∷ 89 ∷ []
 
+-- the head of version 1, which tells the number of rows
+abbrev pub tallyHead : Form ℕ
+tallyHead = head tallyMark
+
 abbrev pub mostRows : ℕ  -- 2^32-1
 mostRows = 4294967295
 
@@ -55,12 +60,7 @@ rowParts {C} = record {
   back = λ a. refl;
 }
 
--- what reading found, with its end, whatever the fault
-abbrev pub found : {A : Type 0} → Read Malformed A → Option (A × ℕ)
-found (done a n) = some (a, n)
-found (refused e p) = none
-
--- the same where it ends with the bytes
+-- what was read, where it ends with the bytes
 abbrev pub whole : {A : Type 0} → List ℕ → Read Malformed A → Option A
 whole s (done a n) = cond (eqb n (length s)) (some a) none
 whole s (refused e p) = none

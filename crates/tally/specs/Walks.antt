@@ -1,18 +1,13 @@
 -- Bytes that are rows, as the functions of this crate walk them.
-use Prim.Native.Nat.{ℕ, _≤_}
+use Prim.Native.Nat.{ℕ}
 use mathlib.Core.Path.{_≡_}
 use mathlib.Core.Bool.{Bool, true, false, cond}
 use mathlib.Core.List.{List, [], _∷_, _++_}
 use mathlib.Core.Option.{Option, some, none}
-use lib.ListN.{length, drop}
 use Rattle.wire.specs.Order.{order, isBefore}
-use Rattle.wire.specs.Format.{items}
 use Rattle.wire.specs.Store.{stored}
-use Rattle.wire.specs.Formats.{headLength}
-use Rattle.wire.specs.declared.heads.HeadRead.{HeadRead}
-use Rattle.wire.specs.declared.heads.HeadRead.the-variants as heads
 use Rattle.tally.specs.Rows.{Row, Canonical, isName}
-use Rattle.tally.specs.Tally.{Form, Kind, KindRows, whole, fields, row, rowsOf, limited, one}
+use Rattle.tally.specs.Tally.{Form, Kind, KindRows, whole, fields, limited, one}
 
 -- a name after the last one, unless it is the first
 abbrev pub mayFollow : Bool → List ℕ → List ℕ → Bool
@@ -25,11 +20,6 @@ isSome none = false
 
 abbrev pub takes : {A : Type 0} → Form A → List ℕ → Bool
 takes f s = isSome (whole s (f .read s))
-
--- a head that states n rows, and then they decide; or none
-abbrev pub StatedRows : List ℕ → HeadRead → Type 0
-StatedRows t (heads.Number n) = (headLength ≤ length t) × (rowsOf one t ≡ whole (drop headLength t) (items (row one) n .read (drop headLength t)))
-StatedRows t heads.Malformed = rowsOf one t ≡ none
 
 module _ (k : Kind) where
   abbrev pub rowsBytes : KindRows k → List ℕ

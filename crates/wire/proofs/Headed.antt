@@ -10,14 +10,12 @@ use lib.Seq.{drop-drop}
 use borrow.Author.Tests.{leb-true, leb-false, eqb-true, eqb-false}
 use Rattle.wire.specs.Bytes.{spell, spelt}
 use Rattle.wire.specs.Marks.{starts}
-use Rattle.wire.specs.Read.{Read, done, refused, onward, never, Misread, at-place}
+use Rattle.wire.specs.Read.{Read, done, refused, onward, found, never, found-is, Misread, at-place}
 use Rattle.wire.specs.Format.{Format, such, _⨾_, along, run}
 use Rattle.wire.specs.Formats.{number, u16, u32, fixed, behind, headed, headLength, head}
 use Rattle.wire.specs.Store.{stored, PutAt}
-use Rattle.wire.specs.Told.{short, toldU16, HeadTold}
+use Rattle.wire.specs.Told.{short, toldU16}
 use Rattle.wire.specs.declared.fields.U16.the-variants as u16s
-use Rattle.wire.specs.declared.heads.HeadRead.{HeadRead}
-use Rattle.wire.specs.declared.heads.HeadRead.the-variants as heads
 use Rattle.wire.proofs.Steps.{mark-done, mark-fails, mark-ends, number-done, number-ends, number-told}
 use Rattle.wire.proofs.Fixed.{fixed-on, fixed-other, fixed-refused}
 use Rattle.wire.proofs.Laid.{stored-fits, stored-not}
@@ -99,12 +97,18 @@ module _ (m : List ℕ) (three : length m ≡ 3) (v : ℕ) (s : List ℕ) where
         go (astray q k) = never (sym (k E A e f) ∙ h)
         go (opens k) = (behind-done (f .read (drop 5 s)) a n (sym (k E A e f) ∙ h), k F B d g)
 
--- ---- the same of the whole head, with the fault that its caller gives
-pub head-told : (m : List ℕ) → length m ≡ 3 → (s : List ℕ) {E : Type 0} (e : E) (r : HeadRead) → HeadTold short m s r → HeadTold e m s r
-head-told m three s e (heads.Number n) h =
-    let x = headed-done m three 1 s short e u32 u32 h in
-    x .1 ∙ ap behindHead (number-told e 4 (drop 5 s) (sym (x .0)))
-head-told m three s e heads.Malformed h = headed-misread m three 1 s short e u32 u32 (λ x p i. at-place p (number-told e 4 (drop 5 s) (sym i))) h
+-- ---- of the whole head the same is found, whatever the fault
+module _ (m : List ℕ) (three : length m ≡ 3) (s : List ℕ) {E F : Type 0} (e : E) (d : F) where
+  pub head-found : found (head {ends = e} m .read s) ≡ found (head {ends = d} m .read s)
+  head-found = go (opening m three 1 s)
+    where
+      number : (b : Bool) → leb 4 (length (drop 5 s)) ≡ b → found (behindHead (u32 {ends = e} .read (drop 5 s))) ≡ found (behindHead (u32 {ends = d} .read (drop 5 s)))
+      number true h = rw (number-done e 4 (drop 5 s) (leb-true _ _ h), number-done d 4 (drop 5 s) (leb-true _ _ h))
+      number false h = rw (number-ends e 4 (drop 5 s) (leb-false _ _ h), number-ends d 4 (drop 5 s) (leb-false _ _ h))
+
+      go : Opening m 1 s → found (head {ends = e} m .read s) ≡ found (head {ends = d} m .read s)
+      go (astray p k) = ap found (k E ℕ e u32) ∙ found-is (k F ℕ d u32)
+      go (opens k) = ap found (k E ℕ e u32) ∙ number (leb 4 (length (drop 5 s))) refl ∙ found-is (k F ℕ d u32)
 
 -- ---- written
 module _ (m : List ℕ) (three : length m ≡ 3) (n : ℕ) (d : List ℕ) where

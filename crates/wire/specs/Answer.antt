@@ -1,6 +1,6 @@
 -- What a call comes back with: document 01, 'The numbers a call comes back with'.
 use Prim.Native.Nat.{ℕ, _<_, _≤_}
-use mathlib.Core.Path.{_≡_, refl}
+use mathlib.Core.Path.{_≡_, refl, subst⁻¹}
 use mathlib.Core.List.{List, [], _++_}
 use mathlib.Core.Bool.{Bool, true, false, cond}
 use native.Mathlib.Omega.{arith}
@@ -40,6 +40,12 @@ lent (refusal n r o) before = before
 -- what a call answers that puts x into a lent buffer, and what the buffer then holds
 abbrev pub Answered : Answer ℕ → List ℕ → List ℕ → Answer (List ℕ) → Type 0
 Answered a before after x = (a ≡ mapAnswer length x) × (after ≡ lent x before)
+
+-- An answer of the code, with what it gives in the code's own terms, and that of the definitions: both are good and what they give is related,
+-- or both are the same refusal.
+abbrev pub Matches : {A B : Type 0} → (A → B → Type 0) → Answer A → Answer B → Type 0
+Matches R (good a) b = (x : _) × (b ≡ good x) × R a x
+Matches R (refusal n r o) b = b ≡ refusal n r o
 
 -- ---- the table
 abbrev pub endsInside : ℕ  -- bytes end inside a field, or an inventory has no end line
@@ -113,6 +119,11 @@ then-good (refusal n r o) f b h = no-good h
 pub map-good : {A B : Type 0} (f : A → B) (a : Answer A) (b : B) → mapAnswer f a ≡ good b → (x : A) × (a ≡ good x) × (f x ≡ b)
 map-good f (good x) b h = (x, refl, (cc))
 map-good f (refusal n r o) b h = no-good h
+
+-- by the code's terms for what the definitions give
+pub matches-map : {A B : Type 0} (R : A → B → Type 0) (f : B → A) (b : Answer B) {a : Answer A} → a ≡ mapAnswer f b → ((x : B) → b ≡ good x → R (f x) x) → Matches R a b
+matches-map R f (good x) e k = subst⁻¹ (λ a. Matches R a (good x)) e (x, refl, k x refl)
+matches-map R f (refusal n r o) e k = subst⁻¹ (λ a. Matches R a (refusal n r o)) e refl
 
 pub room-good : (room : ℕ) (x y : List ℕ) → inRoom room x ≡ good y → (length x ≤ room) × (x ≡ y)
 room-good room x y e = let h = answered (leb (length x) room) noRoom x y e in (leb-true (length x) room (h .0), h .1)

@@ -1,9 +1,10 @@
 -- What reading from the front of a list finds: a value and how many bytes it took, or a fault and its place. Document 01, 'The numbers a call
 -- comes back with': "A refusal says which fault it was, and where".
 use Prim.Native.Nat.{ℕ, zero-le, _+_, _≤_}
-use mathlib.Core.Path.{_≡_, refl, sym}
+use mathlib.Core.Path.{_≡_, refl, sym, ap}
 use mathlib.Core.List.{List}
 use mathlib.Core.Bool.{Bool, true, false, cond}
+use mathlib.Core.Option.{Option, some, none}
 use native.Mathlib.Omega.{arith}
 use lib.ListN.{length, drop, length-drop}
 
@@ -36,6 +37,11 @@ abbrev pub blaming : {E F A : Type 0} → F → Read E A → Read F A
 blaming f (done a n) = done a n
 blaming f (refused e p) = refused f p
 
+-- what was read and where it ends; nothing where it was refused, whatever the fault and its place
+abbrev pub found : {E A : Type 0} → Read E A → Option (A × ℕ)
+found (done a n) = some (a, n)
+found (refused e p) = none
+
 -- refused, whatever the fault and its place
 pub data Misread {E A : Type 0} (r : Read E A) : Type 0 where
   at-place : {e : E} (p : ℕ) → r ≡ refused e p → Misread r
@@ -47,6 +53,17 @@ never h = let z : _≡_ {A = ℕ} 0 1 = cc in absurd (omega arith)
 -- a refusal is the same whatever was to be read
 pub same-refusal : {E A B : Type 0} {e k : E} {p q : ℕ} → _≡_ {A = Read E A} (refused e p) (refused k q) → _≡_ {A = Read E B} (refused e p) (refused k q)
 same-refusal {e = e} {k = k} {p = p} {q = q} h = let x : e ≡ k = cc in let y : p ≡ q = cc in rw (x, y)
+
+pub found-is : {E A : Type 0} {r q : Read E A} → r ≡ q → found q ≡ found r
+found-is h = sym (ap found h)
+
+pub found-done : {E A : Type 0} (r : Read E A) {a : A} {n : ℕ} → some (a, n) ≡ found r → r ≡ done a n
+found-done {A = A} (done b m) {a = a} {n = n} h = ap (λ (y : A × ℕ). done (y .0) (y .1)) (let x : _≡_ {A = A × ℕ} (b, m) (a, n) = cc in x)
+found-done (refused e p) h = let z : _≡_ {A = ℕ} 0 1 = cc in absurd (omega arith)
+
+pub found-none : {E A : Type 0} (r : Read E A) → none ≡ found r → Misread r
+found-none (done b m) h = let z : _≡_ {A = ℕ} 0 1 = cc in absurd (omega arith)
+found-none (refused e p) h = at-place p refl
 
 pub bind-done : {E A B : Type 0} (r : Read E A) (f : A → ℕ → Read E B) (b : B) (m : ℕ) → bind r f ≡ done b m
     → (a : A) × (n : ℕ) × (r ≡ done a n) × (f a n ≡ done b m)

@@ -3,10 +3,11 @@
 use Prim.Native.Nat.{ℕ, _+_, _^_, _<_}
 use mathlib.Core.Path.{_≡_}
 use mathlib.Core.List.{List}
+use mathlib.Core.Option.{Option, some, none}
 use lib.IntN.{ℤ}
 use lib.ListN.{take, drop}
-use Rattle.wire.specs.Read.{Read, done, refused, Misread}
-use Rattle.wire.specs.Formats.{number, headLength, head}
+use Rattle.wire.specs.Read.{Read, done, refused}
+use Rattle.wire.specs.Formats.{number, headLength}
 use Rattle.wire.specs.declared.fields.U8.{U8}
 use Rattle.wire.specs.declared.fields.U8.the-variants as u8
 use Rattle.wire.specs.declared.fields.U16.{U16}
@@ -69,7 +70,7 @@ pub record NumberAt (k : ℕ) (s : List ℕ) (r : U64) : Type 0 where
   pub told : toldNumber k r ≡ number {ends = short} k .read s
   pub below : Below k r
 
--- the number that a head with the mark m states; of what is no head no place is told
-abbrev pub HeadTold : {E : Type 0} → E → List ℕ → List ℕ → HeadRead → Type 0
-HeadTold e m s (heads.Number n) = head {ends = e} m .read s ≡ done n headLength
-HeadTold e m s heads.Malformed = Misread (head {ends = e} m .read s)
+-- the number that a head states and where the head ends; of what is no head no place is told
+abbrev pub toldHead : HeadRead → Option (ℕ × ℕ)
+toldHead (heads.Number n) = some (n, headLength)
+toldHead heads.Malformed = none

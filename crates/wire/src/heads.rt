@@ -8,9 +8,10 @@ use crate::store::put_bytes;
 use crate::store::put_u16;
 use crate::store::put_u32;
 ghost use mathlib.Core.Path.{_≡_};
+ghost use Rattle.wire.specs.Read.{found};
 ghost use Rattle.wire.specs.Formats.{head};
 ghost use Rattle.wire.specs.Store.{stored};
-ghost use Rattle.wire.specs.Told.{short, HeadTold};
+ghost use Rattle.wire.specs.Told.{short, toldHead};
 
 pub const VERSION: u16 = 1;
 
@@ -21,7 +22,7 @@ pub const NUMBER_AT: usize = 5;
 
 pub const HEAD: usize = 9;
 
-// The number that a head states.
+// The number that a head states, or that there is no head.
 pub enum HeadRead {
     Number(u32),
     Malformed,
@@ -29,7 +30,7 @@ pub enum HeadRead {
 
 // The number that the head with this mark states.
 pub fn read_head(s: &[u8], mark: &[u8; 3]) -> HeadRead
-    ensures { λ r. ⌜ HeadTold short (now (mark .entry)) (now (s .entry)) r ⌝ }
+    ensures { λ r. ⌜ toldHead r ≡ found (head {ends = short} (now (mark .entry)) .read (now (s .entry))) ⌝ }
 {
     if !mark_at(s, 0, mark) {
         return HeadRead::Malformed;

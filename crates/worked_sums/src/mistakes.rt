@@ -52,7 +52,7 @@ fn one_block(asked: &[u8], head: Head, nodes: Nodes, names: &[u8], span: Span, e
     let mut block = [0u8; ROOM];
     let mut out = [0u8; 256];
     let n = put_block(head, nodes, names, &mut block);
-    let answer = anow_tally_block(0, front(&block, n), Lot::whole_world(), span, &mut out);
+    let answer = anow_tally_block(0, front(&block, n), Lot::WORLD, span, &mut out);
     say_tally(asked, answer, &out, expected);
 }
 
@@ -81,7 +81,7 @@ fn ids_and_names() {
             first_param2: 0,
         },
         b"\x00\x00\x00\x03air\x00\x01\x00\x03air",
-        Span::all_time(),
+        Span::ALL_TIME,
         b"TLY 1 rows 1\n4096 air\n",
     );
 }
@@ -97,7 +97,7 @@ fn ids_of_23() {
             first_param2: 16,
         },
         b"\x00\x80\x00\x03air\x08\x00\x00\x05stone\x08\x01\x00\x04dirt",
-        Span::all_time(),
+        Span::ALL_TIME,
         b"TLY 1 rows 2\n1 dirt\n4095 stone\n",
     );
 }

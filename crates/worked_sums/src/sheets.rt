@@ -40,8 +40,8 @@ pub(crate) fn tally_two(key: i64, next: i64, names: &[u8], out: &mut [u8]) -> An
     let end = put_record(&mut sheet, middle, next, names);
     anow_tally_sheet(
         front(&sheet, end),
-        Lot::whole_world(),
-        Span::all_time(),
+        Lot::WORLD,
+        Span::ALL_TIME,
         out,
         &mut spare,
     )

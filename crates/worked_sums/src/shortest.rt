@@ -36,8 +36,8 @@ fn is_answer(answer: AnowAnswer, number: u32, place: usize) -> bool {
 fn full_tally(block: &[u8]) {
     let mut out = [0u8; 64];
     let mut small = [0u8; 21];
-    let told = anow_tally_block(0, block, Lot::whole_world(), Span::all_time(), &mut out);
-    let refused = anow_tally_block(0, block, Lot::whole_world(), Span::all_time(), &mut small);
+    let told = anow_tally_block(0, block, Lot::WORLD, Span::ALL_TIME, &mut out);
+    let refused = anow_tally_block(0, block, Lot::WORLD, Span::ALL_TIME, &mut small);
     let tally = front(&out, told.length as usize);
     let expected =
         b"\x54\x4C\x59\x00\x01\x00\x00\x00\x01\x00\x03\x61\x69\x72\x00\x00\x00\x00\x00\x00\x10\x00";

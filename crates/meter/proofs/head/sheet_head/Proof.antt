@@ -1,6 +1,7 @@
-use mathlib.Core.Path.{refl}
+use mathlib.Core.Path.{refl, _∙_}
 use denote.Ref.{now}
-use Rattle.wire.proofs.Headed.{head-told}
+use Rattle.wire.specs.Told.{short}
+use Rattle.wire.proofs.Headed.{head-found}
 use Rattle.meter.specs.Sheet.{misframed, sheetMark}
 use borrow.Author.Needs.{needs}
 use Rattle.meter.proofs.head.sheet_head.Statement.{statement}
@@ -10,7 +11,7 @@ read-head-requires : tie.Need-read-head-requires
 read-head-requires c κs = search needs
 
 returns : tie.Need-returns
-returns c = head-told sheetMark refl (now (c .before .before .before .args .s)) misframed (c .read-head .result) (c .read-head .ensures)
+returns c = c .read-head .ensures ∙ head-found sheetMark refl (now (c .before .before .before .args .s)) short misframed
 
 pub sheet-head-spec : {M : Type 1} → statement M
 sheet-head-spec = tie.close (tie.spec read-head-requires returns)

@@ -5,7 +5,6 @@ use mathlib.Core.List.{List}
 use denote.Ref.{now}
 use Rattle.wire.proofs.Steps.{told-as}
 use Rattle.meter.specs.Program.{toldLength}
-use Rattle.meter.specs.declared.sheet.SheetAnswer.the-variants as sheets
 use Rattle.meter.proofs.Nexts.{next-stops, next-misframed, next-refused, next-taken}
 use Rattle.meter.proofs.program.take_next.Statement.{statement}
 use Rattle.meter.proofs.program.take_next.Tie as tie
@@ -15,7 +14,7 @@ abbrev bytes : tie.After-block-length → List ℕ
 bytes b = now (b .before .before .before .args .s)
 
 abbrev sized : tie.After-take-record → tie.After-block-length
-sized x = x .before .before .before .before .before .before .before .before .before .before
+sized x = x .before .before .before .before .before .before .before .before
 
 block-length-requires : tie.Need-block-length-requires
 block-length-requires c κs = search needs
@@ -28,12 +27,6 @@ enum-told-2 c = search needs
 
 enum-told-3 : tie.Need-enum-told-3
 enum-told-3 c = search needs
-
-whole-world-requires : tie.Need-whole-world-requires
-whole-world-requires c κs = search needs
-
-all-time-requires : tie.Need-all-time-requires
-all-time-requires c κs = search needs
 
 take-record-requires : tie.Need-take-record-requires
 take-record-requires c κs = search needs
@@ -50,12 +43,12 @@ enum-known-next c = search needs
 returns : tie.Need-returns
 returns c =
     let b = c .before .before in
-    (refl, (refl, λ w k. next-stops w (bytes b) 15 (sheets.Malformed (b .before .before .before .args .p .records)) k refl (told-as (toldLength (w .records)) (b .block-length .ensures (w .records)) (c .enum-told .given .1))))
+    (refl, (refl, λ w k. next-stops w (bytes b) 15 k (told-as (toldLength (w .records)) (b .block-length .ensures (w .records)) (c .enum-told .given .1))))
 
 returns-2 : tie.Need-returns-2
 returns-2 c =
     let b = c .before .before in
-    (refl, (refl, λ w k. next-stops w (bytes b) 11 (sheets.NoRoom (b .before .before .before .args .p .records)) k refl (told-as (toldLength (w .records)) (b .block-length .ensures (w .records)) (c .enum-told2 .given .1))))
+    (refl, (refl, λ w k. next-stops w (bytes b) 11 k (told-as (toldLength (w .records)) (b .block-length .ensures (w .records)) (c .enum-told2 .given .1))))
 
 same-length : tie.Need-same-length
 same-length c = search needs
@@ -64,7 +57,7 @@ returns-3 : tie.Need-returns-3
 returns-3 c =
     let x = c .before .before .before .before .before in
     let b = sized x in
-    (x .take-record .ensures .0, (x .take-record .ensures .1 .0, λ w k. next-misframed w (bytes b) _ (told-as (toldLength (w .records)) (b .block-length .ensures (w .records)) (x .before .before .before .before .before .before .before .before .enum-told3 .given .1)) _ _ (x .before .before .before .before .before .before .before .whole-world .ensures) (x .before .before .before .before .before .before .all-time .ensures) (x .take-record .last .1 .1 .1 .1 .1 .1 .0) (x .take-record .last .1 .1 .1 .1 .0) (x .take-record .result) (x .take-record .ensures .1 .1 .1 w k) (c .before .i .given .1)))
+    (x .take-record .ensures .0, (x .take-record .ensures .1 .0, λ w k. next-misframed w (bytes b) _ (told-as (toldLength (w .records)) (b .block-length .ensures (w .records)) (x .before .before .before .before .before .before .enum-told3 .given .1)) (x .take-record .last .1 .1 .1 .1 .1 .1 .0) (x .take-record .last .1 .1 .1 .1 .0) (x .take-record .result) (x .take-record .ensures .1 .1 .1 w k) (c .before .i .given .1)))
 
 same-length-2 : tie.Need-same-length-2
 same-length-2 c = search needs
@@ -73,7 +66,7 @@ returns-4 : tie.Need-returns-4
 returns-4 c =
     let x = c .before .before .before .before .before in
     let b = sized x in
-    (x .take-record .ensures .0, (x .take-record .ensures .1 .0, λ w k. next-refused w (bytes b) _ (told-as (toldLength (w .records)) (b .block-length .ensures (w .records)) (x .before .before .before .before .before .before .before .before .enum-told3 .given .1)) _ _ (x .before .before .before .before .before .before .before .whole-world .ensures) (x .before .before .before .before .before .before .all-time .ensures) (x .take-record .last .1 .1 .1 .1 .1 .1 .0) (x .take-record .last .1 .1 .1 .1 .0) (x .take-record .result) (x .take-record .ensures .1 .1 .1 w k) (c .before .f .given .1)))
+    (x .take-record .ensures .0, (x .take-record .ensures .1 .0, λ w k. next-refused w (bytes b) _ (told-as (toldLength (w .records)) (b .block-length .ensures (w .records)) (x .before .before .before .before .before .before .enum-told3 .given .1)) (x .take-record .last .1 .1 .1 .1 .1 .1 .0) (x .take-record .last .1 .1 .1 .1 .0) (x .take-record .result) (x .take-record .ensures .1 .1 .1 w k) (c .before .f .given .1)))
 
 same-length-3 : tie.Need-same-length-3
 same-length-3 c = search needs
@@ -82,7 +75,7 @@ returns-5 : tie.Need-returns-5
 returns-5 c =
     let x = c .before .before .before .before .before in
     let b = sized x in
-    (x .take-record .ensures .0, (x .take-record .ensures .1 .0, λ w k. next-taken w (bytes b) _ (told-as (toldLength (w .records)) (b .block-length .ensures (w .records)) (x .before .before .before .before .before .before .before .before .enum-told3 .given .1)) _ _ (x .before .before .before .before .before .before .before .whole-world .ensures) (x .before .before .before .before .before .before .all-time .ensures) (x .take-record .last .1 .1 .1 .1 .1 .1 .0) (x .take-record .last .1 .1 .1 .1 .0) (x .take-record .result) (x .take-record .ensures .1 .1 .1 w k) (c .before .next .given .1)))
+    (x .take-record .ensures .0, (x .take-record .ensures .1 .0, λ w k. next-taken w (bytes b) _ (told-as (toldLength (w .records)) (b .block-length .ensures (w .records)) (x .before .before .before .before .before .before .enum-told3 .given .1)) (x .take-record .last .1 .1 .1 .1 .1 .1 .0) (x .take-record .last .1 .1 .1 .1 .0) (x .take-record .result) (x .take-record .ensures .1 .1 .1 w k) (c .before .next .given .1)))
 
 pub take-next-spec : {M : Type 1} → statement M
 take-next-spec =
@@ -92,8 +85,6 @@ take-next-spec =
     enum-told
     enum-told-2
     enum-told-3
-    whole-world-requires
-    all-time-requires
     take-record-requires
     enum-known-i
     enum-known-f

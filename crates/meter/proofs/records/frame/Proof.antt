@@ -1,7 +1,7 @@
 use mir.Syntax.{w64}
 use mir.ValLaws.{toZ-ofZ}
 use Rattle.wire.specs.Told.{toldS64, toldCounted}
-use Rattle.wire.specs.Read.{at-place}
+use Rattle.wire.specs.Read.{found-is}
 use Rattle.wire.proofs.Steps.{told-as}
 use Rattle.meter.proofs.Steps.{frame-short-key, frame-short-block, frame-read}
 use borrow.Author.Needs.{needs}
@@ -18,7 +18,7 @@ enum-told : tie.Need-enum-told
 enum-told c = search needs
 
 returns : tie.Need-returns
-returns c = at-place _ (frame-short-key _ (told-as toldS64 (c .before .before .s64-at .ensures) (c .enum-told .given .1)))
+returns c = found-is (frame-short-key _ (told-as toldS64 (c .before .before .s64-at .ensures) (c .enum-told .given .1)))
 
 counted32-at-requires : tie.Need-counted32-at-requires
 counted32-at-requires c κs = search needs
@@ -30,12 +30,12 @@ enum-known-n : tie.Need-enum-known-n
 enum-known-n c = search needs
 
 returns-2 : tie.Need-returns-2
-returns-2 c = at-place _ (frame-short-block _ (told-as toldS64 (c .before .before .before .before .before .before .s64-at .ensures) (c .before .before .before .before .key .given .1)) (told-as (toldCounted 4 _) (c .before .before .counted32-at .ensures) (c .enum-told2 .given .1)))
+returns-2 c = found-is (frame-short-block _ (told-as toldS64 (c .before .before .before .before .before .before .s64-at .ensures) (c .before .before .before .before .key .given .1)) (told-as (toldCounted 4 _) (c .before .before .counted32-at .ensures) (c .enum-told2 .given .1)))
 
 returns-3 : tie.Need-returns-3
 returns-3 c =
     rw (toZ-ofZ w64 _ (record { sfits = c .before .before .before .before .known-told .given .0 .1 }))
-    (frame-read _ (c .before .n .given .0 .0) (told-as toldS64 (c .before .before .before .before .before .before .before .s64-at .ensures) (c .before .before .before .before .before .key .given .1)) (told-as (toldCounted 4 _) (c .before .before .before .counted32-at .ensures) (c .before .n .given .1)))
+    (found-is (frame-read _ (c .before .n .given .0 .0) (told-as toldS64 (c .before .before .before .before .before .before .before .s64-at .ensures) (c .before .before .before .before .before .key .given .1)) (told-as (toldCounted 4 _) (c .before .before .before .counted32-at .ensures) (c .before .n .given .1))))
 
 pub frame-spec : {M : Type 1} → statement M
 frame-spec =

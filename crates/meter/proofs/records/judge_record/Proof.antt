@@ -29,13 +29,13 @@ enum-told : tie.Need-enum-told
 enum-told c = search needs
 
 returns : tie.Need-returns
-returns c = (refl, λ _. judged-astray _ (recordOf _ _) (told-as toldSplit (told (c .before .before)) (c .enum-told .given .1)))
+returns c = (refl, judged-astray _ _ (recordOf _ _) (told-as toldSplit (told (c .before .before)) (c .enum-told .given .1)))
 
 is-rising-requires : tie.Need-is-rising-requires
 is-rising-requires c κs = search needs
 
 returns-2 : tie.Need-returns-2
-returns-2 c = (refl, λ _. judged-falling _ (recordOf _ _) (told-as toldSplit (told (c .before .before .before .before .before)) (c .before .before .before .at .given .1)) (sym (rising (c .before)) ∙ not-true _ (c .if1 .taken)))
+returns-2 c = (refl, judged-falling _ _ (recordOf _ _) (told-as toldSplit (told (c .before .before .before .before .before)) (c .before .before .before .at .given .1)) (sym (rising (c .before)) ∙ not-true _ (c .if1 .taken)))
 
 scan-requires : tie.Need-scan-requires
 scan-requires c κs = search needs
@@ -47,10 +47,10 @@ enum-known-found : tie.Need-enum-known-found
 enum-known-found c = search needs
 
 returns-3 : tie.Need-returns-3
-returns-3 c = (c .before .before .before .scan .ensures .1, λ e. judged-refused _ (recordOf _ _) _ e (told-as toldSplit (told (c .before .before .before .before .before .before .before .before .before .before)) (c .before .before .before .before .before .before .before .before .at .given .1)) (sym (rising (c .before .before .before .before .before .before)) ∙ not-false _ (c .before .before .before .before .before .if1 .left)) (told-as toldScan (c .before .before .before .scan .ensures .0) (c .before .f .given .1)))
+returns-3 c = (c .before .before .before .scan .ensures .1, judged-refused _ _ (recordOf _ _) (told-as toldSplit (told (c .before .before .before .before .before .before .before .before .before .before)) (c .before .before .before .before .before .before .before .before .at .given .1)) (sym (rising (c .before .before .before .before .before .before)) ∙ not-false _ (c .before .before .before .before .before .if1 .left)) (told-as toldScan (c .before .before .before .scan .ensures .0) (c .before .f .given .1)))
 
 returns-4 : tie.Need-returns-4
-returns-4 c = (c .before .before .before .scan .ensures .1, λ e. judged-taken _ (recordOf _ _) _ e (told-as toldSplit (told (c .before .before .before .before .before .before .before .before .before .before)) (c .before .before .before .before .before .before .before .before .at .given .1)) (sym (rising (c .before .before .before .before .before .before)) ∙ not-false _ (c .before .before .before .before .before .if1 .left)) (λ i. c .before .before .before .before .before .before .before .before .before .before .before .shared-slice-known .given i .fits) (told-as toldScan (c .before .before .before .scan .ensures .0) (c .before .found .given .1)))
+returns-4 c = (c .before .before .before .scan .ensures .1, judged-taken _ _ (recordOf _ _) (told-as toldSplit (told (c .before .before .before .before .before .before .before .before .before .before)) (c .before .before .before .before .before .before .before .before .at .given .1)) (sym (rising (c .before .before .before .before .before .before)) ∙ not-false _ (c .before .before .before .before .before .if1 .left)) (told-as toldScan (c .before .before .before .scan .ensures .0) (c .before .found .given .1)))
 
 pub judge-record-spec : {M : Type 1} → statement M
 judge-record-spec =

@@ -1,20 +1,21 @@
 use Prim.Native.Nat.{ℕ}
-use mathlib.Core.Path.{_≡_, refl, subst}
+use mathlib.Core.Path.{_≡_, refl, ap, subst}
 use mathlib.Core.List.{List}
 use native.Mathlib.Omega.{arith}
 use lib.ListN.{drop}
 use denote.Ref.{now}
 use Rattle.wire.specs.Lists.{rest-is}
-use Rattle.wire.specs.Read.{done}
+use Rattle.wire.specs.Read.{done, found-done, found-none}
 use Rattle.wire.specs.Format.{ends-in}
-use Rattle.wire.specs.Told.{HeadTold}
+use Rattle.wire.specs.Told.{toldHead}
+use Rattle.wire.proofs.Steps.{told-as}
 use Rattle.meter.specs.Counting.{byOne}
-use Rattle.meter.specs.Sheet.{misframed, sheetMark, sheetHead}
+use Rattle.meter.specs.Sheet.{sheetHead}
 use Rattle.meter.specs.Streaming.{noRecords}
 use Rattle.meter.specs.Records.{clearTable}
 use Rattle.meter.specs.Adding.{part}
 use Rattle.meter.specs.Progress.{Carries}
-use Rattle.meter.specs.SheetTold.{RecordsTold}
+use Rattle.meter.specs.SheetTold.{toldRecords, AnswersFrom}
 use Rattle.meter.specs.declared.sheet.Records.{Records}
 use Rattle.meter.proofs.SheetPuts.{put-headless, head-number, put-refused, put-finished}
 use borrow.Author.Needs.{needs}
@@ -23,13 +24,13 @@ use Rattle.meter.proofs.sheet.from_start.Tie as tie
 
 -- the head, and what was told of the records behind it
 headed : (c : tie.After-known-told) → sheetHead .read (now (c .before .before .before .before .before .before .before .args .sheet)) ≡ done (c .before .count .given .0 .0) 9
-headed c = subst (HeadTold misframed sheetMark (now (c .before .before .before .before .before .before .before .args .sheet))) (c .before .count .given .1) (c .before .before .before .sheet-head .ensures)
+headed c = found-done (sheetHead .read (now (c .before .before .before .before .before .before .before .args .sheet))) (told-as toldHead (c .before .before .before .sheet-head .ensures) (c .before .count .given .1))
 
 walked : (c : tie.After-take-records) → now (c .before .before .before .before .before .before .before .before .before .before .before .before .before .before .args .ids) ≡ clearTable → now (c .before .before .before .before .before .before .before .before .before .before .before .before .before .before .args .counts) ≡ clearTable → Carries (now (c .before .before .before .before .before .before .before .before .before .before .before .before .before .before .args .spare)) (c .before .before .before .before .before .before .before .before .before .before .before .before .before .before .args .p) (noRecords byOne) → {r : Records} → c .take-records .result ≡ r
-    → RecordsTold (part (c .before .before .before .before .before .before .before .before .before .before .before .before .before .before .args .lot) (c .before .before .before .before .before .before .before .before .before .before .before .before .before .before .args .span)) (c .take-records .last .1 .1 .1 .1 .0) (noRecords byOne) (c .before .before .before .before .before .before .before .before .count .given .0 .0) (drop 9 (now (c .before .before .before .before .before .before .before .before .before .before .before .before .before .before .args .sheet))) r
+    → AnswersFrom (part (c .before .before .before .before .before .before .before .before .before .before .before .before .before .before .args .lot) (c .before .before .before .before .before .before .before .before .before .before .before .before .before .before .args .span)) (c .take-records .last .1 .1 .1 .1 .0) (noRecords byOne) (c .before .before .before .before .before .before .before .before .count .given .0 .0) (drop 9 (now (c .before .before .before .before .before .before .before .before .before .before .before .before .before .before .args .sheet))) (toldRecords r)
 walked c i d k {r} e =
-    subst (λ (l : List ℕ). RecordsTold (part (c .before .before .before .before .before .before .before .before .before .before .before .before .before .before .args .lot) (c .before .before .before .before .before .before .before .before .before .before .before .before .before .before .args .span)) (c .take-records .last .1 .1 .1 .1 .0) (noRecords byOne) (c .before .before .before .before .before .before .before .before .count .given .0 .0) l r) (rest-is 9 (now (c .before .before .before .before .before .before .before .before .before .before .before .before .before .before .args .sheet)))
-    (subst (RecordsTold (part (c .before .before .before .before .before .before .before .before .before .before .before .before .before .before .args .lot) (c .before .before .before .before .before .before .before .before .before .before .before .before .before .before .args .span)) (c .take-records .last .1 .1 .1 .1 .0) (noRecords byOne) (c .before .before .before .before .before .before .before .before .count .given .0 .0) _) e (c .take-records .ensures .1 i d (noRecords byOne) k (head-number (part (c .before .before .before .before .before .before .before .before .before .before .before .before .before .before .args .lot) (c .before .before .before .before .before .before .before .before .before .before .before .before .before .before .args .span)) _ (now (c .before .before .before .before .before .before .before .before .before .before .before .before .before .before .args .out)) (λ i. c .before .before .before .before .before .before .before .before .before .before .before .before .before .shared-slice-known .given i .fits) (headed (c .before .before .before .before .before .before .before)))))
+    subst (λ (l : List ℕ). AnswersFrom (part (c .before .before .before .before .before .before .before .before .before .before .before .before .before .before .args .lot) (c .before .before .before .before .before .before .before .before .before .before .before .before .before .before .args .span)) (c .take-records .last .1 .1 .1 .1 .0) (noRecords byOne) (c .before .before .before .before .before .before .before .before .count .given .0 .0) l (toldRecords r)) (rest-is 9 (now (c .before .before .before .before .before .before .before .before .before .before .before .before .before .before .args .sheet)))
+    (subst (AnswersFrom (part (c .before .before .before .before .before .before .before .before .before .before .before .before .before .before .args .lot) (c .before .before .before .before .before .before .before .before .before .before .before .before .before .before .args .span)) (c .take-records .last .1 .1 .1 .1 .0) (noRecords byOne) (c .before .before .before .before .before .before .before .before .count .given .0 .0) _) (ap toldRecords e) (c .take-records .ensures .1 i d (noRecords byOne) k (head-number (part (c .before .before .before .before .before .before .before .before .before .before .before .before .before .before .args .lot) (c .before .before .before .before .before .before .before .before .before .before .before .before .before .before .args .span)) _ (now (c .before .before .before .before .before .before .before .before .before .before .before .before .before .before .args .out)) (λ i. c .before .before .before .before .before .before .before .before .before .before .before .before .before .shared-slice-known .given i .fits) (headed (c .before .before .before .before .before .before .before)))))
 
 sheet-head-requires : tie.Need-sheet-head-requires
 sheet-head-requires c κs = search needs
@@ -41,7 +42,7 @@ enum-told : tie.Need-enum-told
 enum-told c = search needs
 
 returns : tie.Need-returns
-returns c = (refl, λ i d k f. put-headless (part (c .before .before .before .before .before .before .args .lot) (c .before .before .before .before .before .before .args .span)) _ (now (c .before .before .before .before .before .before .args .out)) (subst (HeadTold misframed sheetMark (now (c .before .before .before .before .before .before .args .sheet))) (c .enum-told .given .1) (c .before .before .sheet-head .ensures)))
+returns c = (refl, λ i d k f. put-headless (part (c .before .before .before .before .before .before .args .lot) (c .before .before .before .before .before .before .args .span)) _ (now (c .before .before .before .before .before .before .args .out)) (found-none _ (told-as toldHead (c .before .before .sheet-head .ensures) (c .enum-told .given .1))))
 
 sub-take-records : tie.Need-sub-take-records
 sub-take-records c = ends-in sheetHead (headed c)

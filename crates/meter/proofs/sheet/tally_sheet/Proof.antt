@@ -1,4 +1,4 @@
-use mathlib.Core.Path.{_≡_, refl, subst}
+use mathlib.Core.Path.{_≡_, refl}
 use mathlib.Core.List.{List, []}
 use Prim.Native.Nat.{ℕ}
 use lib.ListN.{length}
@@ -7,8 +7,11 @@ use Rattle.meter.specs.Counting.{byOne}
 use Rattle.meter.specs.Streaming.{startOf}
 use Rattle.meter.specs.Records.{clearTable}
 use Rattle.meter.specs.Adding.{part}
-use Rattle.meter.specs.Progress.{StartTold}
+use Rattle.wire.specs.Answer.{Matches}
+use Rattle.wire.proofs.Steps.{told-as}
+use Rattle.meter.specs.Progress.{Carries, toldStart}
 use Rattle.meter.specs.declared.stream.StartAnswer.{StartAnswer}
+use Rattle.meter.proofs.Carried.{start-matches}
 use Rattle.meter.proofs.SheetPuts.{sheet-bad, sheet-misfit, sheet-put}
 use borrow.Author.Needs.{needs}
 use Rattle.meter.proofs.sheet.tally_sheet.Statement.{statement}
@@ -16,8 +19,8 @@ use Rattle.meter.proofs.sheet.tally_sheet.Tie as tie
 
 -- what start told, of any spare
 started : (c : tie.After-start) (t : List ℕ) {a : StartAnswer} → c .start .result ≡ a
-    → StartTold t a (startOf byOne (part (c .before .before .before .before .args .lot) (c .before .before .before .before .args .span)) (length (now (c .before .before .before .before .args .out))) (length (now (c .before .before .before .before .args .spare))))
-started c t e = subst (λ (a : StartAnswer). StartTold t a (startOf byOne (part (c .before .before .before .before .args .lot) (c .before .before .before .before .args .span)) (length (now (c .before .before .before .before .args .out))) (length (now (c .before .before .before .before .args .spare))))) e (c .start .ensures t)
+    → Matches (Carries t) (toldStart a) (startOf byOne (part (c .before .before .before .before .args .lot) (c .before .before .before .before .args .span)) (length (now (c .before .before .before .before .args .out))) (length (now (c .before .before .before .before .args .spare))))
+started c t e = start-matches _ _ _ t (told-as toldStart (c .start .ensures) e)
 
 start-requires : tie.Need-start-requires
 start-requires c κs = search needs

@@ -15,16 +15,16 @@ is-part-requires : tie.Need-is-part-requires
 is-part-requires c κs = search needs
 
 returns : tie.Need-returns
-returns c = λ t. start-bad (part (c .before .before .args .lot) (c .before .before .args .span)) _ _ (part-told (c .before) (not-true _ (c .if1 .taken)))
+returns c = start-bad (part (c .before .before .args .lot) (c .before .before .args .span)) _ _ (part-told (c .before) (not-true _ (c .if1 .taken)))
 
 returns-2 : tie.Need-returns-2
-returns-2 c = λ t. start-misfit (part (c .before .before .before .args .lot) (c .before .before .before .args .span)) _ _ (part-told (c .before .before) (not-false _ (c .before .if1 .left))) (c .if2 .taken)
+returns-2 c = start-misfit (part (c .before .before .before .args .lot) (c .before .before .before .args .span)) _ _ (part-told (c .before .before) (not-false _ (c .before .if1 .left))) (c .if2 .taken)
 
 empty-requires : tie.Need-empty-requires
 empty-requires c κs = search needs
 
 returns-3 : tie.Need-returns-3
-returns-3 c = λ t. start-good (part (c .before .before .before .before .args .lot) (c .before .before .before .before .args .span)) _ _ (part-told (c .before .before .before) (not-false _ (c .before .before .if1 .left))) (c .before .if2 .left) (c .empty .ensures) t
+returns-3 c = start-good (part (c .before .before .before .before .args .lot) (c .before .before .before .before .args .span)) _ _ (part-told (c .before .before .before) (not-false _ (c .before .before .if1 .left))) (c .before .if2 .left) (c .empty .ensures)
 
 pub start-spec : {M : Type 1} → statement M
 start-spec = tie.close (tie.spec is-part-requires returns returns-2 empty-requires returns-3)

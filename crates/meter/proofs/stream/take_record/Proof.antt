@@ -1,6 +1,6 @@
 use borrow.Author.Needs.{needs}
 use Prim.Native.Nat.{ℕ, _+_, _≤_}
-use mathlib.Core.Path.{refl, subst}
+use mathlib.Core.Path.{_≡_, refl}
 use mathlib.Core.List.{List}
 use native.Mathlib.Omega.{arith}
 use lib.IntN.{ℤ}
@@ -9,7 +9,10 @@ use denote.Ref.{now}
 use mir.Syntax.{w64}
 use mir.ValLaws.{toZ-ofZ}
 use Rattle.meter.specs.Adding.{part}
-use Rattle.meter.specs.Records.{FrameTold}
+use Rattle.wire.specs.Read.{found}
+use Rattle.wire.proofs.Steps.{told-as}
+use Rattle.meter.specs.Records.{toldFrame}
+use Rattle.meter.specs.Sheet.{frame}
 use Rattle.meter.specs.Standing.{Part}
 use Rattle.meter.specs.declared.records.FrameRead.the-variants as frames
 use Rattle.meter.proofs.Taking.{framed-as, framed-inside, told-misframed, told-refused, told-taken}
@@ -29,8 +32,8 @@ key c = c .before .key .given .0 .0
 abbrev size : tie.After-known-told → ℕ
 size c = c .before .key .given .0 .1 .0
 
-framed : (c : tie.After-known-told) → FrameTold (bytes (c .before .before .before .before .before .before)) (frames.Record (key c) (size c))
-framed c = subst (FrameTold (bytes (c .before .before .before .before .before .before))) (c .before .key .given .1) (c .before .before .before .frame .ensures)
+framed : (c : tie.After-known-told) → toldFrame (bytes (c .before .before .before .before .before .before)) (frames.Record (key c) (size c)) ≡ found (frame .read (bytes (c .before .before .before .before .before .before)))
+framed c = told-as (toldFrame (bytes (c .before .before .before .before .before .before))) (c .before .before .before .frame .ensures) (c .before .key .given .1)
 
 inside : (c : tie.After-known-told) → size c + 12 ≤ length (bytes (c .before .before .before .before .before .before))
 inside c = framed-inside _ (key c) (size c) (framed c)
@@ -68,7 +71,7 @@ enum-known-next c = search needs
 returns : tie.Need-returns
 returns c =
     let s = c .before .before .before .before .before in
-    (refl, (refl, (tt, λ w k. told-misframed (whole s) w (bytes s) (subst (FrameTold (bytes s)) (c .enum-told .given .1) (c .before .before .frame .ensures)) k)))
+    (refl, (refl, (tt, λ w k. told-misframed (whole s) w (bytes s) (told-as (toldFrame (bytes s)) (c .before .before .frame .ensures) (c .enum-told .given .1)) k)))
 
 same-length : tie.Need-same-length
 same-length c = search needs

@@ -1,24 +1,14 @@
 use borrow.Author.Needs.{needs}
-use mathlib.Core.Path.{subst}
-use mathlib.Core.List.{List, []}
-use Prim.Native.Nat.{ℕ}
 use denote.Ref.{now}
-use lib.ListN.{length}
-use Rattle.meter.specs.Counting.{byOne}
-use Rattle.meter.specs.Streaming.{startOf}
-use Rattle.meter.specs.Progress.{StartTold}
-use Rattle.meter.specs.Program.{everything}
-use Rattle.meter.specs.declared.stream.StartAnswer.{StartAnswer}
+use Rattle.wire.proofs.Steps.{told-as}
+use Rattle.meter.specs.Progress.{toldStart}
 use Rattle.sheetcount_lib.proofs.Whole.{never-bad, started}
 use Rattle.sheetcount_lib.proofs.reading.count_into.Statement.{statement}
 use Rattle.sheetcount_lib.proofs.reading.count_into.Tie as tie
 
--- where the function starts, and what starting told
+-- where the function starts
 abbrev begun : tie.After-start → tie.Start
 begun x = x .before .before .before .before
-
-abbrev Told : tie.After-start → List ℕ → StartAnswer → Type 0
-Told x t a = StartTold t a (startOf byOne everything (length (now (begun x .args .out))) (length (now (begun x .args .spare))))
 
 start-requires : tie.Need-start-requires
 start-requires c κs = search needs
@@ -33,13 +23,13 @@ enum-known-p : tie.Need-enum-known-p
 enum-known-p c = search needs
 
 read-sheet-requires : tie.Need-read-sheet-requires
-read-sheet-requires c κs = let x = c .before .before .before .before .before .before .before .before .before .before in let s = begun x in let t = now (s .args .spare) in (s .pre, started _ _ (s .pre .out-long) (s .pre .spare-long) t _ (subst (Told x t) (c .before .before .before .before .before .before .before .before .p .given .1) (x .start .ensures t)))
+read-sheet-requires c κs = let x = c .before .before .before .before .before .before .before .before .before .before in let s = begun x in let t = now (s .args .spare) in (s .pre, started _ _ (s .pre .out-long) (s .pre .spare-long) t _ (told-as toldStart (x .start .ensures) (c .before .before .before .before .before .before .before .before .p .given .1)))
 
 returns : tie.Need-returns
-returns c = let x = c .before .before in let s = begun x in never-bad _ _ (s .pre .out-long) (s .pre .spare-long) (subst (Told x []) (c .enum-told .given .1) (x .start .ensures []))
+returns c = let x = c .before .before in let s = begun x in never-bad _ _ (s .pre .out-long) (s .pre .spare-long) (told-as toldStart (x .start .ensures) (c .enum-told .given .1))
 
 returns-2 : tie.Need-returns-2
-returns-2 c = let x = c .before .before in let s = begun x in never-bad _ _ (s .pre .out-long) (s .pre .spare-long) (subst (Told x []) (c .enum-told2 .given .1) (x .start .ensures []))
+returns-2 c = let x = c .before .before in let s = begun x in never-bad _ _ (s .pre .out-long) (s .pre .spare-long) (told-as toldStart (x .start .ensures) (c .enum-told2 .given .1))
 
 same-length : tie.Need-same-length
 same-length c = search needs

@@ -7,8 +7,8 @@ use lib.ListN.{length, take, drop}
 use lib.Seq.{length-take-le}
 use denote.Ref.{now}
 use Rattle.wire.specs.Bytes.{bytes-take}
-use Rattle.wire.specs.Told.{HeadTold}
-use Rattle.meter.specs.Sheet.{misframed, sheetMark}
+use Rattle.wire.specs.Told.{toldHead}
+use Rattle.wire.proofs.Steps.{told-as}
 use Rattle.sheetcount_lib.specs.Reading.{longest, AllTold}
 use Rattle.sheetcount_lib.proofs.Counts.{within-part}
 use Rattle.sheetcount_lib.proofs.Whole.{counted-headless, counted-stopped, counted-ended, if-read}
@@ -81,7 +81,7 @@ same-length-2 : tie.Need-same-length-2
 same-length-2 c = search needs
 
 returns-2 : tie.Need-returns-2
-returns-2 c = let h = c .before .before .before .before in let s = take (size h) (filled h) in counted-headless s (now (begun h .args .out)) (bytes-take (size h) (filled h) (λ j. h .before .before .before .slice-known4 .given j .fits)) (subst (HeadTold misframed sheetMark s) (c .enum-told2 .given .1) (c .before .before .sheet-head .ensures))
+returns-2 c = let h = c .before .before .before .before in let s = take (size h) (filled h) in counted-headless s (now (begun h .args .out)) (bytes-take (size h) (filled h) (λ j. h .before .before .before .slice-known4 .given j .fits)) (told-as toldHead (c .before .before .sheet-head .ensures) (c .enum-told2 .given .1))
 
 take-all-requires : tie.Need-take-all-requires
 take-all-requires c κs = let h = c .before .before .before .before .before .before .before .before .before .before .before in let s = begun h in (long h, record { carries = s .pre .1; ids-clear = s .pre .0 .ids-clear; counts-clear = s .pre .0 .counts-clear })
@@ -89,8 +89,11 @@ take-all-requires c κs = let h = c .before .before .before .before .before .bef
 enum-told-3 : tie.Need-enum-told-3
 enum-told-3 c = search needs
 
-enum-known-a : tie.Need-enum-known-a
-enum-known-a c = search needs
+enum-known-f : tie.Need-enum-known-f
+enum-known-f c = search needs
+
+stopped-requires : tie.Need-stopped-requires
+stopped-requires c κs = search needs
 
 enum-known-q : tie.Need-enum-known-q
 enum-known-q c = search needs
@@ -114,7 +117,7 @@ same-length-6 : tie.Need-same-length-6
 same-length-6 c = search needs
 
 returns-4 : tie.Need-returns-4
-returns-4 c = let y = c .before .before .before .before .before .before .before in counted-stopped (count y) (fits y) (now (begun (headed y) .args .out)) _ (subst (AllTold (count y) (y .take-all .last .1 .1 .1 .1 .0)) (c .before .a .given .1) (y .take-all .ensures .1))
+returns-4 c = let y = c .before .before .before .before .before .before .before .before in counted-stopped (count y) (fits y) (now (begun (headed y) .args .out)) _ _ (c .stopped .ensures) (subst (AllTold (count y) (y .take-all .last .1 .1 .1 .1 .0)) (c .before .before .f .given .1) (y .take-all .ensures .1))
 
 same-length-7 : tie.Need-same-length-7
 same-length-7 c = c .before .before .before .bytes3 .given ∙ c .before .before .before .before .before .before .before .before .before .before .before .before .before .before .bytes2 .given ∙ c .before .before .before .before .before .before .before .before .before .before .before .before .before .before .before .before .before .before .before .before .before .before .before .before .before .before .before .before .before .before .before .bytes .given .1
@@ -148,7 +151,8 @@ read-sheet-spec =
     returns-2
     take-all-requires
     enum-told-3
-    enum-known-a
+    enum-known-f
+    stopped-requires
     enum-known-q
     read-end-requires
     same-length-3

@@ -71,8 +71,8 @@ slice-aggregate-take-next c = sym (length-take-le _ _ (slice-reshare-prefix-take
 take-next-requires : tie.Need-take-next-requires Inv-loop μ-loop
 take-next-requires c κs = search needs
 
-enum-known-a : tie.Need-enum-known-a Inv-loop μ-loop
-enum-known-a c = search needs
+enum-known-f : tie.Need-enum-known-f Inv-loop μ-loop
+enum-known-f c = search needs
 
 same-length-3 : tie.Need-same-length-3 Inv-loop μ-loop
 same-length-3 c = search needs
@@ -81,7 +81,7 @@ same-length-4 : tie.Need-same-length-4 Inv-loop μ-loop
 same-length-4 c = search needs
 
 returns-2 : tie.Need-returns-2 Inv-loop μ-loop
-returns-2 c = let x = c .before .before .before .before .before in let l = turned x in (x .take-next .ensures .0 ∙ l .loop .inv .0 .size, going-stop (l .loop .inv .0) (l .before .before .before .fits .count .fits) (known x .before .before .before .before .before .before .before .loop-test .taken) (take (size x) (bytes x)) (spare x) (ids x) (counts x) (bytes-take (size x) (bytes x) (λ j. known x .before .before .before .slice-known3 .given j .fits)) (x .take-next .result) (x .take-next .ensures .1 .1) (c .before .a .given .1))
+returns-2 c = let x = c .before .before .before .before .before in let l = turned x in (x .take-next .ensures .0 ∙ l .loop .inv .0 .size, going-stop (l .loop .inv .0) (l .before .before .before .fits .count .fits) (known x .before .before .before .before .before .before .before .loop-test .taken) (take (size x) (bytes x)) (spare x) (ids x) (counts x) (bytes-take (size x) (bytes x) (λ j. known x .before .before .before .slice-known3 .given j .fits)) (x .take-next .result) (x .take-next .ensures .1 .1) (c .before .f .given .1))
 
 enum-known-next : tie.Need-enum-known-next Inv-loop μ-loop
 enum-known-next c = search needs
@@ -120,7 +120,7 @@ take-all-spec =
     slice-reshare-prefix-take-next
     slice-aggregate-take-next
     take-next-requires
-    enum-known-a
+    enum-known-f
     same-length-3
     same-length-4
     returns-2

@@ -1,21 +1,25 @@
 use mathlib.Core.Path.{_≡_, sym, _∙_}
 use denote.Ref.{now}
 use Rattle.wire.specs.Lists.{rest-is}
-use Rattle.tally.specs.Walks.{StatedRows, takes}
-use Rattle.tally.specs.Tally.{row, one}
+use Rattle.wire.specs.Read.{found}
+use Rattle.wire.specs.Told.{toldHead}
+use Rattle.wire.proofs.Steps.{told-as}
+use Rattle.tally.specs.Walks.{takes}
+use Rattle.tally.specs.Tally.{tallyHead, row, one}
 use Rattle.wire.specs.Format.{items}
-use mathlib.Core.Path.{subst, ap}
+use mathlib.Core.Path.{ap}
 use mathlib.Core.Bool.{Bool}
 use lib.ListN.{drop}
 use Rattle.wire.specs.declared.heads.HeadRead.the-variants as heads
+use Rattle.tally.proofs.Heads.{stated, unstated}
 use Rattle.tally.proofs.Checks.{check-unstated, check-good, check-bad}
 use borrow.Author.Needs.{needs}
 use Rattle.tally.proofs.check.check.Statement.{statement}
 use Rattle.tally.proofs.check.check.Tie as tie
 
 -- the number of rows that the head states, and whether they are there
-stated : (c : tie.After-known-told) → StatedRows (now (c .before .before .before .before .before .args .t)) (heads.Number (c .before .count .given .0 .0))
-stated c = subst (StatedRows _) (c .before .count .given .1) (c .before .before .before .stated-rows .ensures)
+rows : (c : tie.After-known-told) → toldHead (heads.Number (c .before .count .given .0 .0)) ≡ found (tallyHead .read (now (c .before .before .before .before .before .args .t)))
+rows c = told-as toldHead (c .before .before .before .stated-rows .ensures) (c .before .count .given .1)
 
 taken : (c : tie.After-are-rows) {b : Bool} → c .are-rows .result ≡ b → takes (items (row one) (c .before .before .before .count .given .0 .0)) (drop 9 (now (c .before .before .before .before .before .before .before .args .t))) ≡ b
 taken c e = ap (takes (items (row one) (c .before .before .before .count .given .0 .0))) (sym (rest-is 9 (now (c .before .before .before .before .before .before .before .args .t)))) ∙ sym (c .are-rows .ensures) ∙ e
@@ -30,13 +34,13 @@ enum-told : tie.Need-enum-told
 enum-told c = search needs
 
 returns : tie.Need-returns
-returns c = check-unstated _ (subst (StatedRows _) (c .enum-told .given .1) (c .before .before .stated-rows .ensures))
+returns c = check-unstated _ (unstated _ (told-as toldHead (c .before .before .stated-rows .ensures) (c .enum-told .given .1)))
 
 sub-are-rows : tie.Need-sub-are-rows
-sub-are-rows c = stated c .0
+sub-are-rows c = stated _ (rows c) .0
 
 part-are-rows-start : tie.Need-part-are-rows-start
-part-are-rows-start c = stated c .0
+part-are-rows-start c = stated _ (rows c) .0
 
 part-are-rows-end : tie.Need-part-are-rows-end
 part-are-rows-end c = search needs
@@ -45,10 +49,10 @@ are-rows-requires : tie.Need-are-rows-requires
 are-rows-requires c κs = search needs
 
 returns-2 : tie.Need-returns-2
-returns-2 c = check-good (now (c .before .before .before .before .before .before .before .before .args .t)) (c .before .before .before .before .count .given .0 .0) (λ i. c .before .before .before .before .before .before .before .shared-slice-known .given i .fits) (stated (c .before .before .before) .1) (taken (c .before) (c .if1 .taken))
+returns-2 c = check-good (now (c .before .before .before .before .before .before .before .before .args .t)) (c .before .before .before .before .count .given .0 .0) (λ i. c .before .before .before .before .before .before .before .shared-slice-known .given i .fits) (stated _ (rows (c .before .before .before)) .1) (taken (c .before) (c .if1 .taken))
 
 returns-3 : tie.Need-returns-3
-returns-3 c = check-bad (now (c .before .before .before .before .before .before .before .before .args .t)) (c .before .before .before .before .count .given .0 .0) (λ i. c .before .before .before .before .before .before .before .shared-slice-known .given i .fits) (stated (c .before .before .before) .1) (taken (c .before) (c .if1 .left))
+returns-3 c = check-bad (now (c .before .before .before .before .before .before .before .before .args .t)) (c .before .before .before .before .count .given .0 .0) (λ i. c .before .before .before .before .before .before .before .shared-slice-known .given i .fits) (stated _ (rows (c .before .before .before)) .1) (taken (c .before) (c .if1 .left))
 
 pub check-spec : {M : Type 1} → statement M
 check-spec =
