@@ -13,4 +13,6 @@ within {room} h e = subst (Within room) e h
 
 -- into a part of a buffer no more than was asked for
 pub within-part : (k : ℕ) (s : List ℕ) {n : ℕ} {r : BytesRead} → Within (length (take k s)) r → r ≡ bytesReads.Bytes n → n ≤ k
-within-part k s {n} h e = let z : n ≤ length (take k s) = within h e in omega (arith, length-take k s)
+within-part k s {n} h e =
+    let z : n ≤ length (take k s) = within h e in
+    omega (arith, length-take k s)

@@ -23,13 +23,23 @@ enum-known-p : tie.Need-enum-known-p
 enum-known-p c = search needs
 
 read-sheet-requires : tie.Need-read-sheet-requires
-read-sheet-requires c κs = let x = c .before .before .before .before .before .before .before .before .before .before in let s = begun x in let t = now (s .args .spare) in (s .pre, started _ _ (s .pre .out-long) (s .pre .spare-long) t _ (told-as toldStart (x .start .ensures) (c .before .before .before .before .before .before .before .before .p .given .1)))
+read-sheet-requires c κs =
+    let x = c .before .before .before .before .before .before .before .before .before .before in
+    let s = begun x in
+    let t = now (s .args .spare) in
+    (s .pre, started _ _ (s .pre .out-long) (s .pre .spare-long) t _ (told-as toldStart (x .start .ensures) (c .before .before .before .before .before .before .before .before .p .given .1)))
 
 returns : tie.Need-returns
-returns c = let x = c .before .before in let s = begun x in never-bad _ _ (s .pre .out-long) (s .pre .spare-long) (told-as toldStart (x .start .ensures) (c .enum-told .given .1))
+returns c =
+    let x = c .before .before in
+    let s = begun x in
+    never-bad _ _ (s .pre .out-long) (s .pre .spare-long) (told-as toldStart (x .start .ensures) (c .enum-told .given .1))
 
 returns-2 : tie.Need-returns-2
-returns-2 c = let x = c .before .before in let s = begun x in never-bad _ _ (s .pre .out-long) (s .pre .spare-long) (told-as toldStart (x .start .ensures) (c .enum-told2 .given .1))
+returns-2 c =
+    let x = c .before .before in
+    let s = begun x in
+    never-bad _ _ (s .pre .out-long) (s .pre .spare-long) (told-as toldStart (x .start .ensures) (c .enum-told2 .given .1))
 
 same-length : tie.Need-same-length
 same-length c = search needs

@@ -9,7 +9,9 @@ use Rattle.sheetcount_lib.proofs.reading.read_block.Tie as tie
 
 -- no more of the block is read than there is room for
 short : (c : tie.After-known-told) → c .before .n .given .0 .0 ≤ c .before .before .before .before .before .before .before .before .args .size
-short c = let h = within-part (12 + c .before .before .before .before .before .before .before .before .args .size - 12) (drop 12 (now (c .before .before .before .before .before .before .before .before .args .bytes))) (c .before .before .before .before .before .read-bytes .ensures) (c .before .n .given .1) in omega (arith, h)
+short c =
+    let h = within-part (12 + c .before .before .before .before .before .before .before .before .args .size - 12) (drop 12 (now (c .before .before .before .before .before .before .before .before .args .bytes))) (c .before .before .before .before .before .read-bytes .ensures) (c .before .n .given .1) in
+    omega (arith, h)
 
 add-end : tie.Need-add-end
 add-end c = search needs

@@ -59,7 +59,10 @@ same-length-3 : tie.Need-same-length-3
 same-length-3 c = search needs
 
 returns-2 : tie.Need-returns-2
-returns-2 c = let k = c .before .before .before .before .before .before .before .before .before in let n = c .before .before .before .before .before .before .n .given .0 .0 in record { s = take n (filled k); bytes = bytes-take n (filled k) (λ j. c .before .before .before .before .before .before .before .before .slice-known3 .given j .fits); answered = λ w h. c .before .before .end-sheet .ensures .0 w h (c .before .before .before .before .before .before .before .before .before .before .before .before .before .before .before .pre .1) (omega (arith, c .before .before .before .before .before .before .before .before .before .before .before .before .before .before .before .pre .2)) }
+returns-2 c =
+    let k = c .before .before .before .before .before .before .before .before .before in
+    let n = c .before .before .before .before .before .before .n .given .0 .0 in
+    record { s = take n (filled k); bytes = bytes-take n (filled k) (λ j. c .before .before .before .before .before .before .before .before .slice-known3 .given j .fits); answered = λ w h. c .before .before .end-sheet .ensures .0 w h (c .before .before .before .before .before .before .before .before .before .before .before .before .before .before .before .pre .1) (omega (arith, c .before .before .before .before .before .before .before .before .before .before .before .before .before .before .before .pre .2)) }
 
 pub read-end-spec : {M : Type 1} → statement M
 read-end-spec =

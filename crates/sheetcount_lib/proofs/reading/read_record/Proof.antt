@@ -30,7 +30,11 @@ head-short h = within-part 12 (now (h .before .before .before .before .before .b
 
 -- a block of so many bytes is to be read
 short : (c : tie.After-known-told2) → c .before .size .given .0 .0 ≤ mostBlock
-short c = let x = c .before .before .before in let h = x .before .before in let b = h .before .before .before .before in length-most 0 _ (take (head h) (filled b)) (bytes-take (head h) (filled b) (λ j. h .before .before .before .slice-known2 .given j .fits)) (sym (told-as (toldLength 0) (x .block-length .ensures 0) (c .before .size .given .1)))
+short c =
+    let x = c .before .before .before in
+    let h = x .before .before in
+    let b = h .before .before .before .before in
+    length-most 0 _ (take (head h) (filled b)) (bytes-take (head h) (filled b) (λ j. h .before .before .before .slice-known2 .given j .fits)) (sym (told-as (toldLength 0) (x .block-length .ensures 0) (c .before .size .given .1)))
 
 slice-relend-prefix-read-bytes : tie.Need-slice-relend-prefix-read-bytes
 slice-relend-prefix-read-bytes c = search needs

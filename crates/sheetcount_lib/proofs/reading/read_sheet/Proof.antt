@@ -81,10 +81,16 @@ same-length-2 : tie.Need-same-length-2
 same-length-2 c = search needs
 
 returns-2 : tie.Need-returns-2
-returns-2 c = let h = c .before .before .before .before in let s = take (size h) (filled h) in counted-headless s (now (begun h .args .out)) (bytes-take (size h) (filled h) (λ j. h .before .before .before .slice-known4 .given j .fits)) (told-as toldHead (c .before .before .sheet-head .ensures) (c .enum-told2 .given .1))
+returns-2 c =
+    let h = c .before .before .before .before in
+    let s = take (size h) (filled h) in
+    counted-headless s (now (begun h .args .out)) (bytes-take (size h) (filled h) (λ j. h .before .before .before .slice-known4 .given j .fits)) (told-as toldHead (c .before .before .sheet-head .ensures) (c .enum-told2 .given .1))
 
 take-all-requires : tie.Need-take-all-requires
-take-all-requires c κs = let h = c .before .before .before .before .before .before .before .before .before .before .before in let s = begun h in (long h, record { carries = s .pre .1; ids-clear = s .pre .0 .ids-clear; counts-clear = s .pre .0 .counts-clear })
+take-all-requires c κs =
+    let h = c .before .before .before .before .before .before .before .before .before .before .before in
+    let s = begun h in
+    (long h, record { carries = s .pre .1; ids-clear = s .pre .0 .ids-clear; counts-clear = s .pre .0 .counts-clear })
 
 enum-told-3 : tie.Need-enum-told-3
 enum-told-3 c = search needs
@@ -99,7 +105,10 @@ enum-known-q : tie.Need-enum-known-q
 enum-known-q c = search needs
 
 read-end-requires : tie.Need-read-end-requires
-read-end-requires c κs = let y = c .before .before .before .before .before .before .before .before .before .before in let s = begun (headed y) in (c .before .before .before .before .before .before .before .before .before .bytes2 .given ∙ long (headed y), s .pre .0 .out-long, y .take-all .ensures .0 ∙ s .pre .0 .spare-long)
+read-end-requires c κs =
+    let y = c .before .before .before .before .before .before .before .before .before .before in
+    let s = begun (headed y) in
+    (c .before .before .before .before .before .before .before .before .before .bytes2 .given ∙ long (headed y), s .pre .0 .out-long, y .take-all .ensures .0 ∙ s .pre .0 .spare-long)
 
 same-length-3 : tie.Need-same-length-3
 same-length-3 c = search needs
@@ -117,7 +126,9 @@ same-length-6 : tie.Need-same-length-6
 same-length-6 c = search needs
 
 returns-4 : tie.Need-returns-4
-returns-4 c = let y = c .before .before .before .before .before .before .before .before in counted-stopped (count y) (fits y) (now (begun (headed y) .args .out)) _ _ (c .stopped .ensures) (subst (AllTold (count y) (y .take-all .last .1 .1 .1 .1 .0)) (c .before .before .f .given .1) (y .take-all .ensures .1))
+returns-4 c =
+    let y = c .before .before .before .before .before .before .before .before in
+    counted-stopped (count y) (fits y) (now (begun (headed y) .args .out)) _ _ (c .stopped .ensures) (subst (AllTold (count y) (y .take-all .last .1 .1 .1 .1 .0)) (c .before .before .f .given .1) (y .take-all .ensures .1))
 
 same-length-7 : tie.Need-same-length-7
 same-length-7 c = c .before .before .before .bytes3 .given ∙ c .before .before .before .before .before .before .before .before .before .before .before .before .before .before .bytes2 .given ∙ c .before .before .before .before .before .before .before .before .before .before .before .before .before .before .before .before .before .before .before .before .before .before .before .before .before .before .before .before .before .before .before .bytes .given .1
@@ -129,7 +140,10 @@ same-length-9 : tie.Need-same-length-9
 same-length-9 c = search needs
 
 returns-5 : tie.Need-returns-5
-returns-5 c = let y = c .before .before .before .before .before .before .before .before .before .before .before .before .before .before .before in let e = c .before .before .before .before in if-read (counted-ended (count y) (fits y) (now (begun (headed y) .args .out)) _ (subst (AllTold (count y) (y .take-all .last .1 .1 .1 .1 .0)) (c .before .before .before .before .before .before .before .before .before .q .given .1) (y .take-all .ensures .1))) (e .read-end .result) (e .read-end .ensures)
+returns-5 c =
+    let y = c .before .before .before .before .before .before .before .before .before .before .before .before .before .before .before in
+    let e = c .before .before .before .before in
+    if-read (counted-ended (count y) (fits y) (now (begun (headed y) .args .out)) _ (subst (AllTold (count y) (y .take-all .last .1 .1 .1 .1 .0)) (c .before .before .before .before .before .before .before .before .before .q .given .1) (y .take-all .ensures .1))) (e .read-end .result) (e .read-end .ensures)
 
 pub read-sheet-spec : {M : Type 1} → statement M
 read-sheet-spec =

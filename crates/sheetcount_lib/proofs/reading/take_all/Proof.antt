@@ -81,7 +81,10 @@ same-length-4 : tie.Need-same-length-4 Inv-loop μ-loop
 same-length-4 c = search needs
 
 returns-2 : tie.Need-returns-2 Inv-loop μ-loop
-returns-2 c = let x = c .before .before .before .before .before in let l = turned x in (x .take-next .ensures .0 ∙ l .loop .inv .0 .size, going-stop (l .loop .inv .0) (l .before .before .before .fits .count .fits) (known x .before .before .before .before .before .before .before .loop-test .taken) (take (size x) (bytes x)) (spare x) (ids x) (counts x) (bytes-take (size x) (bytes x) (λ j. known x .before .before .before .slice-known3 .given j .fits)) (x .take-next .result) (x .take-next .ensures .1 .1) (c .before .f .given .1))
+returns-2 c =
+    let x = c .before .before .before .before .before in
+    let l = turned x in
+    (x .take-next .ensures .0 ∙ l .loop .inv .0 .size, going-stop (l .loop .inv .0) (l .before .before .before .fits .count .fits) (known x .before .before .before .before .before .before .before .loop-test .taken) (take (size x) (bytes x)) (spare x) (ids x) (counts x) (bytes-take (size x) (bytes x) (λ j. known x .before .before .before .slice-known3 .given j .fits)) (x .take-next .result) (x .take-next .ensures .1 .1) (c .before .f .given .1))
 
 enum-known-next : tie.Need-enum-known-next Inv-loop μ-loop
 enum-known-next c = search needs
@@ -93,7 +96,11 @@ loop-less : tie.Need-loop-less Inv-loop μ-loop
 loop-less c = search needs
 
 loop-again : tie.Need-loop-again Inv-loop μ-loop
-loop-again c = let x = c .before .before .before .before .before in let l = turned x in let same = known x .before .before .before .before .bytes .given in (going-on (l .loop .inv .0) (l .before .before .before .fits .count .fits) (known x .before .before .before .before .before .before .before .loop-test .taken) (take (size x) (bytes x)) (spare x) (ids x) (counts x) (bytes-take (size x) (bytes x) (λ j. known x .before .before .before .slice-known3 .given j .fits)) (x .take-next .result) (x .take-next .ensures .1 .1) (x .take-next .ensures .1 .0) same (x .take-next .ensures .0) (c .before .next .given .1), same ∙ l .loop .inv .1)
+loop-again c =
+    let x = c .before .before .before .before .before in
+    let l = turned x in
+    let same = known x .before .before .before .before .bytes .given in
+    (going-on (l .loop .inv .0) (l .before .before .before .fits .count .fits) (known x .before .before .before .before .before .before .before .loop-test .taken) (take (size x) (bytes x)) (spare x) (ids x) (counts x) (bytes-take (size x) (bytes x) (λ j. known x .before .before .before .slice-known3 .given j .fits)) (x .take-next .result) (x .take-next .ensures .1 .1) (x .take-next .ensures .1 .0) same (x .take-next .ensures .0) (c .before .next .given .1), same ∙ l .loop .inv .1)
 
 same-length-5 : tie.Need-same-length-5 Inv-loop μ-loop
 same-length-5 c = search needs
