@@ -24,12 +24,22 @@ fn run_argument(i: usize) {
     run_file(&name[..n], STDOUT_FILENO, STDOUT_FILENO);
 }
 
-// The result cannot be written: a descriptor that is not open, and a device with no room.
-fn run_unwritten() {
+// What is written to which descriptor, and where one of them is not open.
+fn run_unopened() {
+    say(b"no errors");
+    run_file(b"one_record.sheet", STDOUT_FILENO, -1);
     say(b"no output");
     run_file(b"one_record.sheet", -1, STDOUT_FILENO);
     say(b"neither output nor errors");
     run_file(b"one_record.sheet", -1, -1);
+    say(b"neither input nor output");
+    run_file(b"missing.sheet", -1, STDOUT_FILENO);
+    say(b"neither input nor errors");
+    run_file(b"missing.sheet", STDOUT_FILENO, -1);
+}
+
+// A device with no room for the result.
+fn run_full() {
     say(b"a full device");
     let full = os::open_append(b"/dev/full");
     run_file(b"one_record.sheet", full, STDOUT_FILENO);
@@ -43,5 +53,6 @@ fn main() {
         run_argument(i);
         i += 1;
     }
-    run_unwritten();
+    run_unopened();
+    run_full();
 }

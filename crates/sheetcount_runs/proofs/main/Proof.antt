@@ -27,8 +27,11 @@ loop-less c = search needs
 loop-again : tie.Need-loop-again Inv-loop μ-loop
 loop-again c = search needs
 
-run-unwritten-requires : tie.Need-run-unwritten-requires Inv-loop μ-loop
-run-unwritten-requires c κs = search needs
+run-unopened-requires : tie.Need-run-unopened-requires Inv-loop μ-loop
+run-unopened-requires c κs = search needs
+
+run-full-requires : tie.Need-run-full-requires Inv-loop μ-loop
+run-full-requires c κs = search needs
 
 returns : tie.Need-returns Inv-loop μ-loop
 returns c = search needs
@@ -45,5 +48,6 @@ main-spec =
     add-i
     loop-less
     loop-again
-    run-unwritten-requires
+    run-unopened-requires
+    run-full-requires
     returns)
