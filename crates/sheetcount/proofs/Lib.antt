@@ -1,4 +1,0 @@
--- What the functions' proofs cite.
-pub mod Going
-pub mod Whole
-pub mod Shown

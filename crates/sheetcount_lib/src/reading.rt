@@ -1,0 +1,234 @@
+// A sheet read from the descriptor `input`, a record at a time. All functions here but `read_bytes` and `count_sheet` are inner functions: their
+// premises are buffers of the program's lengths and tables that are clear.
+use mapblock::nodes::IDS;
+use mapblock::nodes::NODES;
+use meter::head::sheet_head;
+use meter::program::LengthRead;
+use meter::program::MOST_BLOCK;
+use meter::program::MOST_TALLY;
+use meter::program::Next;
+use meter::program::NextFault;
+use meter::program::block_length;
+use meter::program::end_sheet;
+use meter::program::stopped;
+use meter::program::take_next;
+use meter::records::BLOCK_AT;
+use meter::sheet::SheetAnswer;
+use meter::stream::Progress;
+use meter::stream::StartAnswer;
+use meter::stream::start;
+use position::lot::Lot;
+use position::span::Span;
+use wire::heads::HEAD;
+use wire::heads::HeadRead;
+ghost use mathlib.Core.Path.{_≡_};
+ghost use Prim.Native.Nat.{_≤_};
+ghost use lib.ListN.{length};
+ghost use Rattle.meter.specs.Counting.{byOne};
+ghost use Rattle.meter.specs.Streaming.{noRecords};
+ghost use Rattle.meter.specs.Progress.{Carries};
+ghost use Rattle.meter.specs.Program.{mostBlock, mostTally};
+ghost use Rattle.sheetcount_lib.specs.Reading.{longest, Within, Begins, AllTold, IfRead, Ended, Ready, CountedInto, CountedAs};
+
+// How many bytes were read, which are fewer than were asked for only where the input ends; or that a read failed.
+enum BytesRead {
+    Bytes(usize),
+    Failed,
+}
+
+// Reads until the buffer is full, the input ends or a read fails.
+fn read_bytes(input: i32, bytes: &mut [u8]) -> BytesRead
+    ensures { λ r. ⌜ Within (length (now (bytes .entry))) r ⌝ }
+{
+    let mut done = 0;
+    while done < bytes.len() {
+        let got = libc::read(input, &mut bytes[done..]);
+        if got < 0 {
+            return BytesRead::Failed;
+        }
+        let more = io::count(got, &bytes[done..]);
+        if more == 0 {
+            return BytesRead::Bytes(done);
+        }
+        done += more;
+    }
+    BytesRead::Bytes(done)
+}
+
+// Reads a record's block of so many bytes to its place behind the first twelve. Tells how many bytes there are, with those.
+fn read_block(input: i32, size: usize, bytes: &mut [u8]) -> BytesRead
+    requires { ⌜ (length (now bytes) ≡ longest) × (size ≤ mostBlock) ⌝ }
+    ensures { λ r. ⌜ Within (length (now (bytes .entry))) r ⌝ }
+{
+    let end = BLOCK_AT + size;
+    match read_bytes(input, &mut bytes[BLOCK_AT..end]) {
+        BytesRead::Failed => BytesRead::Failed,
+        BytesRead::Bytes(n) => BytesRead::Bytes(BLOCK_AT + n),
+    }
+}
+
+// Reads a record to the front of a buffer: its first twelve bytes, which say how long its block is, and then the block, unless it is too
+// long. Tells how many bytes there are.
+fn read_record(input: i32, bytes: &mut [u8]) -> BytesRead
+    requires { ⌜ length (now bytes) ≡ longest ⌝ }
+    ensures { λ r. ⌜ Within (length (now (bytes .entry))) r ⌝ }
+{
+    let BytesRead::Bytes(head) = read_bytes(input, &mut bytes[..BLOCK_AT]) else {
+        return BytesRead::Failed;
+    };
+    match block_length(&bytes[..head]) {
+        LengthRead::Misframed => BytesRead::Bytes(head),
+        LengthRead::TooLong => BytesRead::Bytes(head),
+        LengthRead::Block(size) => read_block(input, size, bytes),
+    }
+}
+
+// What came of reading records: how far the sheet was tallied then, or the refusal of one, or that a read failed.
+pub enum RecordsRead {
+    Taken(Progress),
+    Refused(NextFault),
+    Failed,
+}
+
+// So many records, one behind the other.
+fn take_all(
+    input: i32,
+    count: u32,
+    p: Progress,
+    bytes: &mut [u8],
+    spare: &mut [u8],
+    ids: &mut [u8; IDS],
+    counts: &mut [u16; IDS],
+    places: &mut [usize; NODES],
+    scratch: &mut [usize; NODES],
+) -> RecordsRead
+    requires { ⌜ (length (now bytes) ≡ longest) × Begins (now spare) p (now ids) (now counts) ⌝ }
+    ensures { λ _. ⌜ length (now (spare .exit)) ≡ length (now (spare .entry)) ⌝ }
+    ensures { λ r. ⌜ AllTold count (now (spare .exit)) r ⌝ }
+{
+    let mut left = count;
+    let mut now = p;
+    while 0 < left {
+        let BytesRead::Bytes(n) = read_record(input, bytes) else {
+            return RecordsRead::Failed;
+        };
+        match take_next(now, &bytes[..n], spare, ids, counts, places, scratch) {
+            Next::Stop(f) => {
+                return RecordsRead::Refused(f);
+            }
+            Next::On(next) => {
+                now = next;
+                left -= 1;
+            }
+        }
+    }
+    RecordsRead::Taken(now)
+}
+
+// What came of reading a sheet: its answer, or that a read failed.
+pub enum SheetRead {
+    Answer(SheetAnswer),
+    Failed,
+}
+
+// Behind the last record: reads one byte more, of which there is none in a sheet.
+fn read_end(input: i32, p: Progress, bytes: &mut [u8], out: &mut [u8], spare: &[u8]) -> SheetRead
+    requires { ⌜ (length (now bytes) ≡ longest) × (length (now out) ≡ mostTally) × (length (now spare) ≡ mostTally) ⌝ }
+    ensures { λ r. ⌜ IfRead (Ended (now (spare .entry)) p (now (out .entry)) (now (out .exit))) r ⌝ }
+{
+    let BytesRead::Bytes(n) = read_bytes(input, &mut bytes[..1]) else {
+        return SheetRead::Failed;
+    };
+    SheetRead::Answer(end_sheet(p, &bytes[..n], spare, out))
+}
+
+// The head, which says how many records there are, then the records and the end.
+fn read_sheet(
+    input: i32,
+    p: Progress,
+    bytes: &mut [u8],
+    out: &mut [u8],
+    spare: &mut [u8],
+    ids: &mut [u8; IDS],
+    counts: &mut [u16; IDS],
+    places: &mut [usize; NODES],
+    scratch: &mut [usize; NODES],
+) -> SheetRead
+    requires { ⌜ Ready (now bytes) (now out) (now spare) (now ids) (now counts) × Carries (now spare) p (noRecords byOne) ⌝ }
+    ensures { λ r. ⌜ IfRead (CountedInto (now (out .entry)) (now (out .exit))) r ⌝ }
+{
+    let BytesRead::Bytes(got) = read_bytes(input, &mut bytes[..HEAD]) else {
+        return SheetRead::Failed;
+    };
+    let HeadRead::Number(count) = sheet_head(&bytes[..got]) else {
+        return SheetRead::Answer(SheetAnswer::Malformed(0));
+    };
+    match take_all(input, count, p, bytes, spare, ids, counts, places, scratch) {
+        RecordsRead::Failed => SheetRead::Failed,
+        RecordsRead::Refused(f) => SheetRead::Answer(stopped(f)),
+        RecordsRead::Taken(q) => read_end(input, q, bytes, out, spare),
+    }
+}
+
+// Reads a sheet and tallies it into the output.
+fn count_into(
+    input: i32,
+    bytes: &mut [u8],
+    out: &mut [u8],
+    spare: &mut [u8],
+    ids: &mut [u8; IDS],
+    counts: &mut [u16; IDS],
+    places: &mut [usize; NODES],
+    scratch: &mut [usize; NODES],
+) -> SheetRead
+    requires { ⌜ Ready (now bytes) (now out) (now spare) (now ids) (now counts) ⌝ }
+    ensures { λ r. ⌜ IfRead (CountedInto (now (out .entry)) (now (out .exit))) r ⌝ }
+{
+    match start(Lot::WORLD, Span::ALL_TIME, out.len(), spare.len()) {
+        StartAnswer::BadPart => SheetRead::Answer(SheetAnswer::BadPart),
+        StartAnswer::Misfit => SheetRead::Answer(SheetAnswer::Misfit),
+        StartAnswer::Started(p) => read_sheet(
+            input,
+            p,
+            bytes,
+            out,
+            spare,
+            ids,
+            counts,
+            places,
+            scratch,
+        ),
+    }
+}
+
+// What a sheet came to: the answer and, where it is a tally, its bytes at the front of the output.
+pub struct Counted {
+    pub read: SheetRead,
+    pub out: [u8; MOST_TALLY],
+}
+
+// Reads a sheet and tallies it.
+pub(crate) fn count_sheet(input: i32) -> Counted
+    ensures { λ r. ⌜ IfRead (CountedAs (r .out)) (r .read) ⌝ }
+{
+    // The tables come first, as in the tally of a sheet.
+    let mut ids = [0u8; IDS];
+    let mut counts = [0u16; IDS];
+    let mut places = [0usize; NODES];
+    let mut scratch = [0usize; NODES];
+    // A record, the running tally and the tally.
+    let mut bytes = [0u8; BLOCK_AT + MOST_BLOCK];
+    let mut spare = [0u8; MOST_TALLY];
+    let mut out = [0u8; MOST_TALLY];
+    let read = count_into(
+        input,
+        &mut bytes,
+        &mut out,
+        &mut spare,
+        &mut ids,
+        &mut counts,
+        &mut places,
+        &mut scratch,
+    );
+    Counted { read, out }
+}
