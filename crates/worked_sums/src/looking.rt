@@ -39,8 +39,6 @@ use tally::rows::behind_row;
 use tally::rows::row_of;
 use writer::write::WriteAnswer;
 use writer::write::write;
-ghost use Prim.Native.Nat.{_≤_};
-ghost use lib.ListN.{length};
 
 // Two names, a static object and a timer.
 const NAMES: [u8; 16] = *b"\x00\x00\x00\x03air\x00\x01\x00\x05stone";
@@ -56,9 +54,7 @@ const METADATA_29: [u8; 44] =
     *b"\x00\x05\x00\x00\x00\x01\x00\x04text\x00\x00\x00\x02hi\x01List main 0\nEndInventory\n";
 
 // Writes a block whose first node is of id 1 and whose others are of id 0, and tells its length; 0 where the writer refuses it.
-fn put_rows(version: u8, metadata: &[u8], timers: &[u8], out: &mut [u8]) -> usize
-    ensures { λ r. ⌜ r ≤ length (now (out .entry)) ⌝ }
-{
+fn put_rows(version: u8, metadata: &[u8], timers: &[u8], out: &mut [u8]) -> usize {
     let mut param0 = [0u16; NODES];
     let bytes = [0u8; NODES];
     param0[0] = 1;
