@@ -8,7 +8,7 @@ use Rattle.wire.specs.Answer.{Answer, good, refusal, sheetMalformed, Answered, 
 use Rattle.meter.specs.Counting.{byOne}
 use Rattle.meter.specs.Streaming.{State, takeOf, finishOf}
 use Rattle.meter.specs.Records.{clearTable}
-use Rattle.meter.specs.Progress.{Carries, Steps, toldFinish, FinishTold}
+use Rattle.meter.specs.Progress.{Carries, Steps, toldFinish}
 use Rattle.meter.specs.SheetTold.{toldSheet}
 use Rattle.meter.specs.Program.{everything, mostTally, blockLengthOf, nextOf, countedFrom, nextFaulty, toldNext, CarriesFirst}
 use Rattle.meter.specs.declared.records.RecordFault.{RecordFault}
@@ -69,7 +69,7 @@ ended-more w s d {q = q} c h =
     rw e (refl, refl)
 
 -- none, and the tally
-pub ended : (w : State byOne) (s d e : List ℕ) (r : SheetAnswer) (a : FinishAnswer) → length s ≤ 0 → length d ≡ mostTally → toldSheet r ≡ toldFinish a → FinishTold d e a (finishOf byOne (length d) w)
+pub ended : (w : State byOne) (s d e : List ℕ) (r : SheetAnswer) (a : FinishAnswer) → length s ≤ 0 → length d ≡ mostTally → toldSheet r ≡ toldFinish a → Answered (toldFinish a) d e (finishOf byOne (length d) w)
     → Answered (toldSheet r) d e (countedFrom 0 w s)
 ended w s d e r a n l t f =
     let x : finishOf byOne (length d) w ≡ countedFrom 0 w s = ap (λ (n : ℕ). finishOf byOne n w) l ∙ sym (counted-none w s (omega arith)) in

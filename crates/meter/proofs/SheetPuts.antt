@@ -15,7 +15,7 @@ use Rattle.meter.specs.Standing.{Part, goodPart, nodesIn}
 use Rattle.meter.specs.Counting.{tallyOf, byOne}
 use Rattle.meter.specs.Sheet.{sheetHead, recordsFrom, sheetOf, fittedSheet, tallySheetOf}
 use Rattle.meter.specs.Streaming.{State, noRecords, startOf, finishOf}
-use Rattle.meter.specs.Progress.{Carries, FinishTold, toldFinish}
+use Rattle.meter.specs.Progress.{Carries, toldFinish}
 use Rattle.meter.specs.SheetTold.{answerFrom, Numbered, toldSheet, SheetPut}
 use Rattle.meter.specs.declared.stream.Progress.{Progress}
 use Rattle.meter.specs.declared.stream.FinishAnswer.{FinishAnswer}
@@ -51,7 +51,7 @@ module _ (p : Part) (s : List ℕ) (d : List ℕ) where
 
     -- all were taken, and finished
     pub put-finished : {e : List ℕ} (v : State byOne) (r : SheetAnswer) (a : FinishAnswer) → ((room : ℕ) → answerFrom p room (noRecords byOne) n (drop k s) ≡ finishOf byOne room v)
-        → FinishTold d e a (finishOf byOne (length d) v) → toldSheet r ≡ toldFinish a → SheetPut p s d e r
+        → Answered (toldFinish a) d e (finishOf byOne (length d) v) → toldSheet r ≡ toldFinish a → SheetPut p s d e r
     put-finished v r a f g t = rw (from-head (length d), f (length d), t) g
 
 -- ---- the part and the buffers

@@ -3,7 +3,7 @@ use Prim.Native.Nat.{ℕ, _*_, _≤_, _<_}
 use mathlib.Core.Path.{_≡_}
 use mathlib.Core.List.{List}
 use lib.ListN.{length}
-use Rattle.wire.specs.Answer.{Answer, good, refusal, plain, badPart, partsMisfit, sheetMalformed, noRoom, tooMany, Answered}
+use Rattle.wire.specs.Answer.{Answer, good, refusal, plain, badPart, partsMisfit, sheetMalformed, noRoom, tooMany}
 use Rattle.names.specs.Used.{heavy}
 use Rattle.running.specs.Running.{Runs, none}
 use Rattle.meter.specs.Counting.{byOne}
@@ -37,12 +37,6 @@ CarriesTo t p w = Carries t (p .0) (w .0) × (p .1 ≡ w .1)
 abbrev pub begun : Progress
 begun = record { last = lasts.Nothing; records = 0; tally = none }
 
--- ---- what the answers say
-abbrev pub toldStart : StartAnswer → Answer Progress
-toldStart (starts.Started p) = good p
-toldStart starts.BadPart = plain badPart
-toldStart starts.Misfit = plain partsMisfit
-
 -- a step from a state that is carried, with clear tables, to a record whose number a u32 holds
 pub record Steps (ids counts t : List ℕ) (p : Progress) (w : State byOne) : Type 0 where
   pub ids-clear : ids ≡ clearTable
@@ -50,21 +44,26 @@ pub record Steps (ids counts t : List ℕ) (p : Progress) (w : State byOne) : Ty
   pub carries : Carries t p w
   pub number : w .records < 4294967295
 
+-- ---- what the answers say
+abbrev pub toldStart : StartAnswer → Answer Progress
+toldStart (starts.Started p) = good p
+toldStart starts.BadPart = plain badPart
+toldStart starts.Misfit = plain partsMisfit
+
 abbrev pub toldStep : StepAnswer → Answer Progress
 toldStep (steps.Taken p) = good p
 toldStep (steps.Refused f i) = faulty f i
-
--- a record that is taken lies within the bytes that it is taken from
-abbrev pub TakenInside : List ℕ → TakeAnswer → Type 0
-TakenInside s (takes.Taken p n) = n ≤ length s
-TakenInside s (takes.Misframed i) = Unit {0}
-TakenInside s (takes.Refused f i) = Unit {0}
 
 -- with where the record ends
 abbrev pub toldTake : TakeAnswer → Answer (Progress × ℕ)
 toldTake (takes.Taken p n) = good (p, n)
 toldTake (takes.Misframed i) = refusal sheetMalformed i 0
 toldTake (takes.Refused f i) = faulty f i
+
+-- a record that is taken lies within the bytes that it is taken from
+abbrev pub TakenInside : List ℕ → Answer (Progress × ℕ) → Type 0
+TakenInside s (good x) = x .1 ≤ length s
+TakenInside s (refusal n r o) = Unit {0}
 
 abbrev pub toldFinish : FinishAnswer → Answer ℕ
 toldFinish (finishes.Tallied n) = good n
@@ -75,6 +74,3 @@ toldFinish (finishes.TooMany i) = refusal tooMany i 0
 abbrev pub Untouched : {A : Type 0} → Answer A → List ℕ → List ℕ → Type 0
 Untouched (good a) before after = Unit {0}
 Untouched (refusal n r o) before after = after ≡ before
-
-abbrev pub FinishTold : List ℕ → List ℕ → FinishAnswer → Answer (List ℕ) → Type 0
-FinishTold before after r a = Answered (toldFinish r) before after a

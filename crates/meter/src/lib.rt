@@ -2,7 +2,7 @@
 mod adding;
 pub mod block;
 pub mod head;
-pub mod part;
+mod part;
 pub mod program;
 pub mod records;
 pub mod sheet;

@@ -46,7 +46,7 @@ impl Lot {
         is_axis(self.x0, self.x1) & (is_axis(self.y0, self.y1) & is_axis(self.z0, self.z1))
     }
 
-    // Beside its answer, what the constant is.
+    // A constant has no contract of its own, so this one says what the whole world is.
     pub fn new(x0: i32, y0: i32, z0: i32, x1: i32, y1: i32, z1: i32) -> LotAnswer
         ensures { λ r. ⌜ toldLot r ≡ lotOf x0 y0 z0 x1 y1 z1 ⌝ }
         ensures { λ _. do ⌜ ((← ⟦Lot::WORLD.x0⟧ .entry) ≡ world .x0) × ((← ⟦Lot::WORLD.y0⟧ .entry) ≡ world .y0) × ((← ⟦Lot::WORLD.z0⟧ .entry) ≡ world .z0) ⌝ }

@@ -26,7 +26,7 @@ impl Span {
         self.from <= self.until
     }
 
-    // Beside its answer, what the constant is.
+    // A constant has no contract of its own, so this one says what all time is.
     pub fn new(from: u32, until: u32) -> SpanAnswer
         ensures { λ r. ⌜ toldSpan r ≡ spanOf from until ⌝ }
         ensures { λ _. do ⌜ ((← ⟦Span::ALL_TIME.from⟧ .entry) ≡ allTime .from) × ((← ⟦Span::ALL_TIME.until⟧ .entry) ≡ allTime .until) ⌝ }

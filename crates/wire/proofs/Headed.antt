@@ -102,13 +102,13 @@ module _ (m : List ℕ) (three : length m ≡ 3) (s : List ℕ) {E F : Type 0} (
   pub head-found : found (head {ends = e} m .read s) ≡ found (head {ends = d} m .read s)
   head-found = go (opening m three 1 s)
     where
-      number : (b : Bool) → leb 4 (length (drop 5 s)) ≡ b → found (behindHead (u32 {ends = e} .read (drop 5 s))) ≡ found (behindHead (u32 {ends = d} .read (drop 5 s)))
-      number true h = rw (number-done e 4 (drop 5 s) (leb-true _ _ h), number-done d 4 (drop 5 s) (leb-true _ _ h))
-      number false h = rw (number-ends e 4 (drop 5 s) (leb-false _ _ h), number-ends d 4 (drop 5 s) (leb-false _ _ h))
+      same-number : (b : Bool) → leb 4 (length (drop 5 s)) ≡ b → found (behindHead (u32 {ends = e} .read (drop 5 s))) ≡ found (behindHead (u32 {ends = d} .read (drop 5 s)))
+      same-number true h = rw (number-done e 4 (drop 5 s) (leb-true _ _ h), number-done d 4 (drop 5 s) (leb-true _ _ h))
+      same-number false h = rw (number-ends e 4 (drop 5 s) (leb-false _ _ h), number-ends d 4 (drop 5 s) (leb-false _ _ h))
 
       go : Opening m 1 s → found (head {ends = e} m .read s) ≡ found (head {ends = d} m .read s)
       go (astray p k) = ap found (k E ℕ e u32) ∙ found-is (k F ℕ d u32)
-      go (opens k) = ap found (k E ℕ e u32) ∙ number (leb 4 (length (drop 5 s))) refl ∙ found-is (k F ℕ d u32)
+      go (opens k) = ap found (k E ℕ e u32) ∙ same-number (leb 4 (length (drop 5 s))) refl ∙ found-is (k F ℕ d u32)
 
 -- ---- written
 module _ (m : List ℕ) (three : length m ≡ 3) (n : ℕ) (d : List ℕ) where

@@ -44,7 +44,7 @@ Answered a before after x = (a ≡ mapAnswer length x) × (after ≡ lent x befo
 -- An answer of the code, with what it gives in the code's own terms, and that of the definitions: both are good and what they give is related,
 -- or both are the same refusal.
 abbrev pub Matches : {A B : Type 0} → (A → B → Type 0) → Answer A → Answer B → Type 0
-Matches R (good a) b = (x : _) × (b ≡ good x) × R a x
+Matches {B = B} R (good a) b = (x : B) × (b ≡ good x) × R a x
 Matches R (refusal n r o) b = b ≡ refusal n r o
 
 -- ---- the table
@@ -120,7 +120,7 @@ pub map-good : {A B : Type 0} (f : A → B) (a : Answer A) (b : B) → mapAnswer
 map-good f (good x) b h = (x, refl, (cc))
 map-good f (refusal n r o) b h = no-good h
 
--- by the code's terms for what the definitions give
+-- what the code gives is worked out from what the definitions give
 pub matches-map : {A B : Type 0} (R : A → B → Type 0) (f : B → A) (b : Answer B) {a : Answer A} → a ≡ mapAnswer f b → ((x : B) → b ≡ good x → R (f x) x) → Matches R a b
 matches-map R f (good x) e k = subst⁻¹ (λ a. Matches R a (good x)) e (x, refl, k x refl)
 matches-map R f (refusal n r o) e k = subst⁻¹ (λ a. Matches R a (refusal n r o)) e refl

@@ -58,7 +58,9 @@ pub found-is : {E A : Type 0} {r q : Read E A} → r ≡ q → found q ≡ found
 found-is h = sym (ap found h)
 
 pub found-done : {E A : Type 0} (r : Read E A) {a : A} {n : ℕ} → some (a, n) ≡ found r → r ≡ done a n
-found-done {A = A} (done b m) {a = a} {n = n} h = ap (λ (y : A × ℕ). done (y .0) (y .1)) (let x : _≡_ {A = A × ℕ} (b, m) (a, n) = cc in x)
+found-done {A = A} (done b m) {a = a} {n = n} h =
+    let x : _≡_ {A = A × ℕ} (b, m) (a, n) = cc in
+    ap (λ (y : A × ℕ). done (y .0) (y .1)) x
 found-done (refused e p) h = let z : _≡_ {A = ℕ} 0 1 = cc in absurd (omega arith)
 
 pub found-none : {E A : Type 0} (r : Read E A) → none ≡ found r → Misread r

@@ -1,11 +1,11 @@
 use borrow.Author.Needs.{needs}
 use Prim.Native.Nat.{ℕ, _≤_}
-use mathlib.Core.Path.{subst, _∙_}
+use mathlib.Core.Path.{ap, subst, _∙_}
 use mathlib.Core.List.{List}
 use lib.ListN.{length}
 use denote.Ref.{now}
 use Rattle.meter.specs.Adding.{part}
-use Rattle.meter.specs.Progress.{TakenInside}
+use Rattle.meter.specs.Progress.{toldTake, TakenInside}
 use Rattle.meter.proofs.Walking.{Walking, walking-start, walking-more, walking-end, walking-misframed, walking-refused, walking-on, begins}
 use Rattle.meter.proofs.sheet.take_records.Statement.{statement}
 use Rattle.meter.proofs.sheet.take_records.Tie as tie
@@ -27,7 +27,7 @@ spare x = x .take-record .last .1 .1 .1 .1 .0
 
 -- a record that is taken lies in the rest
 inside : (c : tie.After-known-told3 Inv-loop μ-loop) → c .before .next .given .0 .1 .0 ≤ length (now (c .before .before .before .before .before .before .before .before .before .before .before .before .loop .rest))
-inside c = subst (TakenInside (now (c .before .before .before .before .before .before .before .before .before .before .before .before .loop .rest))) (c .before .next .given .1) (c .before .before .before .before .before .take-record .ensures .1 .1 .0)
+inside c = subst (TakenInside (now (c .before .before .before .before .before .before .before .before .before .before .before .before .loop .rest))) (ap toldTake (c .before .next .given .1)) (c .before .before .before .before .before .take-record .ensures .1 .1 .0)
 
 loop-holds : tie.Need-loop-holds Inv-loop μ-loop
 loop-holds c = walking-start (part (c .before .before .args .lot) (c .before .before .args .span)) _ _ _ _ _ _ (λ i. c .before .shared-slice-known .given i .fits)
