@@ -1,9 +1,9 @@
 // What a call comes back with.
 use crate::numbers::DONE;
 use mapblock::fault::Fault;
-use mapblock::fault::number;
+use mapblock::fault::refusal_number;
 ghost use mathlib.Core.Path.{_≡_};
-ghost use Rattle.mapblock.specs.Numbers.{number};
+ghost use Rattle.mapblock.specs.Numbers.{refusalNumber};
 ghost use Rattle.anowhetele.specs.Answers.{doneWith, refusedWith};
 
 #[repr(C)]
@@ -41,10 +41,10 @@ pub(crate) fn plain(number: u32) -> AnowAnswer
 
 // A fault in a block or a row, at its place.
 pub(crate) fn refused(fault: Fault, offset: usize) -> AnowAnswer
-    ensures { λ r. ⌜ r ≡ refusedWith (number fault) 0 offset ⌝ }
+    ensures { λ r. ⌜ r ≡ refusedWith (refusalNumber fault) 0 offset ⌝ }
 {
     AnowAnswer {
-        number: number(fault),
+        number: refusal_number(fault),
         index: 0,
         offset: offset as u64,
         length: 0,

@@ -10,7 +10,7 @@ use crate::numbers::OUT_OF_RANGE;
 use crate::numbers::PARTS_MISFIT;
 use crate::numbers::SHEET_MALFORMED;
 use crate::numbers::TOO_MANY;
-use mapblock::fault::number;
+use mapblock::fault::refusal_number;
 use meter::block::BlockAnswer;
 use meter::block::tally_block;
 use meter::records::RecordFault;
@@ -56,7 +56,7 @@ fn record_refused(fault: RecordFault, index: u32) -> AnowAnswer
     match fault {
         RecordFault::OutOfRange => in_record(OUT_OF_RANGE, index, 0),
         RecordFault::NotRising => in_record(SHEET_MALFORMED, index, 0),
-        RecordFault::Block(f, p) => in_record(number(f), index, p),
+        RecordFault::Block(f, p) => in_record(refusal_number(f), index, p),
     }
 }
 

@@ -19,7 +19,7 @@ use Rattle.mapblock.specs.Params.{listsOf}
 use Rattle.mapblock.specs.Rows.{nowhere}
 use Rattle.mapblock.specs.Sections.{found, within}
 use Rattle.mapblock.specs.Table.{freeIn}
-use Rattle.mapblock.specs.Numbers.{number}
+use Rattle.mapblock.specs.Numbers.{refusalNumber}
 use Rattle.mapblock.specs.Questions.{areWhole, blockAnswer, blockOf, shown, sectionsOf, readOf, partsOf}
 use Rattle.mapblock.specs.declared.fault.Fault.{Fault}
 use Rattle.mapblock.specs.declared.head.Head.{Head}
@@ -42,7 +42,7 @@ clear-all n = fun-ext (λ i. eq-eqb (getD (replicate n 0) i 0) 0 (zeros-at n i))
 pub clear-table : (n : ℕ) (s : List ℕ) {r : Read Fault Found} → r ≡ mapRead found (verdict (freeIn (replicate n 0)) s) → r ≡ mapRead found (verdict all s)
 clear-table n s h = h ∙ ap (λ (free : ℕ → Bool). mapRead found (verdict free s)) (clear-all n)
 
-pub block-refused : (s : List ℕ) {f : Fault} {p : ℕ} → refused f p ≡ mapRead found (verdict all s) → blockOf s ≡ refusal (number f) 0 p
+pub block-refused : (s : List ℕ) {f : Fault} {p : ℕ} → refused f p ≡ mapRead found (verdict all s) → blockOf s ≡ refusal (refusalNumber f) 0 p
 unfolding blockOf
 block-refused s {f} {p} h = ap blockAnswer (map-refused found (verdict all s) f p (sym h))
 
@@ -73,7 +73,7 @@ taken-as s {w} {n} y h =
 
 -- ---- the sections
 module _ (s : List ℕ) where
-  pub sections-refused : {f : Fault} {p : ℕ} → refused f p ≡ mapRead found (verdict all s) → refusal (number f) 0 p ≡ sectionsOf s
+  pub sections-refused : {f : Fault} {p : ℕ} → refused f p ≡ mapRead found (verdict all s) → refusal (refusalNumber f) 0 p ≡ sectionsOf s
   sections-refused h = sym (ap (mapAnswer shown) (block-refused s h))
 
   pub sections-told : {w : Found} → TakenAs s w → good (w .head, w .sections) ≡ sectionsOf s

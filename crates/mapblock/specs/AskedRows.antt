@@ -1,7 +1,7 @@
 -- What the code's answers to row questions say: document 01, 'Order', "Row question: 2, then 16 for an empty part, then the reader's 1, 3 or 4".
 use Prim.Native.Nat.{ℕ}
 use Rattle.wire.specs.Answer.{Answer, good, refusal, plain, noSuch}
-use Rattle.mapblock.specs.Numbers.{number}
+use Rattle.mapblock.specs.Numbers.{refusalNumber}
 use Rattle.mapblock.specs.declared.names.NameFields.{NameFields}
 use Rattle.mapblock.specs.declared.metadata.MetadataFields.{MetadataFields}
 use Rattle.mapblock.specs.declared.objects.ObjectFields.{ObjectFields}
@@ -18,19 +18,19 @@ use Rattle.mapblock.specs.declared.row_questions.TimerRowAnswer.the-vari
 abbrev pub toldNameRow : NameRowAnswer → Answer (NameFields × ℕ)
 toldNameRow (name.Row r n) = good (r, n)
 toldNameRow name.NoSuchRow = plain noSuch
-toldNameRow (name.Refused f p) = refusal (number f) 0 p
+toldNameRow (name.Refused f p) = refusal (refusalNumber f) 0 p
 
 abbrev pub toldMetadataRow : MetadataRowAnswer → Answer (MetadataFields × ℕ)
 toldMetadataRow (metadata.Row r n) = good (r, n)
 toldMetadataRow metadata.NoSuchRow = plain noSuch
-toldMetadataRow (metadata.Refused f p) = refusal (number f) 0 p
+toldMetadataRow (metadata.Refused f p) = refusal (refusalNumber f) 0 p
 
 abbrev pub toldObjectRow : ObjectRowAnswer → Answer (ObjectFields × ℕ)
 toldObjectRow (object.Row r n) = good (r, n)
 toldObjectRow object.NoSuchRow = plain noSuch
-toldObjectRow (object.Refused f p) = refusal (number f) 0 p
+toldObjectRow (object.Refused f p) = refusal (refusalNumber f) 0 p
 
 abbrev pub toldTimerRow : TimerRowAnswer → Answer (TimerFields × ℕ)
 toldTimerRow (timer.Row r n) = good (r, n)
 toldTimerRow timer.NoSuchRow = plain noSuch
-toldTimerRow (timer.Refused f p) = refusal (number f) 0 p
+toldTimerRow (timer.Refused f p) = refusal (refusalNumber f) 0 p

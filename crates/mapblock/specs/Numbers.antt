@@ -5,25 +5,25 @@ use Rattle.wire.specs.Answer.{Answer, good, refusal, endsInside, versionOutside
 use Rattle.mapblock.specs.declared.fault.Fault.{Fault}
 use Rattle.mapblock.specs.declared.fault.Fault.the-variants as fault
 
-abbrev pub number : Fault → ℕ
-number fault.Ends = endsInside
-number fault.Version = versionOutside
-number fault.ContentWidth = fixedDiffers
-number fault.ParamsWidth = fixedDiffers
-number fault.MetadataVersion = fixedDiffers
-number fault.PrivateByte = fixedDiffers
-number fault.ByteOf23 = fixedDiffers
-number fault.TimerByte = fixedDiffers
-number fault.ObjectVersion = fixedDiffers
-number fault.MappingVersion = fixedDiffers
-number fault.TimerRowLength = fixedDiffers
-number fault.PositionAbove = positionAbove
-number fault.PositionTwice = positionTwice
-number fault.IdTwice = idTwice
-number fault.BytesAfter = bytesAfter
-number fault.IdUnmapped = idUnmapped
+abbrev pub refusalNumber : Fault → ℕ
+refusalNumber fault.Ends = endsInside
+refusalNumber fault.Version = versionOutside
+refusalNumber fault.ContentWidth = fixedDiffers
+refusalNumber fault.ParamsWidth = fixedDiffers
+refusalNumber fault.MetadataVersion = fixedDiffers
+refusalNumber fault.PrivateByte = fixedDiffers
+refusalNumber fault.ByteOf23 = fixedDiffers
+refusalNumber fault.TimerByte = fixedDiffers
+refusalNumber fault.ObjectVersion = fixedDiffers
+refusalNumber fault.MappingVersion = fixedDiffers
+refusalNumber fault.TimerRowLength = fixedDiffers
+refusalNumber fault.PositionAbove = positionAbove
+refusalNumber fault.PositionTwice = positionTwice
+refusalNumber fault.IdTwice = idTwice
+refusalNumber fault.BytesAfter = bytesAfter
+refusalNumber fault.IdUnmapped = idUnmapped
 
 -- what a reading answers: the value and its length, or the fault's number at its place
 abbrev pub answerOf : {A : Type 0} → Read Fault A → Answer (A × ℕ)
 answerOf (done a n) = good (a, n)
-answerOf (refused f p) = refusal (number f) 0 p
+answerOf (refused f p) = refusal (refusalNumber f) 0 p

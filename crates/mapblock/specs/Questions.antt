@@ -11,7 +11,7 @@ use Rattle.wire.specs.Answer.{Answer, good, refusal, plain, mapAnswer, thenAnsw
 use Rattle.mapblock.specs.Data.{NameRow, Block}
 use Rattle.mapblock.specs.Layout.{all, nameRow}
 use Rattle.mapblock.specs.Block.{idAt, verdict}
-use Rattle.mapblock.specs.Numbers.{number}
+use Rattle.mapblock.specs.Numbers.{refusalNumber}
 use Rattle.mapblock.specs.Rows.{part, nowhere}
 use Rattle.mapblock.specs.Valid.{Each, NameGood}
 use Rattle.mapblock.specs.Sections.{sections, namesPart}
@@ -29,7 +29,7 @@ use Rattle.mapblock.specs.declared.node.NodeAnswer.the-variants as nodes
 -- the block, or the number and place of its fault
 abbrev pub blockAnswer : Read Fault Block → Answer Block
 blockAnswer (done b n) = good b
-blockAnswer (refused f p) = refusal (number f) 0 p
+blockAnswer (refused f p) = refusal (refusalNumber f) 0 p
 
 unfoldable pub blockOf : List ℕ → Answer Block
 blockOf s = blockAnswer (verdict all s)
@@ -88,13 +88,13 @@ pub record NameRun (s : List ℕ) (l : List NameRow) : Type 0 where
 abbrev pub toldRead : ReadAnswer → Answer (Head × Sections)
 toldRead (read.Block h s) = good (h, s)
 toldRead read.Misfit = plain partsMisfit
-toldRead (read.Refused f p) = refusal (number f) 0 p
+toldRead (read.Refused f p) = refusal (refusalNumber f) 0 p
 
 abbrev pub toldSections : SectionsAnswer → Answer (Head × Sections)
 toldSections (looked.Block h s) = good (h, s)
-toldSections (looked.Refused f p) = refusal (number f) 0 p
+toldSections (looked.Refused f p) = refusal (refusalNumber f) 0 p
 
 abbrev pub toldNode : NodeAnswer → Answer Part
 toldNode (nodes.Name p) = good p
 toldNode nodes.NoSuchNode = plain noSuch
-toldNode (nodes.Refused f p) = refusal (number f) 0 p
+toldNode (nodes.Refused f p) = refusal (refusalNumber f) 0 p

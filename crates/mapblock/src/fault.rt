@@ -1,6 +1,6 @@
 // Faults of a block.
 ghost use mathlib.Core.Path.{_≡_};
-ghost use Rattle.mapblock.specs.Numbers.{number};
+ghost use Rattle.mapblock.specs.Numbers.{refusalNumber};
 
 // What may be wrong with a block, field by field.
 pub enum Fault {
@@ -27,8 +27,8 @@ pub enum Fault {
 }
 
 // Document 01's number of a fault, as specs/Numbers.antt gives it.
-pub fn number(fault: Fault) -> u32
-    ensures { λ r. ⌜ r ≡ number fault ⌝ }
+pub fn refusal_number(fault: Fault) -> u32
+    ensures { λ r. ⌜ r ≡ refusalNumber fault ⌝ }
 {
     match fault {
         Fault::Ends => 1,

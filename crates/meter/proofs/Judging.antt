@@ -11,7 +11,7 @@ use Rattle.position.specs.Keys.{splitOf}
 use Rattle.position.specs.declared.key.Coordinates.{Coordinates}
 use Rattle.mapblock.specs.Layout.{all}
 use Rattle.mapblock.specs.Block.{verdict}
-use Rattle.mapblock.specs.Numbers.{number}
+use Rattle.mapblock.specs.Numbers.{refusalNumber}
 use Rattle.mapblock.specs.Questions.{blockOf}
 use Rattle.mapblock.specs.Sections.{found}
 use Rattle.mapblock.specs.Table.{freeIn}
@@ -39,7 +39,7 @@ module _ (free : ℕ → Bool) (last : Option ℤ) (r : SheetRecord) where
     judged-falling f = rw (sym h, f)
 
     module _ (u : rises last (r .key) ≡ true) where
-      pub judged-refused : {f : Fault} {p : ℕ} → refused f p ≡ mapRead found (verdict free (r .block)) → refusal (number f) 0 p ≡ judged
+      pub judged-refused : {f : Fault} {p : ℕ} → refused f p ≡ mapRead found (verdict free (r .block)) → refusal (refusalNumber f) 0 p ≡ judged
       unfolding judgedIn
       judged-refused {f} {p} k = rw (sym h, u, map-refused found (verdict free (r .block)) f p (sym k))
 

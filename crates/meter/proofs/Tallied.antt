@@ -12,7 +12,7 @@ use Rattle.position.specs.Keys.{splitOf}
 use Rattle.position.specs.declared.key.Coordinates.{Coordinates}
 use Rattle.mapblock.specs.Data.{Block}
 use Rattle.mapblock.specs.Block.{verdict}
-use Rattle.mapblock.specs.Numbers.{number}
+use Rattle.mapblock.specs.Numbers.{refusalNumber}
 use Rattle.mapblock.specs.Sections.{found}
 use Rattle.mapblock.specs.Table.{freeIn}
 use Rattle.mapblock.specs.declared.fault.Fault.{Fault}
@@ -36,7 +36,7 @@ module _ (key : ℤ) (s : List ℕ) (p : Part) (d : List ℕ) where
     block-astray k = rw (h, ← k) (refl, refl)
 
     module _ {c : Coordinates} (k : good c ≡ splitOf key) where
-      pub block-refuses : {f : Fault} {o : ℕ} → refused f o ≡ mapRead found (verdict (freeIn (replicate 65536 0)) s) → Answered (refusal (number f) 0 o) d d (tallyBlockOf byOne key s p (length d))
+      pub block-refuses : {f : Fault} {o : ℕ} → refused f o ≡ mapRead found (verdict (freeIn (replicate 65536 0)) s) → Answered (refusal (refusalNumber f) 0 o) d d (tallyBlockOf byOne key s p (length d))
       unfolding tallyBlockOf placedAt
       block-refuses r = rw (h, ← k, block-refused s (clear-table 65536 s r)) (refl, refl)
 

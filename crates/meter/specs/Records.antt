@@ -11,7 +11,7 @@ use Rattle.position.specs.declared.key.Coordinates.{Coordinates}
 use Rattle.mapblock.specs.Data.{Block}
 use Rattle.mapblock.specs.Layout.{all}
 use Rattle.mapblock.specs.Block.{verdict}
-use Rattle.mapblock.specs.Numbers.{number}
+use Rattle.mapblock.specs.Numbers.{refusalNumber}
 use Rattle.mapblock.specs.Sections.{found}
 use Rattle.mapblock.specs.declared.scan.Found.{Found}
 use Rattle.meter.specs.Standing.{Placed}
@@ -46,7 +46,7 @@ lastOf (lasts.Key k) = some k
 abbrev pub faultNumber : RecordFault → ℕ
 faultNumber faults.OutOfRange = outOfRange
 faultNumber faults.NotRising = sheetMalformed
-faultNumber (faults.Block f p) = number f
+faultNumber (faults.Block f p) = refusalNumber f
 
 -- 0 but for 1 to 8
 abbrev pub faultOffset : RecordFault → ℕ

@@ -5,7 +5,7 @@ use lib.ListN.{length}
 use Rattle.wire.specs.Answer.{Answer, good, refusal, plain, outOfRange, badPart, noRoom, Answered}
 use Rattle.position.specs.declared.key.Coordinates.{Coordinates}
 use Rattle.mapblock.specs.Data.{Block}
-use Rattle.mapblock.specs.Numbers.{number}
+use Rattle.mapblock.specs.Numbers.{refusalNumber}
 use Rattle.meter.specs.Standing.{Part, nodesIn}
 use Rattle.meter.specs.Counting.{tallyOf, byOne}
 use Rattle.meter.specs.Tallying.{placed, fitted}
@@ -16,7 +16,7 @@ abbrev pub toldBlock : BlockAnswer → Answer ℕ
 toldBlock (block.Tallied n) = good n
 toldBlock block.BadPart = plain badPart
 toldBlock block.OutOfRange = plain outOfRange
-toldBlock (block.Refused f p) = refusal (number f) 0 p
+toldBlock (block.Refused f p) = refusal (refusalNumber f) 0 p
 toldBlock block.NoRoom = plain noRoom
 
 -- the tally of what stands of b in the part, put into a buffer where it fits

@@ -219,7 +219,9 @@ fn spread(
     fill(s, counts, places, t, missing, size + missing);
 }
 
-// Adds the counted names to the running tally. Nothing is put in before the rows of new names are known to fit.
+// Adds the counted names to the running tally. Nothing is put in before the rows of new names are known to fit. This is an inner function of the
+// meter: what becomes of the tally is promised where the buffer holds the rows that `w` tells, the places are in the order of their names and
+// counted, and no sum can pass a u64 (`Absorbs`). Of every state: the buffer keeps its length.
 pub fn absorb(s: &[u8], counts: &[u16; IDS], places: &[usize], t: &mut [u8], w: Running) -> Running
     ensures { λ _. ⌜ length (now (t .exit)) ≡ length (now (t .entry)) ⌝ }
     ensures { λ r. ⌜ ((R : Rows ones) → Absorbs (now (s .entry)) (now (counts .entry)) (now (places .entry)) (now (t .entry)) w R

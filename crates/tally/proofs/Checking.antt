@@ -13,16 +13,16 @@ use borrow.Author.Tests.{eq-eqb, ne-eqb, eqb-true, eqb-false}
 use Rattle.wire.specs.Choice.{yes-and, and-no}
 use Rattle.wire.specs.Order.{order, choose}
 use Rattle.wire.specs.declared.order.Order.{Order}
-use Rattle.wire.specs.Read.{Read, done, refused}
+use Rattle.wire.specs.Read.{Read, done, refused, found, found-done}
 use Rattle.wire.specs.Format.{items, readItems}
 use Rattle.wire.proofs.Joints.{such-done, such-passes}
 use Rattle.wire.proofs.Items.{after, items-start, items-on, items-refused, items-end}
 use Rattle.tally.specs.Rows.{Row, Rows}
-use Rattle.tally.specs.Tally.{Malformed, malformed, rises, found, fields, mayStand, row, ones, one}
+use Rattle.tally.specs.Tally.{Malformed, malformed, rises, fields, mayStand, row, ones, one}
 use Rattle.tally.specs.Told.{toldRow}
 use Rattle.tally.specs.Walks.{mayFollow, isSome, takes}
 use Rattle.tally.specs.declared.rows.RowRead.the-variants as rows
-use Rattle.tally.proofs.Held.{found-some, row-inside}
+use Rattle.tally.proofs.Held.{row-inside}
 use Rattle.tally.proofs.FrontRows.{row-refused, row-good, row-bad}
 
 -- a name after the last one
@@ -77,7 +77,7 @@ module _ {count : ℕ} {s rest last : List ℕ} {first : Bool} {left : ℕ} (k :
 
     module _ (n c : ℕ) (h : toldRow rest (rows.Row n c) ≡ found (row one [] .read rest)) where
       read : row one [] .read rest ≡ done (record { name = take n (drop 2 rest); count = c }) (n + 10)
-      read = found-some (row one [] .read rest) (record { name = take n (drop 2 rest); count = c }) (n + 10) (sym h)
+      read = found-done (row one [] .read rest) h
 
       pub checking-falls : mayFollow first last (take n (drop 2 rest)) ≡ false → false ≡ takes (items (row one) count) s
       checking-falls e =

@@ -11,7 +11,7 @@ use borrow.Author.Tests.{le-leb, lt-leb, eq-eqb, ne-eqb}
 use Rattle.wire.specs.Answer.{good, plain, tallyMalformed, noSuch, partOf}
 use Rattle.wire.specs.Places.{startTold}
 use Rattle.wire.specs.Bytes.{Bytes}
-use Rattle.wire.specs.Read.{done, refused}
+use Rattle.wire.specs.Read.{done, refused, found}
 use Rattle.wire.specs.Format.{such, along, ends-in}
 use Rattle.wire.specs.Formats.{counted, u64}
 use Rattle.wire.specs.Told.{short, toldCounted, toldU64}
@@ -20,7 +20,7 @@ use Rattle.wire.specs.declared.fields.U64.the-variants as u64s
 use Rattle.wire.proofs.Steps.{number-told, counted-told}
 use Rattle.wire.proofs.Joints.{then-refused, then-done}
 use Rattle.tally.specs.Rows.{Row, isName}
-use Rattle.tally.specs.Tally.{Malformed, malformed, Form, Kind, KindRow, KindRows, found, fields, mayStand, row, one}
+use Rattle.tally.specs.Tally.{Malformed, malformed, Form, Kind, KindRow, KindRows, fields, mayStand, row, one}
 use Rattle.tally.specs.Operations.{frontOf}
 use Rattle.tally.specs.Told.{toldRow}
 use Rattle.tally.proofs.Held.{row-inside}

@@ -12,12 +12,12 @@ use borrow.Author.Tests.{le-leb, leb-true, eqb-true, eq-eqb}
 use Rattle.wire.specs.Choice.{no-true, and-yes, yes-and, three-yes, yes-three}
 use Rattle.wire.specs.Bytes.{Bytes, spell, spell-length, bytes-nil, bytes-cons}
 use Rattle.wire.specs.Order.{order, choose}
-use Rattle.wire.specs.Read.{Read, done, refused}
+use Rattle.wire.specs.Read.{Read, done, refused, found, found-done}
 use Rattle.wire.specs.Format.{run, such, _⨾_, along, items, OkItems, encodeItems, ends-in}
 use Rattle.wire.specs.Formats.{number, counted, listed, behind, headLength}
 use Rattle.wire.proofs.EveryFormat.{every-format}
 use Rattle.tally.specs.Rows.{Row, Rows, isName, Above, Canonical}
-use Rattle.tally.specs.Tally.{Malformed, malformed, Kind, KindRow, KindRows, tallyMark, headBytes, rises, found, whole, fields, mayStand, row, tally, rowsOf, limited, countable, ones, one, mostRows}
+use Rattle.tally.specs.Tally.{Malformed, malformed, Kind, KindRow, KindRows, tallyMark, headBytes, rises, whole, fields, mayStand, row, tally, rowsOf, limited, countable, ones, one, mostRows}
 use Rattle.tally.specs.Told.{toldRow}
 use Rattle.tally.specs.Walks.{rowsBytes, Holds}
 use Rattle.tally.proofs.Canon.{above-weak}
@@ -26,13 +26,6 @@ use Rattle.wire.specs.declared.order.Order.{Order}
 use Rattle.wire.specs.declared.order.Order.the-variants.{Before, Same, After}
 
 -- ---- what reading found
--- what was found was read
-pub found-some : {A : Type 0} (r : Read Malformed A) (a : A) (n : ℕ) → found r ≡ some (a, n) → r ≡ done a n
-found-some {A} (done b m) a n h =
-    let e : _≡_ {A = A × ℕ} (b, m) (a, n) = Option·some-injective (b, m) (a, n) h in
-    λ i. done (e i .0) (e i .1)
-found-some (refused e p) a n h = absurd (Option·none-ne-some (a, n) h)
-
 pub whole-some : {A : Type 0} (s : List ℕ) (r : Read Malformed A) (a : A) → whole s r ≡ some a → r ≡ done a (length s)
 whole-some {A} s (done b m) a h = go (eqb m (length s)) refl h
   where
@@ -244,7 +237,7 @@ pub record FirstRow (s : List ℕ) (n c : ℕ) (L : Rows ones) : Type 0 where
 
 -- a row that was read lies in the bytes
 pub row-inside : (s : List ℕ) (n c : ℕ) → toldRow s (rows.Row n c) ≡ found (row one [] .read s) → n + 10 ≤ length s
-row-inside s n c h = ends-in (row one []) (found-some (row one [] .read s) (record { name = take n (drop 2 s); count = c }) (n + 10) (sym h))
+row-inside s n c h = ends-in (row one []) (found-done (row one [] .read s) h)
 
 pub first-row : (s : List ℕ) (n c : ℕ) (L : Rows ones) → toldRow s (rows.Row n c) ≡ found (row one [] .read s) → Holds one s L → FirstRow s n c L
 first-row s n c [] h k = let z : length s ≡ 0 = ap length (k .bytes) in absurd (omega (arith, row-inside s n c h))

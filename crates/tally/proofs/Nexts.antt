@@ -15,7 +15,8 @@ use Rattle.wire.specs.Order.{order}
 use Rattle.wire.specs.declared.order.Order.{Order}
 use Rattle.wire.specs.declared.order.Order.the-variants.{Before, Same, After}
 use Rattle.tally.specs.Rows.{Row, Rows, joined, plus}
-use Rattle.tally.specs.Tally.{malformed, found, fields, row, limited, most, ones, one}
+use Rattle.wire.specs.Read.{found}
+use Rattle.tally.specs.Tally.{malformed, fields, row, limited, most, ones, one}
 use Rattle.tally.specs.Told.{toldRow}
 use Rattle.tally.specs.Walks.{rowsBytes, Holds}
 use Rattle.tally.specs.Sums.{side, NextInside, NextRow, NextOf}

@@ -14,7 +14,8 @@ use Rattle.wire.specs.Order.{order, choose, flip, order-same, order-flip}
 use Rattle.wire.specs.declared.order.Order.{Order}
 use Rattle.wire.specs.declared.order.Order.the-variants.{Before, Same, After}
 use Rattle.tally.specs.Rows.{Row, Rows, Above}
-use Rattle.tally.specs.Tally.{found, fields, row, ones, one}
+use Rattle.wire.specs.Read.{found, found-done}
+use Rattle.tally.specs.Tally.{fields, row, ones, one}
 use Rattle.tally.specs.Told.{toldRow}
 use Rattle.tally.specs.Walks.{rowsBytes, Holds}
 use Rattle.tally.specs.Sought.{rowThen, frontRows, seekIn, seekOf, Below, Sought}
@@ -22,7 +23,7 @@ use Rattle.tally.specs.declared.rows.RowRead.the-variants as rows
 use Rattle.tally.specs.declared.add.Found.{Found}
 use Rattle.tally.specs.declared.add.Found.the-variants as founds
 use Rattle.tally.proofs.Canon.{above-weak}
-use Rattle.tally.proofs.Held.{found-some, row-bytes, name-bytes, rows-append, FirstRow, row-inside, first-row, no-row, one-size}
+use Rattle.tally.proofs.Held.{row-bytes, name-bytes, rows-append, FirstRow, row-inside, first-row, no-row, one-size}
 use Rattle.tally.proofs.FrontRows.{name-part}
 
 -- ---- bytes up to a place, from another on
@@ -142,7 +143,7 @@ row-encodes r = row-encoded r ∙ row-bytes one r ∙ ap (λ (l : List ℕ). l +
 -- ---- a row that was found, by the length of its name and its count
 row-shape : (s : List ℕ) (r : Row ℕ) (m : ℕ) → Bytes s → found (row one [] .read s) ≡ some (r, m) → toldRow s (rows.Row (length (r .name)) (r .count)) ≡ found (row one [] .read s)
 row-shape s r m b h =
-    let t = row one [] .backward s r m b (found-some (row one [] .read s) r m h) in
+    let t = row one [] .backward s r m b (found-done (row one [] .read s) (sym h)) in
     let bytes : s ≡ spell 2 (length (r .name)) ++ (r .name ++ (one .count .encode (r .count) ++ drop m s)) =
     t .front ∙ ap (λ (l : List ℕ). l ++ drop m s) (row-encodes r) ∙ append-assoc (spell 2 (length (r .name)) ++ r .name) (one .count .encode (r .count)) (drop m s)
     ∙ append-assoc (spell 2 (length (r .name))) (r .name) (one .count .encode (r .count) ++ drop m s) in

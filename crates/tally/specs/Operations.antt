@@ -8,7 +8,8 @@ use lib.ListN.{length, take, drop}
 use Rattle.wire.specs.Answer.{Answer, good, plain, inRoom, partsMisfit, tallyMalformed, tooMany, noSuch}
 use Rattle.wire.specs.Formats.{headLength}
 use Rattle.tally.specs.Rows.{isName, addRow, plus}
-use Rattle.tally.specs.Tally.{Kind, KindRow, KindRows, found, row, tally, rowsOf, countable}
+use Rattle.wire.specs.Read.{found}
+use Rattle.tally.specs.Tally.{Kind, KindRow, KindRows, row, tally, rowsOf, countable}
 
 -- 13, or what comes of the rows
 abbrev pub withRows : {R A : Type 0} → Option R → (R → Answer A) → Answer A

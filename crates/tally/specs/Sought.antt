@@ -9,7 +9,8 @@ use Rattle.wire.specs.Formats.{headLength}
 use Rattle.wire.specs.Answer.{Answered}
 use Rattle.wire.specs.declared.order.Order.the-variants.{Before}
 use Rattle.tally.specs.Rows.{Counts, Row, Rows, Above, addRow}
-use Rattle.tally.specs.Tally.{found, fields, row, rowsOf, ones, one}
+use Rattle.wire.specs.Read.{found}
+use Rattle.tally.specs.Tally.{fields, row, rowsOf, ones, one}
 use Rattle.tally.specs.Operations.{tallied}
 use Rattle.tally.specs.Told.{toldAdd}
 use Rattle.tally.specs.Walks.{rowsBytes, Holds}

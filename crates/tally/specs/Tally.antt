@@ -12,7 +12,6 @@ use borrow.Author.Tests.{leb-true, le-leb}
 use Rattle.wire.specs.Bytes.{spell, spell-length}
 use Rattle.wire.specs.Order.{order, isBefore}
 use Rattle.wire.specs.Read.{Read, done, refused}
-pub use Rattle.wire.specs.Read.{found}
 use Rattle.wire.specs.Format.{Format, such, run, along}
 use Rattle.wire.specs.Formats.{_▹_, u64, number, counted, listed, headed, head, into, Shape}
 use Rattle.tally.specs.Rows.{Counts, Row, Rows, isName}

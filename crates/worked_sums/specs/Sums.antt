@@ -15,7 +15,7 @@ use Rattle.mapblock.specs.Block.{contentId}
 use Rattle.mapblock.specs.Inventory.{endLine, inventory}
 use Rattle.mapblock.specs.Light.{lightCount}
 use Rattle.mapblock.specs.declared.fault.Fault.{Fault}
-use Rattle.mapblock.specs.Numbers.{number}
+use Rattle.mapblock.specs.Numbers.{refusalNumber}
 use Rattle.tally.specs.Tally.{one}
 use Rattle.tally.specs.Operations.{mergeOf}
 use Rattle.tally.specs.Theorems.{emptyTally}
@@ -55,7 +55,7 @@ bytes s = counts (length s ∷ s)
 -- of a reading the number, and where it ends
 abbrev pub ending : {A : Type 0} → Read Fault A → List ℤ
 ending (done a n) = counts (0 ∷ n ∷ [])
-ending (refused f p) = counts (number f ∷ p ∷ [])
+ending (refused f p) = counts (refusalNumber f ∷ p ∷ [])
 
 -- ---- what they are told of
 abbrev pub listLine : List ℕ  -- EndInventoryList and a newline

@@ -15,7 +15,7 @@ use Rattle.wire.proofs.Looser.{looser-self}
 use Rattle.mapblock.specs.Data.{Block}
 use Rattle.mapblock.specs.Layout.{all, isVersion, nameRow, metadataRow, objectRow, timerRow}
 use Rattle.mapblock.specs.Block.{block, verdict}
-use Rattle.mapblock.specs.Numbers.{number}
+use Rattle.mapblock.specs.Numbers.{refusalNumber}
 use Rattle.mapblock.specs.Told.{ended}
 use Rattle.mapblock.specs.declared.fault.Fault.{Fault}
 use Rattle.mapblock.proofs.Readings.{ended-done, ended-refused}
@@ -117,7 +117,7 @@ module _ (p : Parts) (c : Counts) (f : fits p ≡ true) (h : some c ≡ countsIn
       unfolding writeOf
       written-by room = rw (v, made-is)
 
-      pub refuses : {e : Fault} {q : ℕ} → refused e q ≡ said → (room : ℕ) → writeOf p room ≡ refusal (number e) 0 q
+      pub refuses : {e : Fault} {q : ℕ} → refused e q ≡ said → (room : ℕ) → writeOf p room ≡ refusal (refusalNumber e) 0 q
       refuses i room = written-by room ∙ ap (judgedBytes room (block all .encode blockIs)) (ended-refused (verdict all (block all .encode blockIs)) (i ∙ said-is))
 
       module _ {n : ℕ} (i : done tt n ≡ said) where

@@ -4,7 +4,7 @@ use mathlib.Core.Path.{_≡_}
 use mathlib.Core.List.{List}
 use lib.ListN.{length}
 use Rattle.wire.specs.Answer.{good, refusal, plain, noRoom, partsMisfit}
-use Rattle.mapblock.specs.Numbers.{number}
+use Rattle.mapblock.specs.Numbers.{refusalNumber}
 use Rattle.writer.specs.Parts.{Parts}
 use Rattle.writer.specs.Pieces.{blockBytes}
 use Rattle.writer.specs.Write.{writeOf}
@@ -25,4 +25,4 @@ pub record Written (p : Parts) (c : Counts) (n : ℕ) : Type 0 where
 abbrev pub MeasuredAs : Parts → Measured → Type 0
 MeasuredAs p (measured.Fits c n) = Written p c n
 MeasuredAs p measured.Misfit = (room : ℕ) → writeOf p room ≡ plain partsMisfit
-MeasuredAs p (measured.Refused f q) = (room : ℕ) → writeOf p room ≡ refusal (number f) 0 q
+MeasuredAs p (measured.Refused f q) = (room : ℕ) → writeOf p room ≡ refusal (refusalNumber f) 0 q

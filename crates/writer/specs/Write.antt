@@ -8,7 +8,7 @@ use Rattle.wire.specs.Answer.{Answer, good, refusal, plain, versionOutside, noR
 use Rattle.mapblock.specs.Data.{Block}
 use Rattle.mapblock.specs.Layout.{all, isVersion}
 use Rattle.mapblock.specs.Block.{block, verdict}
-use Rattle.mapblock.specs.Numbers.{number}
+use Rattle.mapblock.specs.Numbers.{refusalNumber}
 use Rattle.mapblock.specs.declared.fault.Fault.{Fault}
 use Rattle.writer.specs.Parts.{Parts, blockMade}
 use Rattle.writer.specs.declared.write.WriteAnswer.{WriteAnswer}
@@ -16,7 +16,7 @@ use Rattle.writer.specs.declared.write.WriteAnswer.the-variants as answe
 
 -- what the reader says of the bytes, then 11
 abbrev pub judgedBytes : ℕ → List ℕ → Read Fault Block → Answer (List ℕ)
-judgedBytes room bytes (refused f p) = refusal (number f) 0 p
+judgedBytes room bytes (refused f p) = refusal (refusalNumber f) 0 p
 judgedBytes room bytes (done b n) = inRoom room bytes
 
 -- 12, then the reader's verdict on the bytes of the block
@@ -32,5 +32,5 @@ writeOf p room = cond (isVersion (p .head .version)) (writtenBlock room (blockMa
 abbrev pub toldWrite : WriteAnswer → Answer ℕ
 toldWrite (answers.Written n) = good n
 toldWrite answers.Misfit = plain partsMisfit
-toldWrite (answers.Refused f p) = refusal (number f) 0 p
+toldWrite (answers.Refused f p) = refusal (refusalNumber f) 0 p
 toldWrite answers.NoRoom = plain noRoom

@@ -21,8 +21,8 @@ in-record-requires-2 c κs = search needs
 enum-known-fault : tie.Need-enum-known-fault
 enum-known-fault c = search needs
 
-number-requires : tie.Need-number-requires
-number-requires c κs = search needs
+refusal-number-requires : tie.Need-refusal-number-requires
+refusal-number-requires c κs = search needs
 
 in-record-requires-3 : tie.Need-in-record-requires-3
 in-record-requires-3 c κs = search needs
@@ -34,7 +34,7 @@ returns-2 : tie.Need-returns-2
 returns-2 c = c .in-record2 .ensures ∙ sym (ap (λ (f : RecordFault). refusedWith (faultNumber f) (c .before .before .before .args .index) (faultOffset f)) (c .before .enum-told2 .given .1))
 
 returns-3 : tie.Need-returns-3
-returns-3 c = rw (c .in-record3 .ensures, c .before .number .ensures) (sym (ap (λ (f : RecordFault). refusedWith (faultNumber f) (c .before .before .before .before .before .args .index) (faultOffset f)) (c .before .before .before .fault .given .1)))
+returns-3 c = rw (c .in-record3 .ensures, c .before .refusal-number .ensures) (sym (ap (λ (f : RecordFault). refusedWith (faultNumber f) (c .before .before .before .before .before .args .index) (faultOffset f)) (c .before .before .before .fault .given .1)))
 
 pub record-refused-spec : {M : Type 1} → statement M
 record-refused-spec =
@@ -45,7 +45,7 @@ record-refused-spec =
     enum-told-2
     in-record-requires-2
     enum-known-fault
-    number-requires
+    refusal-number-requires
     in-record-requires-3
     returns
     returns-2

@@ -7,7 +7,8 @@ use native.Mathlib.Omega.{arith}
 use denote.Ref.{now}
 use lib.ListN.{length}
 use Rattle.wire.proofs.Steps.{told-as}
-use Rattle.tally.specs.Tally.{found, row, one}
+use Rattle.wire.specs.Read.{found}
+use Rattle.tally.specs.Tally.{row, one}
 use Rattle.tally.specs.Told.{toldRow}
 use Rattle.tally.specs.declared.rows.RowRead.the-variants as rows
 use Rattle.tally.proofs.Held.{row-inside}

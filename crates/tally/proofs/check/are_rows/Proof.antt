@@ -9,7 +9,8 @@ use borrow.Author.Tests.{not-true, not-false}
 use lib.ListN.{take, drop}
 use Rattle.wire.specs.Lists.{rest-is}
 use Rattle.wire.proofs.Steps.{told-as}
-use Rattle.tally.specs.Tally.{found, row, one}
+use Rattle.wire.specs.Read.{found}
+use Rattle.tally.specs.Tally.{row, one}
 use Rattle.tally.specs.Told.{toldRow}
 use Rattle.tally.specs.Walks.{mayFollow}
 use Rattle.tally.specs.declared.rows.RowRead.the-variants as rows

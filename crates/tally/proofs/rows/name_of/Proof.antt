@@ -5,7 +5,8 @@ use denote.Ref.{now}
 use Rattle.wire.specs.Answer.{partOf}
 use Rattle.wire.specs.Places.{startTold, place-is, place-first}
 use Rattle.wire.proofs.Steps.{told-as}
-use Rattle.tally.specs.Tally.{found, row, one}
+use Rattle.wire.specs.Read.{found}
+use Rattle.tally.specs.Tally.{row, one}
 use Rattle.tally.specs.Told.{toldRow}
 use Rattle.tally.specs.declared.rows.RowRead.the-variants as rows
 use Rattle.tally.proofs.Held.{row-inside}

@@ -2,7 +2,8 @@ use mathlib.Core.Path.{_≡_, ap, sym}
 use mathlib.Core.List.{[]}
 use native.Mathlib.Omega.{arith}
 use denote.Ref.{now}
-use Rattle.tally.specs.Tally.{found, row, one}
+use Rattle.wire.specs.Read.{found}
+use Rattle.tally.specs.Tally.{row, one}
 use Rattle.tally.specs.Told.{toldRow}
 use Rattle.tally.specs.declared.rows.RowRead.the-variants as rows
 use Rattle.tally.proofs.Held.{row-inside}

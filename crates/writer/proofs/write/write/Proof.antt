@@ -6,7 +6,7 @@ use mathlib.Core.Path.{subst}
 use native.Mathlib.Omega.{arith}
 use lib.ListN.{length}
 use Rattle.wire.specs.Answer.{refusal, plain, noRoom, partsMisfit}
-use Rattle.mapblock.specs.Numbers.{number}
+use Rattle.mapblock.specs.Numbers.{refusalNumber}
 use Rattle.writer.specs.Parts.{Parts, partsOf}
 use Rattle.writer.specs.Measured.{Written, MeasuredAs}
 use Rattle.writer.proofs.Written.{answers-by, answers-written}
@@ -40,7 +40,7 @@ returns-2 : tie.Need-returns-2
 returns-2 c = answers-by (parts (c .before .before .before)) (now (c .before .before .before .before .before .before .before .before .before .before .before .args .out)) (plain partsMisfit) (subst (MeasuredAs (parts (c .before .before .before))) (c .enum-told .given .1) (c .before .before .measure .ensures) (length (now (c .before .before .before .before .before .before .before .before .before .before .before .args .out))))
 
 returns-3 : tie.Need-returns-3
-returns-3 c = answers-by (parts (c .before .before .before .before)) (now (c .before .before .before .before .before .before .before .before .before .before .before .before .args .out)) (refusal (number (c .before .f .given .0 .0)) 0 (c .before .f .given .0 .1 .0)) (subst (MeasuredAs (parts (c .before .before .before .before))) (c .before .f .given .1) (c .before .before .before .measure .ensures) (length (now (c .before .before .before .before .before .before .before .before .before .before .before .before .args .out))))
+returns-3 c = answers-by (parts (c .before .before .before .before)) (now (c .before .before .before .before .before .before .before .before .before .before .before .before .args .out)) (refusal (refusalNumber (c .before .f .given .0 .0)) 0 (c .before .f .given .0 .1 .0)) (subst (MeasuredAs (parts (c .before .before .before .before))) (c .before .f .given .1) (c .before .before .before .measure .ensures) (length (now (c .before .before .before .before .before .before .before .before .before .before .before .before .args .out))))
 
 same-length : tie.Need-same-length
 same-length c = search needs
