@@ -17,8 +17,8 @@ use Rattle.mapblock.specs.declared.fault.Fault.the-variants as fault
 use Rattle.writer.specs.Frames.{nameFrame, variableFrame, metadataFrame, timerFrame}
 
 -- a fault with another number than 1 is not for want of bytes
-pub other : (f : Fault) → (numbers.number f ≡ 1 → ⊥) → f ≡ fault.Ends → ⊥
-other f h e = h (ap numbers.number e)
+pub other : (f : Fault) → (numbers.refusalNumber f ≡ 1 → ⊥) → f ≡ fault.Ends → ⊥
+other f h e = h (ap numbers.refusalNumber e)
 
 -- one after the other
 pub looser-both : {A B : Type 0} {f g : Form A} {h k : Form B} → Looser f g → Looser h k → Looser (f ▹ h) (g ▹ k)

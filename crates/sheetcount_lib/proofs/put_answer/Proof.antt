@@ -4,8 +4,8 @@ use lib.Seq.{length-take-le}
 use denote.Ref.{now}
 use Rattle.meter.specs.SheetTold.{toldSheet}
 use Rattle.sheetcount_lib.proofs.Shown.{no-tally, refused-shown, counted, tally-shown}
-use Rattle.sheetcount_lib.proofs.printing.put_answer.Statement.{statement}
-use Rattle.sheetcount_lib.proofs.printing.put_answer.Tie as tie
+use Rattle.sheetcount_lib.proofs.put_answer.Statement.{statement}
+use Rattle.sheetcount_lib.proofs.put_answer.Tie as tie
 
 enum-known-answer : tie.Need-enum-known-answer
 enum-known-answer c = search needs

@@ -10,8 +10,8 @@ use Rattle.report.proofs.Shorts.{refusal-text-fits}
 use Rattle.anowhetele.specs.Answers.{handed}
 use Rattle.anowhetele.specs.declared.answer.AnowAnswer.{AnowAnswer}
 use Rattle.sheetcount_lib.proofs.Shown.{shown}
-use Rattle.sheetcount_lib.proofs.printing.put_refusal.Statement.{statement}
-use Rattle.sheetcount_lib.proofs.printing.put_refusal.Tie as tie
+use Rattle.sheetcount_lib.proofs.put_refusal.Statement.{statement}
+use Rattle.sheetcount_lib.proofs.put_refusal.Tie as tie
 
 sheet-answer-requires : tie.Need-sheet-answer-requires
 sheet-answer-requires c κs = search needs

@@ -1,8 +1,8 @@
 use borrow.Author.Needs.{needs}
 use mathlib.Core.Path.{sym}
 use lib.Seq.{length-take-le}
-use Rattle.sheetcount_lib.proofs.printing.print_answer.Statement.{statement}
-use Rattle.sheetcount_lib.proofs.printing.print_answer.Tie as tie
+use Rattle.sheetcount_lib.proofs.print_answer.Statement.{statement}
+use Rattle.sheetcount_lib.proofs.print_answer.Tie as tie
 
 slice-aggregate-put-answer : tie.Need-slice-aggregate-put-answer
 slice-aggregate-put-answer c = search needs
