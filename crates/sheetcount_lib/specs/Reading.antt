@@ -3,15 +3,15 @@
 use Prim.Native.Nat.{ℕ, _+_, _≤_}
 use mathlib.Core.Path.{_≡_}
 use mathlib.Core.List.{List, _++_}
-use lib.ListN.{length}
+use lib.ListN.{length, take}
 use Rattle.wire.specs.Bytes.{Bytes}
-use Rattle.wire.specs.Answer.{Answered}
+use Rattle.wire.specs.Answer.{Answer, good, refusal, Answered}
 use Rattle.meter.specs.Counting.{byOne}
 use Rattle.meter.specs.Streaming.{State, noRecords}
 use Rattle.meter.specs.Records.{clearTable}
 use Rattle.meter.specs.Progress.{Carries}
 use Rattle.meter.specs.SheetTold.{toldSheet}
-use Rattle.meter.specs.Program.{mostBlock, mostTally, countedFrom, sheetcountOf, nextFaulty}
+use Rattle.meter.specs.Program.{mostBlock, mostTally, blockLengthOf, countedFrom, sheetcountOf, nextFaulty}
 use Rattle.meter.specs.declared.sheet.SheetAnswer.{SheetAnswer}
 use Rattle.meter.specs.declared.stream.Progress.{Progress}
 use Rattle.meter.specs.declared.program.NextFault.{NextFault}
@@ -30,6 +30,19 @@ longest = 12 + mostBlock
 abbrev pub Within : ℕ → BytesRead → Type 0
 Within room (bytesReads.Bytes n) = n ≤ room
 Within room bytesReads.Failed = Unit {0}
+
+-- how many bytes a record has, as far as its first twelve tell: with its block, unless it is too long
+abbrev pub toldBlock : Answer ℕ → ℕ
+toldBlock (good n) = n
+toldBlock (refusal n i o) = 0
+
+abbrev pub recordLength : List ℕ → ℕ
+recordLength s = 12 + toldBlock (blockLengthOf 0 s)
+
+-- no byte behind the record is read
+abbrev pub RecordWithin : List ℕ → BytesRead → Type 0
+RecordWithin bytes (bytesReads.Bytes n) = n ≤ recordLength (take 12 bytes)
+RecordWithin bytes bytesReads.Failed = Unit {0}
 
 -- ---- so many records, one behind the other
 -- before the first: the spare carries the state, and the tables are clear

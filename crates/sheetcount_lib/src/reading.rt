@@ -22,13 +22,13 @@ use position::span::Span;
 use wire::heads::HEAD;
 use wire::heads::HeadRead;
 ghost use mathlib.Core.Path.{_≡_};
-ghost use Prim.Native.Nat.{_≤_};
-ghost use lib.ListN.{length};
+ghost use Prim.Native.Nat.{_+_, _≤_};
+ghost use lib.ListN.{length, take};
 ghost use Rattle.meter.specs.Counting.{byOne};
 ghost use Rattle.meter.specs.Streaming.{noRecords};
 ghost use Rattle.meter.specs.Progress.{Carries};
 ghost use Rattle.meter.specs.Program.{mostBlock, mostTally};
-ghost use Rattle.sheetcount_lib.specs.Reading.{longest, Within, Begins, AllTold, IfRead, Ended, Ready, CountedInto, CountedAs};
+ghost use Rattle.sheetcount_lib.specs.Reading.{longest, Within, RecordWithin, Begins, AllTold, IfRead, Ended, Ready, CountedInto, CountedAs};
 
 // How many bytes were read, which are fewer than were asked for only where the input ends; or that a read failed.
 enum BytesRead {
@@ -58,7 +58,8 @@ fn read_bytes(input: i32, bytes: &mut [u8]) -> BytesRead
 // Reads a record's block of so many bytes to its place behind the first twelve. Tells how many bytes there are, with those.
 fn read_block(input: i32, size: usize, bytes: &mut [u8]) -> BytesRead
     requires { ⌜ (length (now bytes) ≡ longest) × (size ≤ mostBlock) ⌝ }
-    ensures { λ r. ⌜ Within (length (now (bytes .entry))) r ⌝ }
+    ensures { λ r. ⌜ Within (12 + size) r ⌝ }
+    ensures { λ _. ⌜ take 12 (now (bytes .exit)) ≡ take 12 (now (bytes .entry)) ⌝ }
 {
     let end = BLOCK_AT + size;
     match read_bytes(input, &mut bytes[BLOCK_AT..end]) {
@@ -68,10 +69,11 @@ fn read_block(input: i32, size: usize, bytes: &mut [u8]) -> BytesRead
 }
 
 // Reads a record to the front of a buffer: its first twelve bytes, which say how long its block is, and then the block, unless it is too
-// long. Tells how many bytes there are.
+// long; no byte behind it. Tells how many bytes there are.
 fn read_record(input: i32, bytes: &mut [u8]) -> BytesRead
     requires { ⌜ length (now bytes) ≡ longest ⌝ }
     ensures { λ r. ⌜ Within (length (now (bytes .entry))) r ⌝ }
+    ensures { λ r. ⌜ RecordWithin (now (bytes .exit)) r ⌝ }
 {
     let BytesRead::Bytes(head) = read_bytes(input, &mut bytes[..BLOCK_AT]) else {
         return BytesRead::Failed;
@@ -84,7 +86,7 @@ fn read_record(input: i32, bytes: &mut [u8]) -> BytesRead
 }
 
 // What came of reading records: how far the sheet was tallied then, or the refusal of one, or that a read failed.
-pub enum RecordsRead {
+enum RecordsRead {
     Taken(Progress),
     Refused(NextFault),
     Failed,
@@ -126,7 +128,7 @@ fn take_all(
 }
 
 // What came of reading a sheet: its answer, or that a read failed.
-pub enum SheetRead {
+pub(crate) enum SheetRead {
     Answer(SheetAnswer),
     Failed,
 }
@@ -202,7 +204,7 @@ fn count_into(
 }
 
 // What a sheet came to: the answer and, where it is a tally, its bytes at the front of the output.
-pub struct Counted {
+pub(crate) struct Counted {
     pub read: SheetRead,
     pub out: [u8; MOST_TALLY],
 }

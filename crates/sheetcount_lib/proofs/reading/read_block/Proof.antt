@@ -1,17 +1,24 @@
 use borrow.Author.Needs.{needs}
-use Prim.Native.Nat.{_+_, _-_, _≤_}
+use Prim.Native.Nat.{ℕ, _+_, _-_, _≤_}
+use mathlib.Core.Path.{_≡_}
+use mathlib.Core.List.{List}
 use native.Mathlib.Omega.{arith}
-use lib.ListN.{drop}
+use lib.ListN.{take, drop}
 use denote.Ref.{now}
+use borrow.Rule.Slice.PartMut.{putMid, take-put}
 use Rattle.sheetcount_lib.proofs.Counts.{within-part}
 use Rattle.sheetcount_lib.proofs.reading.read_block.Statement.{statement}
 use Rattle.sheetcount_lib.proofs.reading.read_block.Tie as tie
 
--- no more of the block is read than there is room for
+-- no more is read than the block has
 short : (c : tie.After-known-told) → c .before .n .given .0 .0 ≤ c .before .before .before .before .before .before .before .before .args .size
 short c =
     let h = within-part (12 + c .before .before .before .before .before .before .before .before .args .size - 12) (drop 12 (now (c .before .before .before .before .before .before .before .before .args .bytes))) (c .before .before .before .before .before .read-bytes .ensures) (c .before .n .given .1) in
     omega (arith, h)
+
+-- the first twelve bytes are as they were
+kept : (s : tie.Start) (ys : List ℕ) → take 12 (putMid 12 (12 + s .args .size - 12) (now (s .args .bytes)) ys) ≡ take 12 (now (s .args .bytes))
+kept s ys = take-put 12 (12 + s .args .size - 12) (now (s .args .bytes)) ys (omega (arith, s .pre .0))
 
 add-end : tie.Need-add-end
 add-end c = search needs
@@ -41,13 +48,13 @@ same-length : tie.Need-same-length
 same-length c = search needs
 
 returns : tie.Need-returns
-returns c = search needs
+returns c = (tt, kept (c .before .before .before .before .before .before .before) (c .before .before .before .before .read-bytes .last .1 .0))
 
 same-length-2 : tie.Need-same-length-2
 same-length-2 c = search needs
 
 returns-2 : tie.Need-returns-2
-returns-2 c = omega (arith, short c)
+returns-2 c = (omega (arith, short c), kept (c .before .before .before .before .before .before .before .before) (c .before .before .before .before .before .read-bytes .last .1 .0))
 
 pub read-block-spec : {M : Type 1} → statement M
 read-block-spec =

@@ -1,17 +1,18 @@
 use borrow.Author.Needs.{needs}
-use Prim.Native.Nat.{ℕ, _≤_}
-use mathlib.Core.Path.{_≡_, sym, subst, _∙_}
+use Prim.Native.Nat.{ℕ, _+_, _≤_}
+use mathlib.Core.Path.{_≡_, sym, _∙_}
 use mathlib.Core.List.{List, _++_}
 use native.Mathlib.Omega.{arith}
 use lib.ListN.{length, take, drop}
 use lib.Seq.{length-take-le}
 use denote.Ref.{now}
-use Rattle.wire.specs.Bytes.{bytes-take}
+use Rattle.wire.specs.Answer.{good}
+use Rattle.wire.specs.Bytes.{Bytes, bytes-take}
 use Rattle.wire.proofs.Steps.{told-as}
-use Rattle.meter.specs.Program.{mostBlock, toldLength}
+use Rattle.meter.specs.Program.{mostBlock, blockLengthOf, toldLength}
 use Rattle.meter.proofs.Sheetcount.{length-most}
-use Rattle.sheetcount_lib.specs.Reading.{longest, Within}
-use Rattle.sheetcount_lib.proofs.Counts.{within-part}
+use Rattle.sheetcount_lib.specs.Reading.{longest}
+use Rattle.sheetcount_lib.proofs.Counts.{within-part, within-more, record-within}
 use Rattle.sheetcount_lib.proofs.reading.read_record.Statement.{statement}
 use Rattle.sheetcount_lib.proofs.reading.read_record.Tie as tie
 
@@ -28,13 +29,15 @@ filled-long b = b .bytes .given .1 ∙ b .before .before .before .before .pre
 head-short : (h : tie.After-known-told) → head h ≤ 12
 head-short h = within-part 12 (now (h .before .before .before .before .before .before .before .before .args .bytes)) (h .before .before .before .before .before .read-bytes .ensures) (h .before .head .given .1)
 
+judged : (h : tie.After-known-told) → Bytes (take (head h) (filled (h .before .before .before .before)))
+judged h = bytes-take (head h) (filled (h .before .before .before .before)) (λ j. h .before .before .before .slice-known2 .given j .fits)
+
 -- a block of so many bytes is to be read
+told : (c : tie.After-known-told2) → blockLengthOf 0 (take (head (c .before .before .before .before .before)) (filled (c .before .before .before .before .before .before .before .before .before))) ≡ good (c .before .size .given .0 .0)
+told c = sym (told-as (toldLength 0) (c .before .before .before .block-length .ensures 0) (c .before .size .given .1))
+
 short : (c : tie.After-known-told2) → c .before .size .given .0 .0 ≤ mostBlock
-short c =
-    let x = c .before .before .before in
-    let h = x .before .before in
-    let b = h .before .before .before .before in
-    length-most 0 _ (take (head h) (filled b)) (bytes-take (head h) (filled b) (λ j. h .before .before .before .slice-known2 .given j .fits)) (sym (told-as (toldLength 0) (x .block-length .ensures 0) (c .before .size .given .1)))
+short c = length-most 0 _ _ (judged (c .before .before .before .before .before)) (told c)
 
 slice-relend-prefix-read-bytes : tie.Need-slice-relend-prefix-read-bytes
 slice-relend-prefix-read-bytes c = search needs
@@ -82,19 +85,25 @@ same-length-2 : tie.Need-same-length-2
 same-length-2 c = search needs
 
 returns-2 : tie.Need-returns-2
-returns-2 c = omega (arith, head-short (c .before .before .before .before), c .before .before .before .before .before .before .before .before .before .before .before .before .pre)
+returns-2 c = (omega (arith, head-short (c .before .before .before .before), c .before .before .before .before .before .before .before .before .before .before .before .before .pre), omega (arith, head-short (c .before .before .before .before)))
 
 same-length-3 : tie.Need-same-length-3
 same-length-3 c = search needs
 
 returns-3 : tie.Need-returns-3
-returns-3 c = omega (arith, head-short (c .before .before .before .before), c .before .before .before .before .before .before .before .before .before .before .before .before .pre)
+returns-3 c = (omega (arith, head-short (c .before .before .before .before), c .before .before .before .before .before .before .before .before .before .before .before .before .pre), omega (arith, head-short (c .before .before .before .before)))
 
 same-length-4 : tie.Need-same-length-4
 same-length-4 c = search needs
 
 returns-4 : tie.Need-returns-4
-returns-4 c = subst (λ (n : ℕ). Within n (c .before .before .read-block .result)) (c .before .before .before .before .before .before .before .before .before .before .before .before .before .bytes .given .1) (c .before .before .read-block .ensures)
+returns-4 c =
+    let k = c .before .before .before .before in
+    let h = c .before .before .before .before .before .before .before .before .before in
+    let b = c .before .before .before .before .before .before .before .before .before .before .before .before .before in
+    let e = c .before .before in
+    let room : 12 + k .before .size .given .0 .0 ≤ length (now (c .before .before .before .before .before .before .before .before .before .before .before .before .before .before .before .before .before .args .bytes)) = omega (arith, short k, c .before .before .before .before .before .before .before .before .before .before .before .before .before .before .before .before .before .pre) in
+    (within-more (e .read-block .result) room (e .read-block .ensures .0), record-within (filled b) (head h) (k .before .size .given .0 .0) (head-short h) (judged h) (told k) _ (e .read-block .result) (e .read-block .ensures .1) (e .read-block .ensures .0))
 
 pub read-record-spec : {M : Type 1} → statement M
 read-record-spec =

@@ -63,7 +63,7 @@ returns : tie.Need-returns Inv-loop μ-loop
 returns c = (c .before .before .before .before .before .before .before .loop .inv .0 .size, tt)
 
 slice-reshare-prefix-take-next : tie.Need-slice-reshare-prefix-take-next Inv-loop μ-loop
-slice-reshare-prefix-take-next c = omega (arith, within (c .before .before .before .before .before .read-record .ensures) (c .before .n .given .1), c .before .before .before .before .bytes .given)
+slice-reshare-prefix-take-next c = omega (arith, within (c .before .before .before .before .before .read-record .ensures .0) (c .before .n .given .1), c .before .before .before .before .bytes .given)
 
 slice-aggregate-take-next : tie.Need-slice-aggregate-take-next Inv-loop μ-loop
 slice-aggregate-take-next c = sym (length-take-le _ _ (slice-reshare-prefix-take-next (c .before)))
