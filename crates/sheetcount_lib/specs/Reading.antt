@@ -32,12 +32,12 @@ Within room (bytesReads.Bytes n) = n ≤ room
 Within room bytesReads.Failed = Unit {0}
 
 -- how many bytes a record has, as far as its first twelve tell: with its block, unless it is too long
-abbrev pub toldBlock : Answer ℕ → ℕ
-toldBlock (good n) = n
-toldBlock (refusal n i o) = 0
+abbrev pub statedLength : Answer ℕ → ℕ
+statedLength (good n) = n
+statedLength (refusal n i o) = 0
 
 abbrev pub recordLength : List ℕ → ℕ
-recordLength s = 12 + toldBlock (blockLengthOf 0 s)
+recordLength s = 12 + statedLength (blockLengthOf 0 s)
 
 -- no byte behind the record is read
 abbrev pub RecordWithin : List ℕ → BytesRead → Type 0
