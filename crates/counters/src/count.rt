@@ -131,8 +131,8 @@ fn sized(counts: &[u16; IDS])
     let _first = whole[0];
 }
 
-// The nodes of a block that lie in a lot: `lists` are the bytes of its param lists, `at` is where the block stands.
-// Bytes that do not hold the lists have no nodes.
+// Counts the nodes of a block that lie in a lot: `lists` are the bytes of its param lists, `at` is where the block stands. This is an inner function
+// of the meter, whose promise is by cases: bytes that do not hold the lists have no nodes, and leave the counters as they are.
 pub fn count_in(version: u8, lists: &[u8], at: Coordinates, lot: Lot, counts: &mut [u16; IDS])
     ensures { λ _. ⌜ (holdsLists version (now (lists .entry)) ≡ true → Counted version (now (lists .entry)) lot at (now (counts .entry)) (now (counts .exit))) ⌝ }
     ensures { λ _. ⌜ (holdsLists version (now (lists .entry)) ≡ false → now (counts .exit) ≡ now (counts .entry)) ⌝ }

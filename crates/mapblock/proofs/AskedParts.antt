@@ -15,7 +15,6 @@ use types.Run.{OneOf}
 use Rattle.wire.specs.Lists.{rest-is}
 use Rattle.wire.specs.Places.{placeIn, startTold, place-is, place-first}
 use Rattle.wire.specs.Read.{Read, done, refused, mapRead}
-use Rattle.wire.specs.Format.{run}
 use Rattle.wire.specs.Answer.{Answer, good, refusal, plain, versionOutside, noSuch, no-good}
 use Rattle.mapblock.specs.Inventory.{Form}
 use Rattle.mapblock.specs.Layout.{isVersion, metadataRow}

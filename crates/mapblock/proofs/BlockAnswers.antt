@@ -16,13 +16,11 @@ use Rattle.mapblock.specs.Data.{Block, Nodes}
 use Rattle.mapblock.specs.Layout.{all, width}
 use Rattle.mapblock.specs.Block.{verdict}
 use Rattle.mapblock.specs.Params.{listsOf}
-use Rattle.mapblock.specs.Rows.{nowhere}
-use Rattle.mapblock.specs.Sections.{found, within}
+use Rattle.mapblock.specs.Sections.{found}
 use Rattle.mapblock.specs.Table.{freeIn}
 use Rattle.mapblock.specs.Numbers.{refusalNumber}
 use Rattle.mapblock.specs.Questions.{areWhole, blockAnswer, blockOf, shown, sectionsOf, readOf, partsOf}
 use Rattle.mapblock.specs.declared.fault.Fault.{Fault}
-use Rattle.mapblock.specs.declared.head.Head.{Head}
 use Rattle.mapblock.specs.declared.head.Part.{Part}
 use Rattle.mapblock.specs.declared.head.Sections.{Sections}
 use Rattle.mapblock.specs.declared.scan.Found.{Found}

@@ -94,8 +94,8 @@ fn sort_halves(s: &[u8], places: &mut [usize], scratch: &mut [usize])
     join_halves(s, places, mid, scratch);
 }
 
-// Puts places in the order of the names that stand there; they stay as they are where the scratch is shorter. Places of one name may change
-// among themselves, since their counts are added up. `scratch` is a table to work in: it keeps its length, and what it holds afterwards is open.
+// Puts places in the order of the names that stand there; they stay as they are where the scratch is shorter. This is an inner function of the
+// meter: in what order places of one name come is left open, since their counts are added up. `scratch` is a table to work in: it keeps its length, and what it holds afterwards is open.
 pub fn sort(s: &[u8], places: &mut [usize], scratch: &mut [usize])
     ensures { λ _. ⌜ length (now (places .exit)) ≡ length (now (places .entry)) ⌝ }
     ensures { λ _. ⌜ (length (now (places .entry)) ≤ length (now (scratch .entry)) → Arranged (now (s .entry)) (now (places .entry)) (now (places .exit))) ⌝ }

@@ -1,7 +1,7 @@
 -- Where a part of a caller's bytes lies: document 01, 'Reading, looking, writing', "comes back as a part of the caller's block" and "as the very
 -- bytes in the caller's block". The pointer of a reference is an allocation and an offset in it.
 use Prim.Native.Nat.{ℕ, _+_}
-use mathlib.Core.Path.{_≡_, refl, ap}
+use mathlib.Core.Path.{_≡_, ap}
 use mathlib.Core.List.{List}
 use native.Mathlib.Omega.{arith}
 use denote.Ref.{RefT, ptr}
