@@ -1,3 +1,4 @@
+use borrow.Author.Needs.{needs}
 use Rattle.counters.proofs.count.sized.Statement.{statement}
 use Rattle.counters.proofs.count.sized.Tie as tie
 
