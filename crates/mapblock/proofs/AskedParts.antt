@@ -21,7 +21,8 @@ use Rattle.mapblock.specs.Layout.{isVersion, metadataRow}
 use Rattle.mapblock.specs.Rows.{partTold, metadataFields}
 use Rattle.mapblock.specs.Sections.{IsPart}
 use Rattle.mapblock.specs.Numbers.{answerOf}
-use Rattle.mapblock.specs.RowQuestions.{frontRow, metadataRowOf, rowsBehind}
+use Rattle.wire.specs.Walk.{rowsBehind}
+use Rattle.mapblock.specs.RowQuestions.{frontRow, metadataRowOf}
 use Rattle.mapblock.specs.AskedRows.{toldNameRow, toldMetadataRow, toldObjectRow, toldTimerRow}
 use Rattle.mapblock.specs.declared.fault.Fault.{Fault}
 use Rattle.mapblock.specs.declared.head.Part.{Part}

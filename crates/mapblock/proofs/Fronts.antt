@@ -12,6 +12,7 @@ use Rattle.wire.specs.Bytes.{Bytes, bytes-drop}
 use Rattle.wire.specs.Read.{Read, done, refused, mapRead, reach, map-done, map-refused}
 use Rattle.wire.specs.Format.{such, nothing, _⨾_, along, ends-in}
 use Rattle.mapblock.specs.Inventory.{Form}
+use Rattle.wire.specs.Walk.{rowsRead}
 use Rattle.mapblock.specs.Data.{Opening, Saved, Nodes, unsaved}
 use Rattle.mapblock.specs.Layout.{isVersion, unused, width, opening, saved, nodes, front}
 use Rattle.mapblock.specs.Params.{listsOf}
@@ -105,7 +106,7 @@ module _ (t s : List ℕ) {o : OpeningFields} {at : ℕ} (h : opening .read s �
 
   pub plain-told : {n : ℕ} → length t ≡ 65536 → Bytes s → done tt n ≡ ended (nodes (o .version) .read (drop at s))
       → FrontIs t t s (record { version = o .version; flags = o .flags; lighting = o .lighting; timestamp = 0; count = 0; lists = at + 2; end = at + n })
-  unfolding unused frontRows
+  unfolding unused rowsRead
   plain-told {n} z b k =
       let x = ended-done (nodes (o .version) .read (drop at s)) k in
       let y = nodes-done (o .version) (drop at s) (x .1) in

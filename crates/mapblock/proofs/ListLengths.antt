@@ -13,6 +13,7 @@ use Rattle.wire.specs.Read.{Read, done, refused, mapRead, onward, never, map-do
 use Rattle.wire.specs.Format.{run, nothing, such, _⨾_, along, items, encodeItems, readItems, pair, next}
 use Rattle.wire.specs.Formats.{number, behind, fixed, listed, only, into}
 use Rattle.mapblock.specs.Inventory.{Form}
+use Rattle.wire.specs.Walk.{rowsRead}
 use Rattle.mapblock.specs.Data.{NameRow, MetadataRow, ObjectRow, TimerRow, Saved, Timers, untimed, savedParts, timersParts}
 use Rattle.mapblock.specs.Layout.{since, before, all, nameRow, metadataRow, objectRow, timerRow, saved, metadata, objects, earlyTimers, lateTimers}
 use Rattle.mapblock.specs.Table.{freeIn, unmarked, frontRows, NamesMarked}
@@ -180,7 +181,7 @@ module _ (v : ℕ) where
 -- ---- rows from the front
 -- rows that were read are read alone too
 pub front-rows : (free : ℕ → Bool) (k : ℕ) (seen : List NameRow) (s : List ℕ) {l : List NameRow} {n : ℕ} → readItems (nameRow free) k seen s ≡ done l n → frontRows k s ≡ l
-unfolding readItems frontRows
+unfolding readItems rowsRead
 front-rows free zero seen s h = cc
 front-rows free (suc k) seen s {l} {n} h =
     let x = bind-done (nameRow free seen .read s) _ l n h in

@@ -13,6 +13,7 @@ use Rattle.wire.specs.Lists.{rest-is}
 use Rattle.wire.specs.Read.{Read, done, refused, mapRead, reach, map-done, map-refused}
 use Rattle.wire.specs.Format.{items, readItems}
 use Rattle.wire.proofs.Items.{after, items-start, items-on, items-refused, items-end}
+use Rattle.wire.specs.Walk.{rowsRead}
 use Rattle.mapblock.specs.Data.{NameRow}
 use Rattle.mapblock.specs.Layout.{without, unused, unmapped, nameRow}
 use Rattle.mapblock.specs.Rows.{nameFields}
@@ -113,7 +114,7 @@ module _ {t₀ s : List ℕ} {count : ℕ} {t rest : List ℕ} {at left : ℕ} (
 
   -- the rows that were read stand in front
   pub named-front : unmarked t (frontRows (count - left) s) ≡ t₀
-  unfolding frontRows
+  unfolding rowsRead
   named-front =
       let z : count - left + 0 ≡ count - left = omega arith in
       let e : frontRows (count - left) s ≡ w .pre = ap (λ (k : ℕ). frontRows k s) (sym z) ∙ w .fronts 0 ∙ append-nil (w .pre) in
@@ -136,7 +137,7 @@ module _ {t₀ s : List ℕ} {count : ℕ} {t rest : List ℕ} {at left : ℕ} (
 
     pub named-on : {row : NameFields} {n : ℕ} → done row n ≡ mapRead nameFields rowThere → row .id < 65536
         → Named t₀ s count (set t (row .id) 1) (take (length rest - n) (drop n rest)) (at + n) (left - 1)
-    unfolding frontRows unused
+    unfolding rowsRead unused
     named-on {row} {n} k l =
         let x = map-done nameFields rowThere row n (sym k) in
         let a = x .0 in

@@ -9,6 +9,7 @@ use lib.ListN.{length, take, drop, set}
 use Rattle.wire.specs.Read.{Read, done, refused, mapRead, never, map-done, map-refused}
 use Rattle.wire.specs.Format.{such, _⨾_, along}
 use Rattle.wire.specs.Formats.{u16, counted}
+use Rattle.wire.specs.Walk.{rowsRead}
 use Rattle.mapblock.specs.Data.{NameRow}
 use Rattle.mapblock.specs.Layout.{all, unused, unmapped, nameRow}
 use Rattle.mapblock.specs.Rows.{part, nameFields}
@@ -93,17 +94,17 @@ fields-done x {row} {n} h = map-done nameFields x row n h
 
 module _ (t s : List ℕ) where
   pub front-none : (k : ℕ) → k ≡ 0 → unmarked t (frontRows k s) ≡ t
-  unfolding frontRows
+  unfolding rowsRead
   front-none k h = rw h
 
   pub front-stop : (k : ℕ) {f : Fault} {p : ℕ} → mapRead nameFields (nameRow all [] .read s) ≡ refused f p → unmarked t (frontRows k s) ≡ t
-  unfolding frontRows
+  unfolding rowsRead
   front-stop zero h = refl
   front-stop (suc k) {f} {p} h = rw (map-refused nameFields (nameRow all [] .read s) f p h)
 
   pub front-on : (k : ℕ) {row : NameFields} {n : ℕ} → 0 < k → mapRead nameFields (nameRow all [] .read s) ≡ done row n
       → unmarked t (frontRows k s) ≡ unmarked (set t (row .id) 0) (frontRows (k - 1) (drop n s))
-  unfolding frontRows
+  unfolding rowsRead
   front-on zero l h = absurd (omega arith)
   front-on (suc k) {row} {n} l h =
       let x = fields-done (nameRow all [] .read s) h in

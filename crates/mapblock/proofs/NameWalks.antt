@@ -10,10 +10,11 @@ use Rattle.wire.specs.Bytes.{Bytes, bytes-drop}
 use Rattle.wire.specs.Read.{Read, done, refused, mapRead, never, map-done, map-refused}
 use Rattle.wire.specs.Format.{run, such, _⨾_, along, encodeItems, ends-in}
 use Rattle.wire.specs.Formats.{number, counted}
+use Rattle.wire.specs.Walk.{rowsRead, rowThen}
 use Rattle.mapblock.specs.Data.{NameRow}
 use Rattle.mapblock.specs.Layout.{all, unused, nameRow}
 use Rattle.mapblock.specs.Rows.{nameFields}
-use Rattle.mapblock.specs.Table.{rowThen, frontRows, allRows}
+use Rattle.mapblock.specs.Table.{frontRows, allRows}
 use Rattle.mapblock.specs.Questions.{NameRun}
 use Rattle.mapblock.specs.declared.fault.Fault.{Fault}
 use Rattle.mapblock.specs.declared.fault.Fault.the-variants as fault
@@ -65,13 +66,13 @@ unfolding nameRow along _⨾_ such number run counted unused
 nothing-there = refl
 
 front-nothing : (k : ℕ) → frontRows k [] ≡ []
-unfolding frontRows
+unfolding rowsRead
 front-nothing zero = refl
 front-nothing (suc k) = rw nothing-there
 
 -- as many as there are bytes are enough
 front-same : (k : ℕ) (s : List ℕ) → Bytes s → length s ≤ k → (j : ℕ) → length s ≤ j → frontRows k s ≡ frontRows j s
-unfolding frontRows
+unfolding rowsRead
 front-same zero s w h j i = sym (ap (frontRows j) (nil-is s (omega arith)) ∙ front-nothing j)
 front-same (suc k) s w h j i = by (λ n. front-same k (drop n s) (bytes-drop n s w)) j i
   where
@@ -91,7 +92,7 @@ all-none [] h = front-nothing 0
 all-none (x ∷ s) h = absurd (omega arith)
 
 pub all-refused : (s : List ℕ) {e : Fault} {p : ℕ} → refused e p ≡ mapRead nameFields (nameRow all [] .read s) → allRows s ≡ []
-unfolding frontRows
+unfolding rowsRead
 all-refused [] h = refl
 all-refused (x ∷ s) {e} {p} h = rw (map-refused nameFields (nameRow all [] .read (x ∷ s)) e p (sym h))
 
@@ -103,7 +104,7 @@ pub record FirstRow (s : List ℕ) (fields₀ : NameFields) (n : ℕ) : Type 0 w
   pub rows : allRows s ≡ row ∷ allRows (drop n s)
 
 pub first-row : (s : List ℕ) {row : NameFields} {n : ℕ} → Bytes s → done row n ≡ mapRead nameFields (nameRow all [] .read s) → FirstRow s row n
-unfolding frontRows
+unfolding rowsRead
 first-row [] w h = never (sym (h ∙ ap (mapRead nameFields) nothing-there))
 first-row (x ∷ s) {row} {n} w h =
     let y = row-read (x ∷ s) h in
@@ -134,7 +135,7 @@ run-none (r ∷ l) h z = absurd (omega (arith, ap (length {A = ℕ}) (h .bytes),
 
 -- all of them are those
 run-front : (k : ℕ) (s : List ℕ) (l : List NameRow) → NameRun s l → length s ≤ k → frontRows k s ≡ l
-unfolding frontRows
+unfolding rowsRead
 run-front k s [] h i = ap (frontRows k) (h .bytes) ∙ front-nothing k
 run-front zero s (r ∷ l) h i = sym (run-none (r ∷ l) h (omega arith))
 run-front (suc k) s (r ∷ l) h i =

@@ -13,15 +13,15 @@ use Rattle.wire.specs.Read.{Misread, at-place, done, mapRead, never}
 use Rattle.wire.specs.Format.{run, such, _⨾_, along, encodeItems}
 use Rattle.wire.specs.Formats.{number}
 use Rattle.wire.specs.Answer.{Answer, good}
-use Rattle.wire.specs.Walk.{walk-rows, walk-ends}
+use Rattle.wire.specs.Walk.{GivesRows, walk-rows, walk-ends, rowsBehind}
 use Rattle.mapblock.specs.Inventory.{Form}
 use Rattle.mapblock.specs.Data.{NameRow, MetadataRow, ObjectRow}
 use Rattle.mapblock.specs.Layout.{all, unused, isVersion, nameRow, variable, metadataRow, objectRow, timerRow}
 use Rattle.mapblock.specs.Rows.{partTold, nameFields, metadataFields, objectFields, timerFields}
 use Rattle.mapblock.specs.Sections.{within}
-use Rattle.mapblock.specs.RowQuestions.{frontRow, nameRowOf, metadataRowOf, objectRowOf, timerRowOf, rowsBehind}
+use Rattle.mapblock.specs.RowQuestions.{frontRow, nameRowOf, metadataRowOf, objectRowOf, timerRowOf}
 use Rattle.mapblock.specs.Valid.{Each, NameGood, MetadataGood, ObjectGood, TimerGood}
-use Rattle.mapblock.specs.Theorems.{Holds, rowShown, RowsWalked, RunsWalked, WalkGivesRows}
+use Rattle.mapblock.specs.Theorems.{Holds, rowShown, RunsWalked, WalkGivesRows}
 use Rattle.mapblock.specs.declared.head.Part.{Part}
 use Rattle.mapblock.specs.declared.names.NameFields.{NameFields}
 use Rattle.mapblock.specs.declared.metadata.MetadataFields.{MetadataFields}
@@ -83,7 +83,7 @@ module _ {A B : Type 0} {item : List A → Form A} {Good : A → Type 0} {fields
     each = h .each .1;
   }
 
-  rows-walked : {s : List ℕ} {l : List A} → Rows s l → RowsWalked ask shown s l
+  rows-walked : {s : List ℕ} {l : List A} → Rows s l → GivesRows ask shown s l
   rows-walked {s} {l} h =
       walk-ends Rows (λ p. rowsBehind p (ask p)) ask (λ (a : A). good (shown a)) no-rows front-asked rows-behind s l h
       ∙ ap (λ (x : Answer (B × ℕ)). map (λ (a : A). good (shown a)) l ++ x ∷ []) (q .front [])

@@ -3,9 +3,9 @@ use Prim.Native.Nat.{ℕ}
 use mathlib.Core.Bool.{cond}
 use mathlib.Core.List.{List, []}
 use lib.Dec.{eqb}
-use lib.ListN.{length, drop}
+use lib.ListN.{length}
 use Rattle.wire.specs.Read.{Read, mapRead}
-use Rattle.wire.specs.Answer.{Answer, plain, partOf, versionOutside, noSuch}
+use Rattle.wire.specs.Answer.{Answer, plain, versionOutside, noSuch}
 use Rattle.mapblock.specs.Layout.{all, isVersion, nameRow, metadataRow, objectRow, timerRow}
 use Rattle.mapblock.specs.Numbers.{answerOf}
 use Rattle.mapblock.specs.Rows.{nameFields, metadataFields, objectFields, timerFields}
@@ -31,7 +31,3 @@ objectRowOf s = frontRow s (mapRead objectFields (objectRow .read s))
 
 abbrev pub timerRowOf : List ℕ → Answer (TimerFields × ℕ)
 timerRowOf s = frontRow s (mapRead timerFields (timerRow [] .read s))
-
--- the rows behind it, which are handed on as what remains; none when refused
-abbrev pub rowsBehind : {A : Type 0} → List ℕ → Answer (A × ℕ) → List ℕ
-rowsBehind {A} s a = partOf (λ (x : A × ℕ). drop (x .1) s) a

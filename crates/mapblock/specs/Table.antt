@@ -1,12 +1,13 @@
 -- Tables of marks: a byte for each number, 0 where it is free. They tell which positions and ids are distinct, which document 01's 'Block layout'
 -- asks in its further rules.
-use Prim.Native.Nat.{ℕ, zero, suc, _<_}
+use Prim.Native.Nat.{ℕ, _<_}
 use mathlib.Core.Path.{_≡_}
 use mathlib.Core.List.{List, [], _∷_}
 use mathlib.Core.Bool.{Bool}
 use lib.Dec.{eqb}
-use lib.ListN.{length, getD, drop, set}
+use lib.ListN.{length, getD, set}
 use Rattle.wire.specs.Read.{Read, done, refused}
+use Rattle.wire.specs.Walk.{rowsRead}
 use Rattle.mapblock.specs.Data.{NameRow, Saved}
 use Rattle.mapblock.specs.Layout.{all, unmapped, nameRow}
 use Rattle.mapblock.specs.declared.fault.Fault.{Fault}
@@ -28,14 +29,9 @@ abbrev pub unmarked : List ℕ → List NameRow → List ℕ
 unmarked t [] = t
 unmarked t (r ∷ l) = unmarked (set t (r .id) 0) l
 
-abbrev pub rowThen : Read Fault NameRow → (ℕ → List NameRow) → List NameRow
-rowThen (done r n) next = r ∷ next n
-rowThen (refused e p) next = []
-
 -- the rows that can be read from the front, at most k
-unfoldable pub frontRows : ℕ → List ℕ → List NameRow
-frontRows zero s = []
-frontRows (suc k) s = rowThen (nameRow all [] .read s) (λ n. frontRows k (drop n s))
+abbrev pub frontRows : ℕ → List ℕ → List NameRow
+frontRows = rowsRead (nameRow all [] .read)
 
 -- all of them: a row has bytes, so that there are no more rows than bytes
 abbrev pub allRows : List ℕ → List NameRow

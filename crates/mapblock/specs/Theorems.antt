@@ -15,7 +15,7 @@ use Rattle.wire.specs.Read.{Read, done, refused}
 use Rattle.wire.specs.Format.{encodeItems}
 use Rattle.wire.specs.Formats.{number}
 use Rattle.wire.specs.Answer.{Answer, good, refusal, positionTwice, idTwice, idUnmapped}
-use Rattle.wire.specs.Walk.{walk, GivesRows}
+use Rattle.wire.specs.Walk.{walk, GivesRows, rowsBehind}
 use Rattle.mapblock.specs.Data.{NameRow, MetadataRow, ObjectRow, Block}
 use Rattle.mapblock.specs.Inventory.{Form, endLine, through}
 use Rattle.mapblock.specs.Layout.{all, width, nameRow, variable, metadataRow, objectRow, timerRow}
@@ -24,7 +24,7 @@ use Rattle.mapblock.specs.Valid.{Valid}
 use Rattle.mapblock.specs.Rows.{partTold, nameFields, metadataFields, objectFields, timerFields}
 use Rattle.mapblock.specs.Sections.{sections, within}
 use Rattle.mapblock.specs.Questions.{nameAt, nameSpot}
-use Rattle.mapblock.specs.RowQuestions.{nameRowOf, metadataRowOf, objectRowOf, timerRowOf, rowsBehind}
+use Rattle.mapblock.specs.RowQuestions.{nameRowOf, metadataRowOf, objectRowOf, timerRowOf}
 use Rattle.mapblock.specs.declared.fault.Fault.{Fault}
 use Rattle.mapblock.specs.declared.fault.Fault.the-variants as fault
 use Rattle.mapblock.specs.declared.head.Part.{Part}
@@ -138,27 +138,23 @@ pub record RunsAreThere : Type 0 where
 abbrev pub rowShown : {A B : Type 0} → Form A → (A → B) → A → B × ℕ
 rowShown f fields r = (fields r, length (f .encode r))
 
--- The row question, asked of the part s and then each time of the rows behind, gives these rows, one after the other, and then 16.
-abbrev pub RowsWalked : {A B : Type 0} → (List ℕ → Answer (B × ℕ)) → (A → B × ℕ) → List ℕ → List A → Type 0
-RowsWalked ask shown s rows = GivesRows (λ p. rowsBehind p (ask p)) ask shown s rows
-
--- The run that comes back of each row on that walk is these bytes.
+-- The run that comes back of each row, where a part is walked by its row question and what remains, is these bytes.
 abbrev pub RunsWalked : {A B : Type 0} → (List ℕ → Answer (B × ℕ)) → (B → Part) → (A → List ℕ) → List ℕ → List A → Type 0
-RunsWalked {A} {B} ask run bytes s rows = walk (λ p. rowsBehind p (ask p)) (λ p. within p (partTold (λ (x : B × ℕ). run (x .0)) (ask p))) (length rows) s ≡ map bytes rows
+RunsWalked {B = B} ask run bytes s rows = walk (λ p. rowsBehind p (ask p)) (λ p. within p (partTold (λ (x : B × ℕ). run (x .0)) (ask p))) (length rows) s ≡ map bytes rows
 
 -- a part of names, of metadata in the version v, of static objects
 pub record NamesWalked (s : List ℕ) (l : List NameRow) : Type 0 where
-  pub rows : RowsWalked nameRowOf (rowShown (nameRow all []) nameFields) s l
+  pub rows : GivesRows nameRowOf (rowShown (nameRow all []) nameFields) s l
   pub name : RunsWalked nameRowOf (λ (f : NameFields). f .name) (λ (r : NameRow). r .name) s l
 
 pub record MetadataWalked (v : ℕ) (s : List ℕ) (l : List MetadataRow) : Type 0 where
-  pub rows : RowsWalked (metadataRowOf v) (rowShown (metadataRow v []) (metadataFields v)) s l
+  pub rows : GivesRows (metadataRowOf v) (rowShown (metadataRow v []) (metadataFields v)) s l
   pub content : RunsWalked (metadataRowOf v) (λ (f : MetadataFields). f .content) (λ (r : MetadataRow). r .content) s l
   pub variables : RunsWalked (metadataRowOf v) (λ (f : MetadataFields). f .rows) (λ (r : MetadataRow). encodeItems (λ _. variable v) [] (r .variables)) s l
   pub inventory : RunsWalked (metadataRowOf v) (λ (f : MetadataFields). f .inventory) (λ (r : MetadataRow). r .inventory) s l
 
 pub record ObjectsWalked (s : List ℕ) (l : List ObjectRow) : Type 0 where
-  pub rows : RowsWalked objectRowOf (rowShown objectRow objectFields) s l
+  pub rows : GivesRows objectRowOf (rowShown objectRow objectFields) s l
   pub content : RunsWalked objectRowOf (λ (f : ObjectFields). f .content) (λ (r : ObjectRow). r .content) s l
 
 -- each section of the block b; a row of timers has no run
@@ -166,7 +162,7 @@ pub record SectionsWalked (s : List ℕ) (b : Block) : Type 0 where
   pub names : NamesWalked (within s (sections b .names)) (b .names)
   pub metadata : MetadataWalked (b .head .version) (within s (sections b .metadata)) (b .metadata)
   pub objects : ObjectsWalked (within s (sections b .objects)) (b .objects)
-  pub timers : RowsWalked timerRowOf (rowShown (timerRow []) timerFields) (within s (sections b .timers)) (b .timers)
+  pub timers : GivesRows timerRowOf (rowShown (timerRow []) timerFields) (within s (sections b .timers)) (b .timers)
 
 -- "Rows are taken from the front, and the rows behind a row are handed on as what remains": of every block that is taken, each section so gives
 -- the block's rows, and 16 where they end.

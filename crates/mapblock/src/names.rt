@@ -98,7 +98,7 @@ pub(crate) fn sized(ids: &[u8; IDS])
     let _whole: &[u8] = ids;
 }
 
-// So many rows, whose ids are marked; on a refusal the table is as it was.
+// So many rows, whose ids are marked; on a refusal the table is as it was. That the table has the length that its type says is for callers' proofs.
 pub fn name_rows(s: &[u8], count: u16, ids: &mut [u8; IDS]) -> Reach
     ensures { λ r. ⌜ toldReach r ≡ ended (items (nameRow (freeIn (now (ids .entry)))) count .read (now (s .entry))) ⌝ }
     ensures { λ _. ⌜ now (ids .exit) ≡ markedBy (now (ids .entry)) (items (nameRow (freeIn (now (ids .entry)))) count .read (now (s .entry))) ⌝ }

@@ -23,7 +23,8 @@ ghost use denote.Ref.{ptr};
 ghost use Rattle.wire.specs.Places.{placeIn, startTold};
 ghost use Rattle.mapblock.specs.Rows.{partTold};
 ghost use Rattle.mapblock.specs.Sections.{IsPart};
-ghost use Rattle.mapblock.specs.RowQuestions.{nameRowOf, metadataRowOf, objectRowOf, timerRowOf, rowsBehind};
+ghost use Rattle.wire.specs.Walk.{rowsBehind};
+ghost use Rattle.mapblock.specs.RowQuestions.{nameRowOf, metadataRowOf, objectRowOf, timerRowOf};
 ghost use Rattle.mapblock.specs.AskedRows.{toldNameRow, toldMetadataRow, toldObjectRow, toldTimerRow};
 
 // ---- names

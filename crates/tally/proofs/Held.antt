@@ -61,7 +61,7 @@ module _ (k : Kind) where
   rows-append [] b = refl
   rows-append (r ∷ a) b = rw (rows-append a b, append-assoc)
 
-  item-bytes : (seen : KindRows k) (r : KindRow k) → row k seen .encode r ≡ fields k .encode r
+  pub item-bytes : (seen : KindRows k) (r : KindRow k) → row k seen .encode r ≡ fields k .encode r
   unfolding row such
   item-bytes seen r = refl
 

@@ -2,28 +2,28 @@
 use Prim.Native.Nat.{ℕ, zero, suc, _+_, _-_, _<_, _≤_}
 use mathlib.Core.Path.{_≡_, refl, sym, ap, ap₂, subst, _∙_}
 use mathlib.Core.List.{List, [], _∷_, _++_, append-assoc}
-use mathlib.Core.Option.{Option, some, none, Option·some-injective}
+use mathlib.Core.Option.{some, Option·some-injective}
 use native.Mathlib.Nat.{zero-add}
 use native.Mathlib.Omega.{arith}
 use lib.ListN.{length, take, drop, length-append, length-drop}
 use lib.Seq.{take-add, take-at, drop-at, length-take-le}
 use Rattle.wire.specs.Lists.{rest-is}
-use Rattle.wire.specs.Format.{such}
 use Rattle.wire.specs.Bytes.{Bytes, spell, spell-length, bytes-take, bytes-drop}
 use Rattle.wire.specs.Order.{order, choose, flip, order-same, order-flip}
 use Rattle.wire.specs.declared.order.Order.{Order}
 use Rattle.wire.specs.declared.order.Order.the-variants.{Before, Same, After}
 use Rattle.tally.specs.Rows.{Row, Rows, Above}
-use Rattle.wire.specs.Read.{found, found-done}
-use Rattle.tally.specs.Tally.{fields, row, ones, one}
+use Rattle.wire.specs.Read.{Read, done, refused, Misread, at-place, found, found-done, found-none}
+use Rattle.wire.specs.Walk.{rowThen, rowsRead}
+use Rattle.tally.specs.Tally.{Malformed, fields, row, ones, one}
 use Rattle.tally.specs.Told.{toldRow}
 use Rattle.tally.specs.Walks.{rowsBytes, Holds}
-use Rattle.tally.specs.Sought.{rowThen, frontRows, seekIn, seekOf, Below, Sought}
+use Rattle.tally.specs.Sought.{seekIn, seekOf, Below, Sought}
 use Rattle.tally.specs.declared.rows.RowRead.the-variants as rows
 use Rattle.tally.specs.declared.add.Found.{Found}
 use Rattle.tally.specs.declared.add.Found.the-variants as founds
 use Rattle.tally.proofs.Canon.{above-weak}
-use Rattle.tally.proofs.Held.{row-bytes, name-bytes, rows-append, FirstRow, row-inside, first-row, no-row, one-size}
+use Rattle.tally.proofs.Held.{row-bytes, name-bytes, item-bytes, rows-append, FirstRow, row-inside, first-row, no-row, one-size}
 use Rattle.tally.proofs.FrontRows.{name-part}
 
 -- ---- bytes up to a place, from another on
@@ -35,6 +35,24 @@ cut-is at n t h k =
 
 pub cut-size : (at n : ℕ) (t : List ℕ) → n ≤ length t → length (take (n - at) (drop at t)) ≡ n - at
 cut-size at n t k = length-take-le (n - at) (drop at t) (rw length-drop (omega arith))
+
+-- ---- a row with n bytes of name stands at the front of the rest of some bytes, which begins at a place
+name-order : (name rest : List ℕ) (n : ℕ) {o : Order} → o ≡ order (take ((n + 2) - 2) (drop 2 rest)) name → order (take n (drop 2 rest)) name ≡ o
+name-order name rest n k = ap (λ (m : List ℕ). order m name) (sym (name-part n rest)) ∙ sym k
+
+module _ (rest : List ℕ) (n c : ℕ) (e : toldRow rest (rows.Row n c) ≡ found (row one [] .read rest)) where
+  name-long : length (take n (drop 2 rest)) ≡ n
+  name-long = length-take-le n (drop 2 rest) (rw length-drop (omega (arith, row-inside rest n c e)))
+
+  pub rest-less : length (take (length rest - (n + 10)) (drop (n + 10) rest)) < length rest
+  rest-less = rw (rest-is (n + 10) rest, length-drop) (omega (arith, row-inside rest n c e))
+
+  module _ (s : List ℕ) (at : ℕ) (h : at + length rest ≡ length s) where
+    pub row-ends : at + (n + 10) ≤ length s
+    row-ends = omega (arith, h, row-inside rest n c e)
+
+    rest-ends : at + (n + 10) + length (drop (n + 10) rest) ≡ length s
+    rest-ends = rw length-drop (omega (arith, h, row-inside rest n c e))
 
 -- ---- rows that come before a name
 pub below-append : (n : List ℕ) (D E : Rows ones) → Below ones n D → Below ones n E → Below ones n (D ++ E)
@@ -75,25 +93,19 @@ module _ {s name rest : List ℕ} {at : ℕ} (w : Seeking s name rest at) where
 
   -- a row of n bytes of name stands there
   module _ (n c : ℕ) (e : toldRow rest (rows.Row n c) ≡ found (row one [] .read rest)) where
-    pub seeking-place : at + (n + 10) ≤ length s
-    seeking-place = omega (arith, w .size, row-inside rest n c e)
-
-    pub seeking-less : length (take (length rest - (n + 10)) (drop (n + 10) rest)) < length rest
-    seeking-less = rw (rest-is (n + 10) rest, length-drop) (omega (arith, row-inside rest n c e))
-
     first : (L : Rows ones) (h : Holds one s L) → FirstRow rest n c (w .passed L h .R)
     first L h = first-row rest n c (w .passed L h .R) e (w .passed L h .left)
 
     module _ {o : Order} (k : o ≡ order (take ((n + 2) - 2) (drop 2 rest)) name) where
       named : order (take n (drop 2 rest)) name ≡ o
-      named = ap (λ (m : List ℕ). order m name) (sym (name-part n rest)) ∙ sym k
+      named = name-order name rest n k
 
       stands : (L : Rows ones) (h : Holds one s L) → order (first L h .r .name) name ≡ o
       stands L h = ap (λ (m : List ℕ). order m name) (sym (first L h .name)) ∙ named
 
     pub seeking-on : Before ≡ order (take ((n + 2) - 2) (drop 2 rest)) name → Seeking s name (take (length rest - (n + 10)) (drop (n + 10) rest)) (at + (n + 10))
     seeking-on k = rw (rest-is (n + 10) rest) record {
-      size = rw length-drop (omega (arith, w .size, row-inside rest n c e));
+      size = rest-ends rest n c e s at (w .size);
       passed = λ L h.
           let p = w .passed L h in
           let f = first L h in
@@ -109,8 +121,8 @@ module _ {s name rest : List ℕ} {at : ℕ} (w : Seeking s name rest at) where
 
     pub seeking-row : Same ≡ order (take ((n + 2) - 2) (drop 2 rest)) name → Sought s name (founds.Row at c)
     seeking-row k =
-        let long : length name ≡ n = ap length (sym (order-same (take n (drop 2 rest)) name (named k))) ∙ length-take-le n (drop 2 rest) (rw length-drop (omega (arith, row-inside rest n c e))) in (
-          omega (arith, long, seeking-place),
+        let long : length name ≡ n = ap length (sym (order-same (take n (drop 2 rest)) name (named k))) ∙ name-long rest n c e in (
+          omega (arith, long, row-ends rest n c e s at (w .size)),
           λ L h.
               let p = w .passed L h in
               let f = first L h in
@@ -133,17 +145,13 @@ module _ {s name rest : List ℕ} {at : ℕ} (w : Seeking s name rest at) where
         rw (f .split) (v, above-weak ones name (f .r .name) (f .R) v (f .canonical .3)))
 
 -- ---- the bytes of a row
-row-encoded : (r : Row ℕ) → row one [] .encode r ≡ fields one .encode r
-unfolding row such
-row-encoded r = refl
-
 row-encodes : (r : Row ℕ) → row one [] .encode r ≡ (spell 2 (length (r .name)) ++ r .name) ++ one .count .encode (r .count)
-row-encodes r = row-encoded r ∙ row-bytes one r ∙ ap (λ (l : List ℕ). l ++ one .count .encode (r .count)) (name-bytes one (r .name))
+row-encodes r = item-bytes one [] r ∙ row-bytes one r ∙ ap (λ (l : List ℕ). l ++ one .count .encode (r .count)) (name-bytes one (r .name))
 
--- ---- a row that was found, by the length of its name and its count
-row-shape : (s : List ℕ) (r : Row ℕ) (m : ℕ) → Bytes s → found (row one [] .read s) ≡ some (r, m) → toldRow s (rows.Row (length (r .name)) (r .count)) ≡ found (row one [] .read s)
+-- ---- a row that was read, by the length of its name and its count
+row-shape : (s : List ℕ) (r : Row ℕ) (m : ℕ) → Bytes s → row one [] .read s ≡ done r m → toldRow s (rows.Row (length (r .name)) (r .count)) ≡ found (row one [] .read s)
 row-shape s r m b h =
-    let t = row one [] .backward s r m b (found-done (row one [] .read s) (sym h)) in
+    let t = row one [] .backward s r m b h in
     let bytes : s ≡ spell 2 (length (r .name)) ++ (r .name ++ (one .count .encode (r .count) ++ drop m s)) =
     t .front ∙ ap (λ (l : List ℕ). l ++ drop m s) (row-encodes r) ∙ append-assoc (spell 2 (length (r .name)) ++ r .name) (one .count .encode (r .count)) (drop m s)
     ∙ append-assoc (spell 2 (length (r .name))) (r .name) (one .count .encode (r .count) ++ drop m s) in
@@ -151,36 +159,36 @@ row-shape s r m b h =
     ap (λ (l : List ℕ). take (length (r .name)) (drop 2 l)) bytes
     ∙ ap (take (length (r .name))) (drop-at (spell 2 (length (r .name))) (r .name ++ (one .count .encode (r .count) ++ drop m s)) 2 (spell-length 2 (length (r .name))))
     ∙ take-at (r .name) (one .count .encode (r .count) ++ drop m s) (length (r .name)) refl in
-    let size : length (r .name) + 10 ≡ m = sym (t .ends ∙ ap length (row-encoded r) ∙ one-size r) in
-    ap₂ (λ (n : List ℕ) (k : ℕ). some (record { name = n; count = r .count }, k)) name size ∙ sym h
+    let size : length (r .name) + 10 ≡ m = sym (t .ends ∙ ap length (item-bytes one [] r) ∙ one-size r) in
+    ap₂ (λ (n : List ℕ) (k : ℕ). some (record { name = n; count = r .count }, k)) name size ∙ ap found (sym h)
 
 -- ---- what the definition finds, in every run of rows that the bytes might hold
 module _ (s name : List ℕ) where
   abbrev Finds : ℕ → Type 0
-  Finds k = (rest : List ℕ) (at : ℕ) → Seeking s name rest at → length rest ≤ k → Bytes rest → Sought s name (seekIn name at (frontRows k rest))
+  Finds k = (rest : List ℕ) (at : ℕ) → Seeking s name rest at → length rest ≤ k → Bytes rest → Sought s name (seekIn name at (rowsRead (row one [] .read) k rest))
 
   finds : (k : ℕ) → Finds k
-  unfolding frontRows seekIn
-  finds zero rest at w h b = by-row (found (row one [] .read rest)) refl
+  unfolding rowsRead seekIn
+  finds zero rest at w h b = by-row (row one [] .read rest) refl
     where
-      by-row : (x : Option (Row ℕ × ℕ)) → found (row one [] .read rest) ≡ x → Sought s name (founds.Place at)
-      by-row none e = seeking-end w (sym e)
-      by-row (some y) e = absurd (omega (arith, row-inside rest (length (y .0 .name)) (y .0 .count) (row-shape rest (y .0) (y .1) b e)))
-  finds (suc k) rest at w h b = by-row (finds k) (found (row one [] .read rest)) refl
+      by-row : (x : Read Malformed (Row ℕ)) → row one [] .read rest ≡ x → Sought s name (founds.Place at)
+      by-row (refused f p) e = seeking-end w (ap found (sym e))
+      by-row (done r m) e = absurd (omega (arith, row-inside rest (length (r .name)) (r .count) (row-shape rest r m b e)))
+  finds (suc k) rest at w h b = by-row (finds k) (row one [] .read rest) refl
     where
-      by-order : Finds k → (r : Row ℕ) (m : ℕ) → found (row one [] .read rest) ≡ some (r, m) → (o : Order) → order (r .name) name ≡ o
-          → Sought s name (choose o (seekIn name (at + (length (r .name) + 10)) (frontRows k (drop m rest))) (founds.Row at (r .count)) (founds.Place at))
+      by-order : Finds k → (r : Row ℕ) (m : ℕ) → row one [] .read rest ≡ done r m → (o : Order) → order (r .name) name ≡ o
+          → Sought s name (choose o (seekIn name (at + (length (r .name) + 10)) (rowsRead (row one [] .read) k (drop m rest))) (founds.Row at (r .count)) (founds.Place at))
       by-order next r m e o q =
           let told = row-shape rest r m b e in
           let n = length (r .name) in
-          let same : _≡_ {A = Row ℕ × ℕ} (record { name = take n (drop 2 rest); count = r .count }, n + 10) (r, m) = Option·some-injective _ _ (told ∙ e) in
+          let same : _≡_ {A = Row ℕ × ℕ} (record { name = take n (drop 2 rest); count = r .count }, n + 10) (r, m) = Option·some-injective _ _ (told ∙ ap found e) in
           let named : o ≡ order (take ((n + 2) - 2) (drop 2 rest)) name =
           sym q ∙ ap (λ (x : Row ℕ × ℕ). order (x .0 .name) name) (sym same) ∙ ap (λ (l : List ℕ). order l name) (sym (name-part n rest)) in
           let size : n + 10 ≡ m = ap (λ (x : Row ℕ × ℕ). x .1) same in
           by-case o named size
         where
           by-case : (o : Order) → o ≡ order (take ((length (r .name) + 2) - 2) (drop 2 rest)) name → length (r .name) + 10 ≡ m
-              → Sought s name (choose o (seekIn name (at + (length (r .name) + 10)) (frontRows k (drop m rest))) (founds.Row at (r .count)) (founds.Place at))
+              → Sought s name (choose o (seekIn name (at + (length (r .name) + 10)) (rowsRead (row one [] .read) k (drop m rest))) (founds.Row at (r .count)) (founds.Place at))
           by-case Before v z =
               let told = row-shape rest r m b e in
               let on = rw (rest-is (length (r .name) + 10) rest, z) at (seeking-on w (length (r .name)) (r .count) told v) in
@@ -189,10 +197,10 @@ module _ (s name : List ℕ) where
           by-case Same v z = seeking-row w (length (r .name)) (r .count) (row-shape rest r m b e) v
           by-case After v z = seeking-over w (length (r .name)) (r .count) (row-shape rest r m b e) v
 
-      by-row : Finds k → (x : Option (Row ℕ × ℕ)) → found (row one [] .read rest) ≡ x
-          → Sought s name (seekIn name at (rowThen x (λ n. frontRows k (drop n rest))))
-      by-row next none e = seeking-end w (sym e)
-      by-row next (some y) e = by-order next (y .0) (y .1) e (order (y .0 .name) name) refl
+      by-row : Finds k → (x : Read Malformed (Row ℕ)) → row one [] .read rest ≡ x
+          → Sought s name (seekIn name at (rowThen x (λ n. rowsRead (row one [] .read) k (drop n rest))))
+      by-row next (refused f p) e = seeking-end w (ap found (sym e))
+      by-row next (done r m) e = by-order next r m e (order (r .name) name) refl
 
   pub sought : Bytes s → Sought s name (seekOf s name)
   sought b = finds (length s) s 0 (seeking-start s name) (omega arith) b
@@ -206,27 +214,21 @@ pub record Seeks (s name rest : List ℕ) (at : ℕ) : Type 0 where
   pub most : ℕ
   pub size : at + length rest ≡ length s
   pub enough : length rest ≤ most
-  pub same : seekIn name at (frontRows most rest) ≡ seekOf s name
+  pub same : seekIn name at (rowsRead (row one [] .read) most rest) ≡ seekOf s name
 
 pub seeks-start : (s name : List ℕ) → Seeks s name s 0
 seeks-start s name = record { most = length s; size = zero-add (length s); enough = omega arith; same = refl }
 
 module _ {s name rest : List ℕ} {at : ℕ} (w : Seeks s name rest at) where
   pub seeks-end : toldRow rest rows.Malformed ≡ found (row one [] .read rest) → founds.Place at ≡ seekOf s name
-  unfolding seekIn frontRows
-  seeks-end e = ap (seekIn name at) (sym (none-there (w .most))) ∙ w .same
+  unfolding seekIn rowsRead
+  seeks-end e = ap (seekIn name at) (sym (none-there (found-none (row one [] .read rest) e) (w .most))) ∙ w .same
     where
-      none-there : (k : ℕ) → frontRows k rest ≡ []
-      none-there zero = refl
-      none-there (suc k) = ap (λ (x : Option (Row ℕ × ℕ)). rowThen x (λ n. frontRows k (drop n rest))) (sym e)
+      none-there : Misread (row one [] .read rest) → (k : ℕ) → rowsRead (row one [] .read) k rest ≡ []
+      none-there m zero = refl
+      none-there (at-place p q) (suc k) = ap (λ (x : Read Malformed (Row ℕ)). rowThen x (λ n. rowsRead (row one [] .read) k (drop n rest))) q
 
   module _ (n c : ℕ) (e : toldRow rest (rows.Row n c) ≡ found (row one [] .read rest)) where
-    pub seeks-place : at + (n + 10) ≤ length s
-    seeks-place = omega (arith, w .size, row-inside rest n c e)
-
-    pub seeks-less : length (take (length rest - (n + 10)) (drop (n + 10) rest)) < length rest
-    seeks-less = rw (rest-is (n + 10) rest, length-drop) (omega (arith, row-inside rest n c e))
-
     abbrev here : Row ℕ
     here = record { name = take n (drop 2 rest); count = c }
 
@@ -234,40 +236,33 @@ module _ {s name rest : List ℕ} {at : ℕ} (w : Seeks s name rest at) where
     record First : Type 0 where
       more : ℕ
       enough : length (drop (n + 10) rest) ≤ more
-      is : seekIn name at (here ∷ frontRows more (drop (n + 10) rest)) ≡ seekOf s name
+      is : seekIn name at (here ∷ rowsRead (row one [] .read) more (drop (n + 10) rest)) ≡ seekOf s name
 
     first-is : First
-    unfolding frontRows
+    unfolding rowsRead
     first-is = by-most (w .most) (w .enough) (w .same)
       where
-        by-most : (k : ℕ) → length rest ≤ k → seekIn name at (frontRows k rest) ≡ seekOf s name → First
+        by-most : (k : ℕ) → length rest ≤ k → seekIn name at (rowsRead (row one [] .read) k rest) ≡ seekOf s name → First
         by-most zero h g = absurd (omega (arith, row-inside rest n c e))
         by-most (suc k) h g = record {
           more = k;
           enough = rw length-drop (omega (arith, row-inside rest n c e));
-          is = ap (λ (x : Option (Row ℕ × ℕ)). seekIn name at (rowThen x (λ m. frontRows k (drop m rest)))) e ∙ g;
+          is = ap (λ (x : Read Malformed (Row ℕ)). seekIn name at (rowThen x (λ m. rowsRead (row one [] .read) k (drop m rest)))) (sym (found-done (row one [] .read rest) e)) ∙ g;
         }
-
-    module _ {o : Order} (k : o ≡ order (take ((n + 2) - 2) (drop 2 rest)) name) where
-      seen : order (take n (drop 2 rest)) name ≡ o
-      seen = ap (λ (m : List ℕ). order m name) (sym (name-part n rest)) ∙ sym k
-
-    long : length (take n (drop 2 rest)) ≡ n
-    long = length-take-le n (drop 2 rest) (rw length-drop (omega (arith, row-inside rest n c e)))
 
     pub seeks-on : Before ≡ order (take ((n + 2) - 2) (drop 2 rest)) name → Seeks s name (take (length rest - (n + 10)) (drop (n + 10) rest)) (at + (n + 10))
     unfolding seekIn
     seeks-on k = rw (rest-is (n + 10) rest) record {
       most = first-is .more;
-      size = rw length-drop (omega (arith, w .size, row-inside rest n c e));
+      size = rest-ends rest n c e s at (w .size);
       enough = first-is .enough;
-      same = rw (seen k, long) at (first-is .is);
+      same = rw (name-order name rest n k, name-long rest n c e) at (first-is .is);
     }
 
     pub seeks-row : Same ≡ order (take ((n + 2) - 2) (drop 2 rest)) name → founds.Row at c ≡ seekOf s name
     unfolding seekIn
-    seeks-row k = rw (seen k) at (first-is .is)
+    seeks-row k = rw (name-order name rest n k) at (first-is .is)
 
     pub seeks-over : After ≡ order (take ((n + 2) - 2) (drop 2 rest)) name → founds.Place at ≡ seekOf s name
     unfolding seekIn
-    seeks-over k = rw (seen k) at (first-is .is)
+    seeks-over k = rw (name-order name rest n k) at (first-is .is)

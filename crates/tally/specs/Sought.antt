@@ -1,15 +1,15 @@
 -- A name sought among rows, and a row added there, as the functions of this crate tell each other: document 01, "a new row opens its place".
-use Prim.Native.Nat.{ℕ, zero, suc, _+_, _≤_, _<_}
+use Prim.Native.Nat.{ℕ, _+_, _≤_, _<_}
 use mathlib.Core.Path.{_≡_}
 use mathlib.Core.List.{List, [], _∷_, _++_}
-use mathlib.Core.Option.{Option, some, none}
+use mathlib.Core.Option.{some}
 use lib.ListN.{length, take, drop}
 use Rattle.wire.specs.Order.{order, choose}
 use Rattle.wire.specs.Formats.{headLength}
 use Rattle.wire.specs.Answer.{Answered}
 use Rattle.wire.specs.declared.order.Order.the-variants.{Before}
 use Rattle.tally.specs.Rows.{Counts, Row, Rows, Above, addRow}
-use Rattle.wire.specs.Read.{found}
+use Rattle.wire.specs.Walk.{rowsRead}
 use Rattle.tally.specs.Tally.{fields, row, rowsOf, ones, one}
 use Rattle.tally.specs.Operations.{tallied}
 use Rattle.tally.specs.Told.{toldAdd}
@@ -19,18 +19,9 @@ use Rattle.tally.specs.declared.add.Found.the-variants as founds
 use Rattle.tally.specs.declared.add.AddAnswer.{AddAnswer}
 
 -- ---- a name sought among the rows at the front of some bytes
--- the rows that can be read from the front, each judged alone, at most k
-abbrev pub rowThen : Option (Row ℕ × ℕ) → (ℕ → Rows ones) → Rows ones
-rowThen none next = []
-rowThen (some x) next = x .0 ∷ next (x .1)
-
-unfoldable pub frontRows : ℕ → List ℕ → Rows ones
-frontRows zero s = []
-frontRows (suc k) s = rowThen (found (row one [] .read s)) (λ n. frontRows k (drop n s))
-
--- all of them: a row has bytes, so that there are no more rows than bytes
+-- the rows at the front, each judged alone: a row has bytes, so that there are no more rows than bytes
 abbrev pub allRows : List ℕ → Rows ones
-allRows s = frontRows (length s) s
+allRows s = rowsRead (row one [] .read) (length s) s
 
 -- Rows whose names come before n are passed. The row that bears n is told by its place and its count; where the next row's name comes after n, or
 -- no row is left, n's row would be there.

@@ -20,16 +20,13 @@ WellFormed k = (s : List ℕ) (l : KindRows k) → Bytes s
     → (rowsOf k s ≡ some l) ↔ (Canonical (k .counts) l × (countable k l ≡ true) × (s ≡ tally k .encode l))
 
 -- ---- Rows are taken from the front, and the rows behind a row are what remains.
-abbrev pub rowsBehind : (k : Kind) → List ℕ → List ℕ
-rowsBehind k p = partOf (λ (x : KindRow k × ℕ). drop (x .1) p) (frontOf k p)
-
 -- a row with its length
 abbrev pub rowShown : (k : Kind) → KindRow k → KindRow k × ℕ
 rowShown k r = (r, length (fields k .encode r))
 
 -- The question for the front row, asked of a tally's rows and then each time of what remains, gives them one after the other and then 16.
 abbrev pub WalkGivesRows : Kind → Type 0
-WalkGivesRows k = (t : List ℕ) (l : KindRows k) → Bytes t → rowsOf k t ≡ some l → GivesRows (rowsBehind k) (frontOf k) (rowShown k) (partOf (λ p. p) (rowsPart k t)) l
+WalkGivesRows k = (t : List ℕ) (l : KindRows k) → Bytes t → rowsOf k t ≡ some l → GivesRows (frontOf k) (rowShown k) (partOf (λ p. p) (rowsPart k t)) l
 
 -- ---- Sums add, name by name; rows as a tally has them are determined by their counts; so order and grouping of sums are free.
 pub record Sums (S : Counts) : Type 0 where

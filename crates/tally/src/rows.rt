@@ -10,11 +10,11 @@ use wire::store::put_u64;
 ghost use mathlib.Core.Path.{_≡_};
 ghost use mathlib.Core.List.{[]};
 ghost use Prim.Native.Nat.{ℕ};
-ghost use lib.ListN.{drop};
 ghost use denote.Ref.{ptr};
 ghost use Rattle.wire.specs.Answer.{mapAnswer, partOf};
 ghost use Rattle.wire.specs.Places.{placeIn, startTold};
 ghost use Rattle.wire.specs.Read.{found};
+ghost use Rattle.wire.specs.Walk.{rowsBehind};
 ghost use Rattle.tally.specs.Tally.{KindRow, row, one};
 ghost use Rattle.tally.specs.Operations.{frontOf};
 ghost use Rattle.tally.specs.Told.{toldRow, toldFront, shownRow};
@@ -89,7 +89,7 @@ pub fn name_of(part: &[u8]) -> &[u8]
 
 // What remains behind the front row.
 pub fn behind_row(part: &[u8]) -> &[u8]
-    ensures { λ r. ⌜ now r ≡ partOf (λ (x : KindRow one × ℕ). drop (x .1) (now (part .entry))) (frontOf one (now (part .entry))) ⌝ }
+    ensures { λ r. ⌜ now r ≡ rowsBehind (now (part .entry)) (frontOf one (now (part .entry))) ⌝ }
     ensures { λ r. ⌜ ptr r ≡ placeIn (part .entry) (startTold (λ (x : KindRow one × ℕ). x .1) (frontOf one (now (part .entry)))) ⌝ }
 {
     match front_row(part) {

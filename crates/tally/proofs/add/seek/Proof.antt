@@ -12,7 +12,7 @@ use Rattle.tally.specs.Tally.{row, one}
 use Rattle.tally.specs.Told.{toldRow}
 use Rattle.tally.specs.declared.rows.RowRead.the-variants as rows
 use Rattle.tally.proofs.Held.{row-inside}
-use Rattle.tally.proofs.Seeking.{Seeks, seeks-start, seeks-end, seeks-place, seeks-less, seeks-on, seeks-row, seeks-over}
+use Rattle.tally.proofs.Seeking.{row-ends, rest-less, Seeks, seeks-start, seeks-end, seeks-on, seeks-row, seeks-over}
 use Rattle.tally.proofs.add.seek.Statement.{statement}
 use Rattle.tally.proofs.add.seek.Tie as tie
 
@@ -35,7 +35,7 @@ inside : (c : tie.After-known-told Inv-loop μ-loop) → c .before .n .given .0 
 inside c = row-inside _ _ _ (a-row c)
 
 place : (c : tie.After-known-told Inv-loop μ-loop) → (let p = c .before .before .before .before in p .loop .at + (c .before .n .given .0 .0 + 10) ≤ length (now (p .before .before .before .args .s)))
-place c = seeks-place (c .before .before .before .before .loop .inv) _ _ (a-row c)
+place c = let p = c .before .before .before .before in row-ends (now (p .loop .rest)) (c .before .n .given .0 .0) (c .before .n .given .0 .1 .0) (a-row c) (now (p .before .before .before .args .s)) (p .loop .at) (p .loop .inv .size)
 
 loop-holds : tie.Need-loop-holds Inv-loop μ-loop
 loop-holds c = seeks-start _ _
@@ -89,7 +89,7 @@ add-at-2 : tie.Need-add-at-2 Inv-loop μ-loop
 add-at-2 c = omega (arith, place (c .before .before .before .before .before))
 
 loop-less : tie.Need-loop-less Inv-loop μ-loop
-loop-less c = let p = c .before .before .before .before .before in seeks-less (p .before .before .before .before .loop .inv) _ _ (a-row p)
+loop-less c = let p = c .before .before .before .before .before in rest-less (now (p .before .before .before .before .loop .rest)) (p .before .n .given .0 .0) (p .before .n .given .0 .1 .0) (a-row p)
 
 loop-again : tie.Need-loop-again Inv-loop μ-loop
 loop-again c = let p = c .before .before .before .before .before in seeks-on (p .before .before .before .before .loop .inv) _ _ (a-row p) (sym (c .before .enum-told2 .given .1) ∙ c .before .before .before .compare .ensures)
