@@ -1,9 +1,9 @@
 -- Blocks as a host is handed them: the answer, whose length is 0 since nothing of a length is written, the head and where the sections are;
 -- and the place of a node's name. All are 0 on a refusal.
 use Rattle.wire.specs.Answer.{Answer, good, refusal}
-use Rattle.mapblock.specs.Rows.{nowhere}
+use Rattle.wire.specs.Ranges.{noRange}
 use Rattle.mapblock.specs.declared.head.Head.{Head}
-use Rattle.mapblock.specs.declared.head.Part.{Part}
+use Rattle.wire.specs.declared.ranges.Range.{Range}
 use Rattle.mapblock.specs.declared.head.Sections.{Sections}
 use Rattle.anowhetele.specs.Answers.{doneWith, refusedWith}
 use Rattle.anowhetele.specs.declared.answer.AnowAnswer.{AnowAnswer}
@@ -14,7 +14,7 @@ abbrev pub noBlock : AnowAnswer → AnowBlock
 noBlock a = record {
   answer = a;
   head = record { version = 0; flags = 0; lighting = 0; timestamp = 0; timer = 0 };
-  sections = record { names = nowhere; metadata = nowhere; objects = nowhere; timers = nowhere };
+  sections = record { names = noRange; metadata = noRange; objects = noRange; timers = noRange };
 }
 
 abbrev pub handedBlock : Answer (Head × Sections) → AnowBlock
@@ -22,8 +22,8 @@ handedBlock (good x) = record { answer = doneWith 0; head = x .0; sections = x .
 handedBlock (refusal n r o) = noBlock (refusedWith n r o)
 
 abbrev pub noNode : AnowAnswer → AnowNode
-noNode a = record { answer = a; name = nowhere }
+noNode a = record { answer = a; name = noRange }
 
-abbrev pub handedNode : Answer Part → AnowNode
+abbrev pub handedNode : Answer Range → AnowNode
 handedNode (good p) = record { answer = doneWith 0; name = p }
 handedNode (refusal n r o) = noNode (refusedWith n r o)

@@ -2,7 +2,7 @@
 use Prim.Native.Nat.{ℕ}
 use lib.IntN.{pos}
 use Rattle.wire.specs.Answer.{Answer, good, refusal}
-use Rattle.mapblock.specs.Rows.{nowhere}
+use Rattle.wire.specs.Ranges.{noRange}
 use Rattle.mapblock.specs.declared.names.NameFields.{NameFields}
 use Rattle.mapblock.specs.declared.metadata.MetadataFields.{MetadataFields}
 use Rattle.mapblock.specs.declared.objects.ObjectFields.{ObjectFields}
@@ -15,14 +15,14 @@ use Rattle.anowhetele.specs.declared.rows.AnowObjectRow.{AnowObjectRow}
 use Rattle.anowhetele.specs.declared.rows.AnowTimerRow.{AnowTimerRow}
 
 abbrev pub noName : AnowAnswer → AnowNameRow
-noName a = record { answer = a; id = 0; name = nowhere }
+noName a = record { answer = a; id = 0; name = noRange }
 
 abbrev pub handedName : Answer (NameFields × ℕ) → AnowNameRow
 handedName (good x) = let f = x .0 in record { answer = doneWith (x .1); id = f .id; name = f .name }
 handedName (refusal n r o) = noName (refusedWith n r o)
 
 abbrev pub noMetadata : AnowAnswer → AnowMetadataRow
-noMetadata a = record { answer = a; position = 0; kind = 0; variables = 0; content = nowhere; rows = nowhere; inventory = nowhere }
+noMetadata a = record { answer = a; position = 0; kind = 0; variables = 0; content = noRange; rows = noRange; inventory = noRange }
 
 abbrev pub handedMetadata : Answer (MetadataFields × ℕ) → AnowMetadataRow
 handedMetadata (good x) =
@@ -39,7 +39,7 @@ handedMetadata (good x) =
 handedMetadata (refusal n r o) = noMetadata (refusedWith n r o)
 
 abbrev pub noObject : AnowAnswer → AnowObjectRow
-noObject a = record { answer = a; kind = 0; x = pos 0; y = pos 0; z = pos 0; content = nowhere }
+noObject a = record { answer = a; kind = 0; x = pos 0; y = pos 0; z = pos 0; content = noRange }
 
 abbrev pub handedObject : Answer (ObjectFields × ℕ) → AnowObjectRow
 handedObject (good x) =

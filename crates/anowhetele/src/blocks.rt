@@ -7,20 +7,20 @@ use crate::numbers::NO_SUCH;
 use crate::numbers::PARTS_MISFIT;
 use mapblock::head::Head;
 use mapblock::head::NO_SECTIONS;
-use mapblock::head::NOWHERE;
-use mapblock::head::Part;
 use mapblock::head::Sections;
-use mapblock::node::NodeAnswer;
-use mapblock::node::node;
+use mapblock::node::NodeNameAnswer;
+use mapblock::node::locate_node_name;
 use mapblock::read::ReadAnswer;
 use mapblock::read::SectionsAnswer;
 use mapblock::read::read;
 use mapblock::read::sections;
+use wire::ranges::NO_RANGE;
+use wire::ranges::Range;
 ghost use mathlib.Core.Path.{_≡_};
 ghost use lib.ListN.{length};
 ghost use Rattle.wire.specs.Answer.{lent, mapAnswer};
 ghost use Rattle.mapblock.specs.Data.{Block};
-ghost use Rattle.mapblock.specs.Questions.{shown, readOf, sectionsOf, nodeOf};
+ghost use Rattle.mapblock.specs.Questions.{shown, readOf, sectionsOf, nodeNameOf};
 ghost use Rattle.anowhetele.specs.Blocks.{noBlock, noNode, handedBlock, handedNode};
 
 // The sections lie as four parts, one after the other.
@@ -87,7 +87,7 @@ pub extern "C" fn anow_sections(block: &[u8]) -> AnowBlock
 #[repr(C)]
 pub struct AnowNode {
     pub answer: AnowAnswer,
-    pub name: Part,
+    pub name: Range,
 }
 
 fn no_node(answer: AnowAnswer) -> AnowNode
@@ -95,20 +95,20 @@ fn no_node(answer: AnowAnswer) -> AnowNode
 {
     AnowNode {
         answer,
-        name: NOWHERE,
+        name: NO_RANGE,
     }
 }
 
 #[no_mangle]
 pub extern "C" fn anow_node_name(block: &[u8], index: u64) -> AnowNode
-    ensures { λ r. ⌜ r ≡ handedNode (nodeOf (now (block .entry)) index) ⌝ }
+    ensures { λ r. ⌜ r ≡ handedNode (nodeNameOf (now (block .entry)) index) ⌝ }
 {
-    match node(block, index as usize) {
-        NodeAnswer::Name(name) => AnowNode {
+    match locate_node_name(block, index as usize) {
+        NodeNameAnswer::Name(name) => AnowNode {
             answer: done(0),
             name,
         },
-        NodeAnswer::NoSuchNode => no_node(plain(NO_SUCH)),
-        NodeAnswer::Refused(f, p) => no_node(refused(f, p)),
+        NodeNameAnswer::NoSuchNode => no_node(plain(NO_SUCH)),
+        NodeNameAnswer::Refused(f, p) => no_node(refused(f, p)),
     }
 }

@@ -11,21 +11,22 @@ use crate::numbers::PARTS_MISFIT;
 use crate::numbers::SHEET_MALFORMED;
 use crate::numbers::TOO_MANY;
 use mapblock::fault::refusal_number;
-use meter::block::BlockAnswer;
-use meter::block::tally_block;
-use meter::records::RecordFault;
-use meter::sheet::SheetAnswer;
-use meter::sheet::tally_sheet;
+use meter::block_tally::BlockAnswer;
+use meter::block_tally::tally_block;
+use meter::sheet_tally::SheetAnswer;
+use meter::sheet_tally::tally_sheet;
 use position::lot::Lot;
+use position::part::Part;
 use position::span::Span;
+use sheet::records::RecordFault;
 ghost use mathlib.Core.Path.{_≡_};
 ghost use lib.ListN.{length};
 ghost use Rattle.wire.specs.Answer.{lent, mapAnswer};
 ghost use Rattle.meter.specs.Counting.{byOne};
 ghost use Rattle.meter.specs.Tallying.{tallyBlockOf};
-ghost use Rattle.meter.specs.Sheet.{tallySheetOf};
-ghost use Rattle.meter.specs.Adding.{part};
-ghost use Rattle.meter.specs.Records.{faultNumber, faultOffset};
+ghost use Rattle.meter.specs.SheetTally.{tallySheetOf};
+ghost use Rattle.position.specs.Parts.{partAt};
+ghost use Rattle.sheet.specs.Records.{faultNumber, faultOffset};
 ghost use Rattle.meter.specs.SheetTold.{toldSheet};
 ghost use Rattle.anowhetele.specs.Answers.{handed, refusedWith};
 
@@ -37,10 +38,10 @@ pub extern "C" fn anow_tally_block(
     span: Span,
     out: &mut [u8],
 ) -> AnowAnswer
-    ensures { λ r. ⌜ r ≡ handed (mapAnswer length (tallyBlockOf byOne key (now (block .entry)) (part lot span) (length (now (out .entry))))) ⌝ }
-    ensures { λ _. ⌜ now (out .exit) ≡ lent (tallyBlockOf byOne key (now (block .entry)) (part lot span) (length (now (out .entry)))) (now (out .entry)) ⌝ }
+    ensures { λ r. ⌜ r ≡ handed (mapAnswer length (tallyBlockOf byOne key (now (block .entry)) (partAt lot span) (length (now (out .entry))))) ⌝ }
+    ensures { λ _. ⌜ now (out .exit) ≡ lent (tallyBlockOf byOne key (now (block .entry)) (partAt lot span) (length (now (out .entry)))) (now (out .entry)) ⌝ }
 {
-    match tally_block(key, block, lot, span, out) {
+    match tally_block(key, block, Part { lot, span }, out) {
         BlockAnswer::Tallied(n) => done(n),
         BlockAnswer::BadPart => plain(BAD_PART),
         BlockAnswer::OutOfRange => plain(OUT_OF_RANGE),
@@ -84,9 +85,9 @@ pub extern "C" fn anow_tally_sheet(
     out: &mut [u8],
     spare: &mut [u8],
 ) -> AnowAnswer
-    ensures { λ r. ⌜ r ≡ handed (mapAnswer length (tallySheetOf byOne (now (sheet .entry)) (part lot span) (length (now (out .entry))) (length (now (spare .entry))))) ⌝ }
-    ensures { λ _. ⌜ now (out .exit) ≡ lent (tallySheetOf byOne (now (sheet .entry)) (part lot span) (length (now (out .entry))) (length (now (spare .entry)))) (now (out .entry)) ⌝ }
+    ensures { λ r. ⌜ r ≡ handed (mapAnswer length (tallySheetOf byOne (now (sheet .entry)) (partAt lot span) (length (now (out .entry))) (length (now (spare .entry))))) ⌝ }
+    ensures { λ _. ⌜ now (out .exit) ≡ lent (tallySheetOf byOne (now (sheet .entry)) (partAt lot span) (length (now (out .entry))) (length (now (spare .entry)))) (now (out .entry)) ⌝ }
     ensures { λ _. ⌜ length (now (spare .exit)) ≡ length (now (spare .entry)) ⌝ }
 {
-    sheet_answer(tally_sheet(sheet, lot, span, out, spare))
+    sheet_answer(tally_sheet(sheet, Part { lot, span }, out, spare))
 }

@@ -4,8 +4,6 @@ use crate::answer::done;
 use crate::answer::plain;
 use crate::answer::refused;
 use crate::numbers::NO_SUCH;
-use mapblock::head::NOWHERE;
-use mapblock::head::Part;
 use mapblock::row_questions::MetadataRowAnswer;
 use mapblock::row_questions::NameRowAnswer;
 use mapblock::row_questions::ObjectRowAnswer;
@@ -14,6 +12,8 @@ use mapblock::row_questions::metadata_row_of;
 use mapblock::row_questions::name_row_of;
 use mapblock::row_questions::object_row_of;
 use mapblock::row_questions::timer_row_of;
+use wire::ranges::NO_RANGE;
+use wire::ranges::Range;
 ghost use mathlib.Core.Path.{_≡_};
 ghost use Rattle.mapblock.specs.RowQuestions.{nameRowOf, metadataRowOf, objectRowOf, timerRowOf};
 ghost use Rattle.anowhetele.specs.Rows.{noName, noMetadata, noObject, noTimer, handedName, handedMetadata, handedObject, handedTimer};
@@ -23,7 +23,7 @@ ghost use Rattle.anowhetele.specs.Rows.{noName, noMetadata, noObject, no
 pub struct AnowNameRow {
     pub answer: AnowAnswer,
     pub id: u32,
-    pub name: Part,
+    pub name: Range,
 }
 
 fn no_name(answer: AnowAnswer) -> AnowNameRow
@@ -32,7 +32,7 @@ fn no_name(answer: AnowAnswer) -> AnowNameRow
     AnowNameRow {
         answer,
         id: 0,
-        name: NOWHERE,
+        name: NO_RANGE,
     }
 }
 
@@ -61,9 +61,9 @@ pub struct AnowMetadataRow {
     pub position: u32,
     pub kind: u32,
     pub variables: u32,
-    pub content: Part,
-    pub rows: Part,
-    pub inventory: Part,
+    pub content: Range,
+    pub rows: Range,
+    pub inventory: Range,
 }
 
 fn no_metadata(answer: AnowAnswer) -> AnowMetadataRow
@@ -74,9 +74,9 @@ fn no_metadata(answer: AnowAnswer) -> AnowMetadataRow
         position: 0,
         kind: 0,
         variables: 0,
-        content: NOWHERE,
-        rows: NOWHERE,
-        inventory: NOWHERE,
+        content: NO_RANGE,
+        rows: NO_RANGE,
+        inventory: NO_RANGE,
     }
 }
 
@@ -112,7 +112,7 @@ pub struct AnowObjectRow {
     pub x: i32,
     pub y: i32,
     pub z: i32,
-    pub content: Part,
+    pub content: Range,
 }
 
 fn no_object(answer: AnowAnswer) -> AnowObjectRow
@@ -124,7 +124,7 @@ fn no_object(answer: AnowAnswer) -> AnowObjectRow
         x: 0,
         y: 0,
         z: 0,
-        content: NOWHERE,
+        content: NO_RANGE,
     }
 }
 

@@ -5,14 +5,14 @@ use crate::answer::plain;
 use crate::answer::refused;
 use crate::numbers::NO_ROOM;
 use crate::numbers::PARTS_MISFIT;
+use block_writer::write::WriteAnswer;
+use block_writer::write::write;
 use mapblock::head::Head;
-use writer::write::WriteAnswer;
-use writer::write::write;
 ghost use mathlib.Core.Path.{_≡_};
 ghost use lib.ListN.{length};
 ghost use Rattle.wire.specs.Answer.{lent, mapAnswer};
-ghost use Rattle.writer.specs.Parts.{partsOf};
-ghost use Rattle.writer.specs.Write.{writeOf};
+ghost use Rattle.block_writer.specs.BlockParts.{blockParts};
+ghost use Rattle.block_writer.specs.Write.{writeOf};
 ghost use Rattle.anowhetele.specs.Answers.{handed};
 
 #[no_mangle]
@@ -27,8 +27,8 @@ pub extern "C" fn anow_write(
     timers: &[u8],
     out: &mut [u8],
 ) -> AnowAnswer
-    ensures { λ r. ⌜ r ≡ handed (mapAnswer length (writeOf (partsOf head (now (param0 .entry)) (now (param1 .entry)) (now (param2 .entry)) (now (names .entry)) (now (metadata .entry)) (now (objects .entry)) (now (timers .entry))) (length (now (out .entry))))) ⌝ }
-    ensures { λ _. ⌜ now (out .exit) ≡ lent (writeOf (partsOf head (now (param0 .entry)) (now (param1 .entry)) (now (param2 .entry)) (now (names .entry)) (now (metadata .entry)) (now (objects .entry)) (now (timers .entry))) (length (now (out .entry)))) (now (out .entry)) ⌝ }
+    ensures { λ r. ⌜ r ≡ handed (mapAnswer length (writeOf (blockParts head (now (param0 .entry)) (now (param1 .entry)) (now (param2 .entry)) (now (names .entry)) (now (metadata .entry)) (now (objects .entry)) (now (timers .entry))) (length (now (out .entry))))) ⌝ }
+    ensures { λ _. ⌜ now (out .exit) ≡ lent (writeOf (blockParts head (now (param0 .entry)) (now (param1 .entry)) (now (param2 .entry)) (now (names .entry)) (now (metadata .entry)) (now (objects .entry)) (now (timers .entry))) (length (now (out .entry)))) (now (out .entry)) ⌝ }
 {
     match write(
         head,

@@ -7,8 +7,8 @@ use native.Mathlib.Omega.{arith}
 use lib.Dec.{eqb}
 use lib.ListN.{length, getD, take, drop, replicate, drop-of-length-le}
 use borrow.Author.Tests.{eqb-true, eq-eqb}
-use Rattle.wire.specs.Choice.{three-yes}
-use Rattle.wire.specs.Lists.{rest-is}
+use Rattle.wire.proofs.Tests.{three-yes}
+use Rattle.wire.proofs.Lists.{rest-is}
 use Rattle.wire.specs.Bytes.{Bytes}
 use Rattle.wire.specs.Read.{Read, done, refused, mapRead, map-done, map-refused}
 use Rattle.wire.specs.Answer.{Answer, good, refusal, plain, mapAnswer, lent, partsMisfit}
@@ -16,14 +16,14 @@ use Rattle.mapblock.specs.Data.{Block, Nodes}
 use Rattle.mapblock.specs.Layout.{all, width}
 use Rattle.mapblock.specs.Block.{verdict}
 use Rattle.mapblock.specs.Params.{listsOf}
-use Rattle.mapblock.specs.Sections.{found}
+use Rattle.mapblock.specs.Sections.{scannedOf}
 use Rattle.mapblock.specs.Table.{freeIn}
 use Rattle.mapblock.specs.Numbers.{refusalNumber}
 use Rattle.mapblock.specs.Questions.{areWhole, blockAnswer, blockOf, shown, sectionsOf, readOf, partsOf}
 use Rattle.mapblock.specs.declared.fault.Fault.{Fault}
-use Rattle.mapblock.specs.declared.head.Part.{Part}
+use Rattle.wire.specs.declared.ranges.Range.{Range}
 use Rattle.mapblock.specs.declared.head.Sections.{Sections}
-use Rattle.mapblock.specs.declared.scan.Found.{Found}
+use Rattle.mapblock.specs.declared.scan.Scanned.{Scanned}
 use Rattle.mapblock.proofs.Taken.{taken-read}
 use Rattle.mapblock.proofs.SectionsThere.{lists-inside, lists-there, sections-are-rows}
 
@@ -37,27 +37,27 @@ zeros-at (suc n) (suc i) = zeros-at n i
 pub clear-all : (n : ℕ) → freeIn (replicate n 0) ≡ all
 clear-all n = fun-ext (λ i. eq-eqb (getD (replicate n 0) i 0) 0 (zeros-at n i))
 
-pub clear-table : (n : ℕ) (s : List ℕ) {r : Read Fault Found} → r ≡ mapRead found (verdict (freeIn (replicate n 0)) s) → r ≡ mapRead found (verdict all s)
-clear-table n s h = h ∙ ap (λ (free : ℕ → Bool). mapRead found (verdict free s)) (clear-all n)
+pub clear-table : (n : ℕ) (s : List ℕ) {r : Read Fault Scanned} → r ≡ mapRead scannedOf (verdict (freeIn (replicate n 0)) s) → r ≡ mapRead scannedOf (verdict all s)
+clear-table n s h = h ∙ ap (λ (free : ℕ → Bool). mapRead scannedOf (verdict free s)) (clear-all n)
 
-pub block-refused : (s : List ℕ) {f : Fault} {p : ℕ} → refused f p ≡ mapRead found (verdict all s) → blockOf s ≡ refusal (refusalNumber f) 0 p
+pub block-refused : (s : List ℕ) {f : Fault} {p : ℕ} → refused f p ≡ mapRead scannedOf (verdict all s) → blockOf s ≡ refusal (refusalNumber f) 0 p
 unfolding blockOf
-block-refused s {f} {p} h = ap blockAnswer (map-refused found (verdict all s) f p (sym h))
+block-refused s {f} {p} h = ap blockAnswer (map-refused scannedOf (verdict all s) f p (sym h))
 
 -- the block that the scan found, and where it stands
-pub record TakenAs (s : List ℕ) (w : Found) : Type 0 where
+pub record TakenAs (s : List ℕ) (w : Scanned) : Type 0 where
   pub b : Block
   pub n : ℕ
   pub reads : verdict all s ≡ done b n
   pub answer : blockOf s ≡ good b
-  pub shows : found b ≡ w
+  pub shows : scannedOf b ≡ w
   pub inside : w .lists + (4096 * width (w .head .version) + 8192) ≤ length s
   pub nodes : b .nodes ≡ listsOf (width (w .head .version)) (drop (w .lists) s)
 
-pub taken-as : (s : List ℕ) {w : Found} {n : ℕ} → Bytes s → done w n ≡ mapRead found (verdict all s) → TakenAs s w
+pub taken-as : (s : List ℕ) {w : Scanned} {n : ℕ} → Bytes s → done w n ≡ mapRead scannedOf (verdict all s) → TakenAs s w
 unfolding blockOf
 taken-as s {w} {n} y h =
-    let x = map-done found (verdict all s) w n (sym h) in
+    let x = map-done scannedOf (verdict all s) w n (sym h) in
     let r = taken-read s (x .0) n y (x .1) in
     subst (TakenAs s) (x .2) record {
       b = x .0;
@@ -71,14 +71,14 @@ taken-as s {w} {n} y h =
 
 -- ---- the sections
 module _ (s : List ℕ) where
-  pub sections-refused : {f : Fault} {p : ℕ} → refused f p ≡ mapRead found (verdict all s) → refusal (refusalNumber f) 0 p ≡ sectionsOf s
+  pub sections-refused : {f : Fault} {p : ℕ} → refused f p ≡ mapRead scannedOf (verdict all s) → refusal (refusalNumber f) 0 p ≡ sectionsOf s
   sections-refused h = sym (ap (mapAnswer shown) (block-refused s h))
 
-  pub sections-told : {w : Found} → TakenAs s w → good (w .head, w .sections) ≡ sectionsOf s
-  sections-told k = ap (λ (y : Found). good (y .head, y .sections)) (sym (k .shows)) ∙ sym (ap (mapAnswer shown) (k .answer))
+  pub sections-told : {w : Scanned} → TakenAs s w → good (w .head, w .sections) ≡ sectionsOf s
+  sections-told k = ap (λ (y : Scanned). good (y .head, y .sections)) (sym (k .shows)) ∙ sym (ap (mapAnswer shown) (k .answer))
 
   -- the sections lie in the bytes
-  abbrev Inside : Part → Type 0
+  abbrev Inside : Range → Type 0
   Inside p = p .start + p .length ≤ length s
 
   pub record AllInside (x : Sections) : Type 0 where
@@ -115,7 +115,7 @@ pub lists-kept : (x y z : List ℕ) {r : Answer Block} {n o p : ℕ} → r ≡ r
     → (refusal n o p ≡ mapAnswer shown r) × ((x ≡ lent (mapAnswer (λ (b : Block). b .nodes .param0) r) x) × ((y ≡ lent (mapAnswer (λ (b : Block). b .nodes .param1) r) y) × (z ≡ lent (mapAnswer (λ (b : Block). b .nodes .param2) r) z)))
 lists-kept x y z h = rw h (refl, (refl, (refl, refl)))
 
-module _ {s : List ℕ} {w : Found} (k : TakenAs s w) {r : Answer Block} (h : r ≡ good (k .b)) where
+module _ {s : List ℕ} {w : Scanned} (k : TakenAs s w) {r : Answer Block} (h : r ≡ good (k .b)) where
   pub read-told : good (w .head, w .sections) ≡ mapAnswer shown r
   read-told = sections-told s k ∙ ap (mapAnswer shown) (k .answer ∙ sym h)
 

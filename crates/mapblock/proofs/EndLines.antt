@@ -7,7 +7,8 @@ use mathlib.Core.List.{List, [], _∷_}
 use native.Mathlib.Omega.{arith}
 use lib.Dec.{eqb}
 use lib.ListN.{getD, drop}
-use Rattle.wire.specs.Choice.{no-true, and-yes}
+use Rattle.wire.specs.Choice.{no-true}
+use Rattle.wire.proofs.Tests.{and-yes}
 use Rattle.wire.specs.Marks.{starts}
 use Rattle.mapblock.specs.Inventory.{endLine, after, through, after-some}
 use Rattle.mapblock.specs.Theorems.{endLineAt, FirstEndLine}
@@ -32,9 +33,9 @@ test-is : (b c : Bool) → cond b c false ≡ (b && c)
 test-is true c = refl
 test-is false c = refl
 
-nowhere : (b : Bool) (k : ℕ) → endAt b [] k ≡ true → ⊥
-nowhere b zero h = no-true (and-yes b false h .1)
-nowhere b (suc k) h = no-true (and-yes (eqb 0 10) false h .1)
+noRange : (b : Bool) (k : ℕ) → endAt b [] k ≡ true → ⊥
+noRange b zero h = no-true (and-yes b false h .1)
+noRange b (suc k) h = no-true (and-yes (eqb 0 10) false h .1)
 
 found : (b : Bool) (l : List ℕ) (n : ℕ) → through b l ≡ some n → First b l n
 found b [] n h = absurd (Option·none-ne-some n h)
@@ -53,7 +54,7 @@ found b (x ∷ l) n h = go (cond b (starts endLine (x ∷ l)) false) refl h (λ 
         before k f (suc i) h = behind b x l i ∙ f i (omega arith)
 
 back : (b : Bool) (l : List ℕ) (k : ℕ) → endAt b l k ≡ true → ((i : ℕ) → i < k → endAt b l i ≡ false) → through b l ≡ some (k + 13)
-back b [] k h f = absurd (nowhere b k h)
+back b [] k h f = absurd (noRange b k h)
 back b (x ∷ l) zero h f = rw (test-is b (starts endLine (x ∷ l)) ∙ h)
 back b (x ∷ l) (suc k) h f =
     let t : cond b (starts endLine (x ∷ l)) false ≡ false = test-is b (starts endLine (x ∷ l)) ∙ f 0 (omega arith) in

@@ -12,7 +12,7 @@ use Rattle.wire.specs.Bytes.{Bytes, bytes-drop}
 use Rattle.wire.specs.Read.{done, refused, mapRead, map-done, map-refused}
 use Rattle.wire.specs.Formats.{_▹_}
 use Rattle.mapblock.specs.Layout.{width, metadata, earlyTimers, objects, lateTimers}
-use Rattle.mapblock.specs.Params.{strayIn, strayOf}
+use Rattle.mapblock.specs.Params.{firstUnmappedIn, firstUnmappedOf}
 use Rattle.mapblock.specs.Scan.{middle, MiddleIs}
 use Rattle.mapblock.specs.Told.{ended, timerByte}
 use Rattle.mapblock.specs.declared.fault.Fault.{Fault}
@@ -68,5 +68,5 @@ width-place v i h = go (leb 24 v)
     go false = (omega arith, omega arith)
 
 -- the param lists lie in the bytes
-pub stray-there : (v : ℕ) (s t : List ℕ) (lists at : ℕ) → lists + (4096 * width v + 8192) ≤ at → at ≤ length s → strayOf v (drop lists s) t ≡ strayIn v (drop lists s) t
-stray-there v s t lists at h k = rw (le-leb (4096 * width v + 8192) (length (drop lists s)) (omega (arith, length-drop lists s)))
+pub firstUnmapped-there : (v : ℕ) (s t : List ℕ) (lists at : ℕ) → lists + (4096 * width v + 8192) ≤ at → at ≤ length s → firstUnmappedOf v (drop lists s) t ≡ firstUnmappedIn v (drop lists s) t
+firstUnmapped-there v s t lists at h k = rw (le-leb (4096 * width v + 8192) (length (drop lists s)) (omega (arith, length-drop lists s)))

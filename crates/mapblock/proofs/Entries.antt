@@ -10,17 +10,17 @@ use lib.Dec.{leb}
 use lib.ListN.{length, getD, take, drop, set, length-drop, length-set, drop-of-length-le}
 use lib.Seq.{drop-cons, drop-drop, getD-drop, take-suc, take-suc-set, take-all, length-take-le}
 use borrow.Author.Tests.{le-leb, lt-leb, leb-true, leb-false, lt-ltb, le-ltb}
-use Rattle.wire.specs.Bytes.{Bytes, spelt, bytes-drop}
-use Rattle.wire.specs.Read.{Read, done, refused, onward, never}
-use Rattle.wire.specs.Format.{_⨾_, along, items, readItems, ends-in}
+use Rattle.wire.specs.Bytes.{Bytes, fromBE, bytes-drop}
+use Rattle.wire.specs.Read.{Read, done, refused, shift, not-done}
+use Rattle.wire.specs.Format.{_⨾_, iso, items, readItems, ends-in}
 use Rattle.wire.specs.Formats.{number, u8, times, fixed}
 use Rattle.wire.specs.Store.{stored}
 use Rattle.wire.proofs.Steps.{number-done, number-ends}
-use Rattle.wire.proofs.Laid.{stored-fits}
+use Rattle.wire.proofs.Overwrites.{stored-fits}
 use Rattle.mapblock.specs.Data.{Nodes, Block}
 use Rattle.mapblock.specs.Layout.{width, params, nodes, unmapped}
-use Rattle.mapblock.specs.Block.{contentId, idAt, stray}
-use Rattle.mapblock.specs.Params.{listsOf, entries, idIn, bareIn, strayIn, idOf}
+use Rattle.mapblock.specs.Block.{contentId, idAt, firstUnmapped}
+use Rattle.mapblock.specs.Params.{listsOf, entries, idIn, unmarkedIn, firstUnmappedIn, idOf}
 use Rattle.mapblock.specs.Told.{ended}
 use Rattle.mapblock.specs.Table.{Tabled}
 use Rattle.mapblock.specs.declared.fault.Fault.{Fault}
@@ -35,21 +35,21 @@ unfolding entries
 entries-length w zero s = refl
 entries-length w (suc n) s = ap suc (entries-length w n (drop w s))
 
-pub entries-at : (w n : ℕ) (s : List ℕ) (i : ℕ) → i < n → getD (entries w n s) i 0 ≡ spelt 0 (take w (drop (w * i) s))
+pub entries-at : (w n : ℕ) (s : List ℕ) (i : ℕ) → i < n → getD (entries w n s) i 0 ≡ fromBE 0 (take w (drop (w * i) s))
 unfolding entries
 entries-at w zero s i h = absurd (omega arith)
 entries-at w (suc n) s zero h = rw mul-zero
 entries-at w (suc n) s (suc i) h = rw (entries-at w n (drop w s) i (omega arith), drop-drop (w * i) w s, mul-suc, add-comm (w * i) w)
 
 -- of one byte
-pub entry-one : (s : List ℕ) (i : ℕ) → spelt 0 (take 1 (drop i s)) ≡ getD s i 0
+pub entry-one : (s : List ℕ) (i : ℕ) → fromBE 0 (take 1 (drop i s)) ≡ getD s i 0
 entry-one [] zero = refl
 entry-one [] (suc i) = refl
 entry-one (x ∷ s) zero = omega arith
 entry-one (x ∷ s) (suc i) = entry-one s i
 
 -- of two
-pub entry-two : (s : List ℕ) (i : ℕ) → i + 1 < length s → spelt 0 (take 2 (drop i s)) ≡ getD s i 0 * 256 + getD s (i + 1) 0
+pub entry-two : (s : List ℕ) (i : ℕ) → i + 1 < length s → fromBE 0 (take 2 (drop i s)) ≡ getD s i 0 * 256 + getD s (i + 1) 0
 entry-two s i h = rw (drop-cons s i 0 (omega arith), drop-cons s (suc i) 0 (omega arith), ← add-one i) (omega arith)
 
 pub entries-one : (n : ℕ) (s : List ℕ) (i : ℕ) → i < n → getD (entries 1 n s) i 0 ≡ getD s i 0
@@ -69,7 +69,7 @@ all-there w (suc n) seen s h =
     let m : suc n * w ≡ n * w + w = suc-mul n w in
     let a : w ≤ length s = omega arith in
     let b : n * w ≤ length (drop w s) = rw length-drop (omega arith) in
-    rw (number-done fault.Ends w s a, all-there w n (spelt 0 (take w s) ∷ seen) (drop w s) b, m, add-comm (n * w) w)
+    rw (number-done fault.Ends w s a, all-there w n (fromBE 0 (take w s) ∷ seen) (drop w s) b, m, add-comm (n * w) w)
 
 cut-short : (w n k : ℕ) (seen s : List ℕ) → k < n → k * w ≤ length s → length s < k * w + w
     → readItems (λ _. number {ends = fault.Ends} w) n seen s ≡ refused fault.Ends (k * w)
@@ -84,7 +84,7 @@ cut-short w (suc n) (suc k) seen s h a b =
     let c : w ≤ length s = omega arith in
     let d : k * w ≤ length (drop w s) = rw length-drop (omega arith) in
     let e : length (drop w s) < k * w + w = rw length-drop (omega arith) in
-    rw (number-done fault.Ends w s c, cut-short w n k (spelt 0 (take w s) ∷ seen) (drop w s) (omega arith) d e, m, add-comm (k * w) w)
+    rw (number-done fault.Ends w s c, cut-short w n k (fromBE 0 (take w s) ∷ seen) (drop w s) (omega arith) d e, m, add-comm (k * w) w)
 
 pub times-done : (w n : ℕ) (s : List ℕ) → n * w ≤ length s → times {ends = fault.Ends} n (number w) .read s ≡ done (entries w n s) (n * w)
 unfolding items
@@ -118,14 +118,14 @@ width-range v = go (leb 24 v)
 
 module _ (v : ℕ) (s : List ℕ) where
   pub params-done : 4096 * width v + 8192 ≤ length s → params v .read s ≡ done (listsOf (width v) s) (4096 * width v + 8192)
-  unfolding params along _⨾_
+  unfolding params iso _⨾_
   params-done h =
       let one : 4096 ≤ length (drop (4096 * width v) s) = rw length-drop (omega arith) in
       let two : 4096 ≤ length (drop (4096 * width v + 4096) s) = rw length-drop (omega arith) in
       rw (times-done (width v) 4096 s (omega arith), bytes-done 4096 (drop (4096 * width v) s) one, drop-drop 4096 (4096 * width v) s, bytes-done 4096 (drop (4096 * width v + 4096) s) two)
 
   pub params-short : length s < 4096 * width v → params v .read s ≡ refused fault.Ends (length s / width v * width v)
-  unfolding params along _⨾_
+  unfolding params iso _⨾_
   params-short h =
       let pos : 0 < width v = width-range v .0 in
       let k = length s / width v in
@@ -135,13 +135,13 @@ module _ (v : ℕ) (s : List ℕ) where
       rw (times-ends (width v) 4096 (length s / width v) s few there next)
 
   cut-one : 4096 * width v ≤ length s → length s < 4096 * width v + 4096 → params v .read s ≡ refused fault.Ends (length s)
-  unfolding params along _⨾_
+  unfolding params iso _⨾_
   cut-one g h =
       let short : length (drop (4096 * width v) s) < 4096 = rw length-drop (omega arith) in
       rw (times-done (width v) 4096 s g, bytes-end 4096 (drop (4096 * width v) s) short, length-drop) (ap (refused fault.Ends) (omega arith))
 
   cut-two : 4096 * width v + 4096 ≤ length s → length s < 4096 * width v + 8192 → params v .read s ≡ refused fault.Ends (length s)
-  unfolding params along _⨾_
+  unfolding params iso _⨾_
   cut-two g h =
       let one : 4096 ≤ length (drop (4096 * width v) s) = rw length-drop (omega arith) in
       let short : length (drop (4096 * width v + 4096) s) < 4096 = rw length-drop (omega arith) in
@@ -160,8 +160,8 @@ module _ (v : ℕ) (s : List ℕ) where
     where
       go : (b : Bool) → leb (4096 * width v + 8192) (length s) ≡ b → (d : Bool) → leb (4096 * width v) (length s) ≡ d → (n ≡ 4096 * width v + 8192) × (nd ≡ listsOf (width v) s)
       go true e d f = let k = params-done (leb-true _ _ e) in ((cc), (cc))
-      go false e true f = never (sym (params-cut (leb-true _ _ f) (leb-false _ _ e)) ∙ h)
-      go false e false f = never (sym (params-short (leb-false _ _ f)) ∙ h)
+      go false e true f = not-done (sym (params-cut (leb-true _ _ f) (leb-false _ _ e)) ∙ h)
+      go false e false f = not-done (sym (params-short (leb-false _ _ f)) ∙ h)
 
 pub nodes-done : (v : ℕ) (s : List ℕ) {nd : Nodes} {n : ℕ} → nodes v .read s ≡ done nd n
     → (n ≡ 2 + (4096 * width v + 8192)) × (n ≤ length s) × (nd ≡ listsOf (width v) (drop 2 s))
@@ -183,7 +183,7 @@ module _ (v : ℕ) (s : List ℕ) where
   nodes-other h n = fixed-other fault.Ends 1 (width v) fault.ContentWidth (fixed 1 2 fault.ParamsWidth (params v)) s h n
 
   module _ {x : ℕ} (h : u8 {ends = fault.Ends} .read s ≡ done x 1) (w : x ≡ width v) where
-    behind-width : nodes v .read s ≡ onward 1 (λ a. a) (fixed 1 2 fault.ParamsWidth (params v) .read (drop 1 s))
+    behind-width : nodes v .read s ≡ shift 1 (λ a. a) (fixed 1 2 fault.ParamsWidth (params v) .read (drop 1 s))
     unfolding nodes
     behind-width = fixed-on fault.Ends 1 (width v) fault.ContentWidth (fixed 1 2 fault.ParamsWidth (params v)) s (h ∙ ap (λ (y : ℕ). done y 1) w)
 
@@ -193,12 +193,12 @@ module _ (v : ℕ) (s : List ℕ) where
     pub nodes-other-2 : {y : ℕ} → u8 {ends = fault.Ends} .read (drop 1 s) ≡ done y 1 → (y ≡ 2 → ⊥) → nodes v .read s ≡ refused fault.ParamsWidth 1
     nodes-other-2 k n = behind-width ∙ rw (fixed-other fault.Ends 1 2 fault.ParamsWidth (params v) (drop 1 s) k n)
 
-    pub nodes-on : {y : ℕ} → u8 {ends = fault.Ends} .read (drop 1 s) ≡ done y 1 → y ≡ 2 → ended (nodes v .read s) ≡ onward 2 (λ a. a) (ended (params v .read (drop 2 s)))
+    pub nodes-on : {y : ℕ} → u8 {ends = fault.Ends} .read (drop 1 s) ≡ done y 1 → y ≡ 2 → ended (nodes v .read s) ≡ shift 2 (λ a. a) (ended (params v .read (drop 2 s)))
     nodes-on k e =
         rw (behind-width, fixed-on fault.Ends 1 2 fault.ParamsWidth (params v) (drop 1 s) (k ∙ ap (λ (y : ℕ). done y 1) e), drop-drop 1 1 s)
         (go (params v .read (drop 2 s)))
       where
-        go : (r : Read Fault Nodes) → ended (onward 1 (λ a. a) (onward 1 (λ a. a) r)) ≡ onward 2 (λ a. a) (ended r)
+        go : (r : Read Fault Nodes) → ended (shift 1 (λ a. a) (shift 1 (λ a. a) r)) ≡ shift 2 (λ a. a) (ended r)
         go (done a n) = ap (done tt) (omega arith)
         go (refused f p) = ap (refused f) (omega arith)
 
@@ -208,7 +208,7 @@ abbrev pub Filled : ℕ → ℕ → List ℕ → List ℕ → ℕ → Type 0
 Filled w n s d i = (take i d ≡ take i (entries w n s)) × (length d ≡ n)
 
 module _ (w n : ℕ) (s d : List ℕ) (i : ℕ) (f : Filled w n s d i) where
-  pub fill-on : (x : ℕ) → i < n → x ≡ spelt 0 (take w (drop (w * i) s)) → Filled w n s (set d i x) (i + 1)
+  pub fill-on : (x : ℕ) → i < n → x ≡ fromBE 0 (take w (drop (w * i) s)) → Filled w n s (set d i x) (i + 1)
   fill-on x k q =
       let long : i < length (entries w n s) = rw entries-length k in
       let room : i < length d = omega arith in
@@ -237,7 +237,7 @@ stored-part s d from to at p q h k =
     ap₂ (λ (i j : ℕ). stored 0 (take i (drop j s)) d) n p ∙ stored-whole (take 4096 (drop at s)) d size ∙ sym (entries-take 4096 (drop at s) long)
 
 -- ---- content ids
-two-below : (l : List ℕ) → Bytes l → spelt 0 (take 2 l) < 65536
+two-below : (l : List ℕ) → Bytes l → fromBE 0 (take 2 l) < 65536
 two-below [] b = omega arith
 two-below (x ∷ []) b = omega (arith, b 0)
 two-below (x ∷ y ∷ l) b = omega (arith, b 0, b 1)
@@ -281,8 +281,8 @@ module _ (b : Block) (v : ℕ) (s : List ℕ) (e : b .head .version ≡ v) (h : 
 
   -- and a table of its names
   module _ (free : ℕ → Bool) (t : List ℕ) (d : Tabled 65536 (unmapped free (b .names)) t) (y : Bytes s) where
-    pub stray-same : stray free b ≡ strayIn v s t
-    stray-same = first-same _ (bareIn v s t) 4096 0 (λ i _ k. ap (unmapped free (b .names)) (id-same i k) ∙ d .tells (idIn v s i) (id-below v s i y))
+    pub firstUnmapped-same : firstUnmapped free b ≡ firstUnmappedIn v s t
+    firstUnmapped-same = first-same _ (unmarkedIn v s t) 4096 0 (λ i _ k. ap (unmapped free (b .names)) (id-same i k) ∙ d .tells (idIn v s i) (id-below v s i y))
 
 -- an index below 4,096, in bytes that hold the lists
 pub id-there : (v : ℕ) (s : List ℕ) (i : ℕ) → i < 4096 → 4096 * width v + 8192 ≤ length s → idOf v s i ≡ idIn v s i

@@ -10,15 +10,15 @@ use lib.Seq.{drop-drop}
 use borrow.Author.Tests.{le-leb, lt-leb}
 use Rattle.wire.specs.Bytes.{Bytes, bytes-drop}
 use Rattle.wire.specs.Read.{Read, done, refused, mapRead, reach, map-done, map-refused}
-use Rattle.wire.specs.Format.{such, nothing, _⨾_, along, ends-in}
+use Rattle.wire.specs.Format.{refine, nothing, _⨾_, iso, ends-in}
 use Rattle.mapblock.specs.Inventory.{Form}
 use Rattle.wire.specs.Walk.{rowsRead}
-use Rattle.mapblock.specs.Data.{Opening, Saved, Nodes, unsaved}
-use Rattle.mapblock.specs.Layout.{isVersion, unused, width, opening, saved, nodes, front}
+use Rattle.mapblock.specs.Data.{Opening, NameMapping, Nodes, noMapping}
+use Rattle.mapblock.specs.Layout.{isVersion, unused, width, opening, nameMapping, nodes, front}
 use Rattle.mapblock.specs.Params.{listsOf}
 use Rattle.mapblock.specs.Scan.{openingOn, openingIs, FrontIs, FrontTold}
-use Rattle.mapblock.specs.Table.{freeIn, unmarked, frontRows, NamesMarked, SavedMarked}
-use Rattle.mapblock.specs.Told.{ended, shownSaved}
+use Rattle.mapblock.specs.Table.{freeIn, unmarked, frontRows, NamesMarked, NameMappingMarked}
+use Rattle.mapblock.specs.Told.{ended, shownMapping}
 use Rattle.mapblock.specs.declared.fault.Fault.{Fault}
 use Rattle.mapblock.specs.declared.fault.Fault.the-variants as fault
 use Rattle.mapblock.specs.declared.scan.OpeningFields.{OpeningFields}
@@ -26,39 +26,39 @@ use Rattle.mapblock.specs.declared.scan.FrontRead.the-variants as fronts
 use Rattle.mapblock.proofs.Leaves.{told-in}
 use Rattle.mapblock.proofs.Readings.{num, ended-done, ended-refused, within-ended}
 use Rattle.mapblock.proofs.Entries.{nodes-done}
-use Rattle.mapblock.proofs.ListLengths.{num-length, saved-length, saved-rows, saved-front}
+use Rattle.mapblock.proofs.ListLengths.{num-length, name-mapping-length, name-mapping-rows, name-mapping-front}
 
 -- ---- step 1
 module _ (s : List ℕ) where
   pub opening-ends : {e : Fault} {p : ℕ} → num 1 .read s ≡ refused e p → opening .read s ≡ refused e p
-  unfolding opening along _⨾_ such
+  unfolding opening iso _⨾_ refine
   opening-ends h = rw h
 
   module _ {v : ℕ} (h : num 1 .read s ≡ done v 1) where
     pub opening-other : isVersion v ≡ false → opening .read s ≡ refused fault.Version 0
-    unfolding opening along _⨾_ such
+    unfolding opening iso _⨾_ refine
     opening-other l = rw (h, l)
 
     module _ (a : isVersion v ≡ true) where
       pub opening-no-flags : {e : Fault} {p : ℕ} → num 1 .read (drop 1 s) ≡ refused e p → opening .read s ≡ refused e (1 + p)
-      unfolding opening along _⨾_ such
+      unfolding opening iso _⨾_ refine
       opening-no-flags k = rw (h, a, k)
 
       module _ {flags : ℕ} (k : num 1 .read (drop 1 s) ≡ done flags 1) where
         pub opening-unlit : v < 27 → opening .read s ≡ done (openingOn v flags 65535) 2
-        unfolding opening along _⨾_ such nothing
+        unfolding opening iso _⨾_ refine nothing
         opening-unlit l = rw (h, a, k, lt-leb 27 v l)
 
         pub opening-no-light : {e : Fault} {p : ℕ} → 27 ≤ v → num 2 .read (drop 2 s) ≡ refused e p → opening .read s ≡ refused e (1 + (1 + p))
-        unfolding opening along _⨾_ such
+        unfolding opening iso _⨾_ refine
         opening-no-light l g = rw (h, a, k, le-leb 27 v l, drop-drop 1 1 s, g)
 
         pub opening-lit : {x : ℕ} → 27 ≤ v → num 2 .read (drop 2 s) ≡ done x 2 → opening .read s ≡ done (openingOn v flags x) 4
-        unfolding opening along _⨾_ such
+        unfolding opening iso _⨾_ refine
         opening-lit l g = rw (h, a, k, le-leb 27 v l, drop-drop 1 1 s, g)
 
 pub opening-length : (o : Opening) → 27 ≤ o .version → length (opening .encode o) ≡ 4
-unfolding opening along _⨾_ such
+unfolding opening iso _⨾_ refine
 opening-length o l = rw (le-leb 27 (o .version) l, length-append, length-append, num-length 1 (o .version), num-length 1 (o .flags), num-length 2 (o .lighting))
 
 -- what was told of bytes behind the opening lies in the list
@@ -81,16 +81,16 @@ module _ (free : ℕ → Bool) (s : List ℕ) where
       unfolding front _⨾_ nothing
       plain-refused k = rw (h, lt-leb 29 (o .version) l, k, zero-add)
 
-      plain-done : {nd : Nodes} {n : ℕ} → nodes (o .version) .read (drop at s) ≡ done nd n → front free .read s ≡ done (o, (unsaved, nd)) (at + n)
+      plain-done : {nd : Nodes} {n : ℕ} → nodes (o .version) .read (drop at s) ≡ done nd n → front free .read s ≡ done (o, (noMapping, nd)) (at + n)
       unfolding front _⨾_ nothing
       plain-done k = rw (h, lt-leb 29 (o .version) l, k, zero-add)
 
     module _ (l : 29 ≤ o .version) where
-      named-refused : {e : Fault} {p : ℕ} → saved free .read (drop at s) ≡ refused e p → front free .read s ≡ refused e (at + p)
+      named-refused : {e : Fault} {p : ℕ} → nameMapping free .read (drop at s) ≡ refused e p → front free .read s ≡ refused e (at + p)
       unfolding front _⨾_
       named-refused k = rw (h, le-leb 29 (o .version) l, k)
 
-      module _ {sv : Saved} {n : ℕ} (k : saved free .read (drop at s) ≡ done sv n) where
+      module _ {sv : NameMapping} {n : ℕ} (k : nameMapping free .read (drop at s) ≡ done sv n) where
         named-stopped : {e : Fault} {p : ℕ} → nodes (o .version) .read (drop (at + n) s) ≡ refused e p → front free .read s ≡ refused e (at + n + p)
         unfolding front _⨾_
         named-stopped g = rw (h, le-leb 29 (o .version) l, k, drop-drop n at s, g, add-assoc)
@@ -111,7 +111,7 @@ module _ (t s : List ℕ) {o : OpeningFields} {at : ℕ} (h : opening .read s �
       let x = ended-done (nodes (o .version) .read (drop at s)) k in
       let y = nodes-done (o .version) (drop at s) (x .1) in
       record {
-        x = (openingIs o, (unsaved, x .0));
+        x = (openingIs o, (noMapping, x .0));
         reads = plain-done (freeIn t) s h l (x .1);
         opened = refl;
         time = refl;
@@ -128,23 +128,23 @@ module _ (t s : List ℕ) {o : OpeningFields} {at : ℕ} (h : opening .read s �
 pub record NamesRead (t u s : List ℕ) (o : OpeningFields) (at time count n : ℕ) : Type 0 where
   pub opens : opening .read s ≡ done (openingIs o) at
   pub new : 29 ≤ o .version
-  pub sv : Saved
-  pub reads : saved (freeIn t) .read (drop at s) ≡ done sv n
+  pub sv : NameMapping
+  pub reads : nameMapping (freeIn t) .read (drop at s) ≡ done sv n
   pub times : sv .timestamp ≡ time
   pub counts : length (sv .names) ≡ count
   pub marked : NamesMarked t u (sv .names)
   pub rows : frontRows count (drop (at + 7) s) ≡ sv .names
 
 module _ (t u s : List ℕ) {o : OpeningFields} {at : ℕ} (h : opening .read s ≡ done (openingIs o) at) (l : 29 ≤ o .version)
-    (m : SavedMarked t u (saved (freeIn t) .read (drop at s))) where
-  pub names-stop : {e : Fault} {p : ℕ} → refused e p ≡ mapRead shownSaved (saved (freeIn t) .read (drop at s)) → FrontTold t u s (fronts.Refused e (at + p))
+    (m : NameMappingMarked t u (nameMapping (freeIn t) .read (drop at s))) where
+  pub names-stop : {e : Fault} {p : ℕ} → refused e p ≡ mapRead shownMapping (nameMapping (freeIn t) .read (drop at s)) → FrontTold t u s (fronts.Refused e (at + p))
   names-stop {e} {p} k =
-      let x = map-refused shownSaved (saved (freeIn t) .read (drop at s)) e p (sym k) in
+      let x = map-refused shownMapping (nameMapping (freeIn t) .read (drop at s)) e p (sym k) in
       (named-refused (freeIn t) s h l x, rw x at m)
 
-  pub names-read : {time count n : ℕ} → done (time, count) n ≡ mapRead shownSaved (saved (freeIn t) .read (drop at s)) → NamesRead t u s o at time count n
+  pub names-read : {time count n : ℕ} → done (time, count) n ≡ mapRead shownMapping (nameMapping (freeIn t) .read (drop at s)) → NamesRead t u s o at time count n
   names-read {time} {count} {n} k =
-      let x = map-done shownSaved (saved (freeIn t) .read (drop at s)) (time, count) n (sym k) in
+      let x = map-done shownMapping (nameMapping (freeIn t) .read (drop at s)) (time, count) n (sym k) in
       let c : length (x .0 .names) ≡ count = ap (λ (y : ℕ × ℕ). y .1) (x .2) in
       record {
         opens = h;
@@ -154,16 +154,16 @@ module _ (t u s : List ℕ) {o : OpeningFields} {at : ℕ} (h : opening .read s 
         times = ap (λ (y : ℕ × ℕ). y .0) (x .2);
         counts = c;
         marked = rw (x .1) at m;
-        rows = ap₂ frontRows (sym c) (sym (drop-drop 7 at s)) ∙ saved-front (freeIn t) (drop at s) (x .1);
+        rows = ap₂ frontRows (sym c) (sym (drop-drop 7 at s)) ∙ name-mapping-front (freeIn t) (drop at s) (x .1);
       }
 
 module _ {t u s : List ℕ} {o : OpeningFields} {at time count n : ℕ} (w : NamesRead t u s o at time count n) where
   -- the names end in the list, and so do seven bytes, behind which their rows stand
   pub names-in : at + n ≤ length s
-  names-in = omega (arith, ends-in opening (w .opens), ends-in (saved (freeIn t)) (w .reads), length-drop at s)
+  names-in = omega (arith, ends-in opening (w .opens), ends-in (nameMapping (freeIn t)) (w .reads), length-drop at s)
 
   pub rows-in : at + 7 ≤ length s
-  rows-in = omega (arith, names-in, saved-rows (freeIn t) (drop at s) (w .reads) .2)
+  rows-in = omega (arith, names-in, name-mapping-rows (freeIn t) (drop at s) (w .reads) .2)
 
   abbrev pub nodesThere : Read Fault (Unit {0})
   nodesThere = ended (nodes (o .version) .read (drop (at + n) s))
@@ -191,7 +191,7 @@ module _ {t u s : List ℕ} {o : OpeningFields} {at time count n : ℕ} (w : Nam
         opened = refl;
         time = w .times;
         count = w .counts;
-        at = rw (le-leb 29 (o .version) (w .new)) (omega (arith, saved-length (freeIn t) (drop at s) (w .reads) (bytes-drop at s b)));
+        at = rw (le-leb 29 (o .version) (w .new)) (omega (arith, name-mapping-length (freeIn t) (drop at s) (w .reads) (bytes-drop at s b)));
         nodes = y .2 ∙ ap (listsOf (width (o .version))) (drop-drop 2 (at + n) s);
         ends = omega (arith, y .0);
         marked = w .marked;

@@ -10,8 +10,8 @@ use lib.IntN.{ℤ, pos, negsuc}
 use lib.Signed.{leZ-yes}
 use lib.ListN.{length}
 use borrow.Author.Tests.{le-leb, lt-leb, leb-true, leb-false, eq-eqb}
-use Rattle.wire.specs.Format.{nothing, such, _⨾_, along}
-use Rattle.wire.specs.Formats.{number, u8, u16, signed, s32, behind, fixed, counted, listed, only}
+use Rattle.wire.specs.Format.{nothing, refine, _⨾_, iso}
+use Rattle.wire.specs.Formats.{number, u8, u16, signed, s32, behind, fixed, prefixed, listed, only}
 use Rattle.mapblock.specs.Inventory.{Form, inventory}
 use Rattle.mapblock.specs.Data.{NameRow, Variable, MetadataRow, ObjectRow, TimerRow}
 use Rattle.mapblock.specs.Layout.{since, before, all, unused, unmapped, newPosition, nameRow, variable, metadataRow, objectRow, timerRow}
@@ -46,34 +46,34 @@ module _ {A : Type 0} (f : Form A) (a₀ a : A) (n v : ℕ) where
 -- ---- fields
 -- one that is fixed asks nothing of the value
 pub fixed-ok : {A : Type 0} (k n : ℕ) (e : Fault) (f : Form A) (a : A) → n < 256 ^ k → fixed k n e f .Ok a ↔ f .Ok a
-unfolding behind along such number
+unfolding behind iso refine number
 fixed-ok k n e f a h = ((λ x. x .1), λ x. ((h, eq-eqb n n refl), x))
 
 s32-ok : (z : ℤ) → s32 {ends = fault.Ends} .Ok z ↔ S32 z
-unfolding signed along
+unfolding signed iso
 s32-ok (pos n) = ((λ h. (leZ-yes tt, leZ-yes (le→leb n 2147483647 (omega arith)))), λ h. let k = leb→le n 2147483647 (h .1 .le) in omega arith)
 s32-ok (negsuc n) = ((λ h. (leZ-yes (le→leb n 2147483647 (omega arith)), leZ-yes tt)), λ h. let k = leb→le n 2147483647 (h .0 .le) in omega arith)
 
 position-ok : {A : Type 0} (key : A → ℕ) (seen : List A) (p : ℕ) → newPosition key seen .Ok p ↔ ((p ≤ 4095) × (unused key all seen p ≡ true))
-unfolding such number along
+unfolding refine number iso
 position-ok key seen p = ((λ h. (leb-true p 4095 (h .0 .1), h .1)), λ h. ((let k = h .0 in omega arith, le-leb p 4095 (h .0)), h .1))
 
 -- ---- rows
 pub name-ok : (seen : List NameRow) (r : NameRow) → nameRow all seen .Ok r ↔ (NameGood r × (unmapped all seen (r .id) ≡ true))
-unfolding nameRow along _⨾_ such number counted
+unfolding nameRow iso _⨾_ refine number prefixed
 name-ok seen r = ((λ h. (record { id = h .0 .0; name = h .1 }, h .0 .1)), λ h. ((h .0 .id, h .1), h .0 .name))
 
 module _ (v : ℕ) (r : Variable) where
-  private-ok : only {ends = fault.Ends} (since 28 v) 0 (such (λ b. leb b 1) fault.PrivateByte u8) .Ok (r .hidden) ↔ ((r .hidden ≤ 1) × (v < 28 → r .hidden ≡ 0))
-  unfolding such number along
+  private-ok : only {ends = fault.Ends} (since 28 v) 0 (refine (λ b. leb b 1) fault.PrivateByte u8) .Ok (r .hidden) ↔ ((r .hidden ≤ 1) × (v < 28 → r .hidden ≡ 0))
+  unfolding refine number iso
   private-ok =
-      let x = since-ok (such (λ b. leb b 1) fault.PrivateByte u8) 0 (r .hidden) 28 v in (
+      let x = since-ok (refine (λ b. leb b 1) fault.PrivateByte u8) 0 (r .hidden) 28 v in (
         (λ h. let y = x .0 h in (either 28 v (λ k. leb-true (r .hidden) 1 (y .0 k .1)) (λ k. let z = y .1 k in omega arith), y .1)),
         (λ h. x .1 ((λ _. (let z = h .0 in omega arith, le-leb (r .hidden) 1 (h .0))), h .1)),
       )
 
   variable-ok : variable v .Ok r ↔ VariableGood v r
-  unfolding variable along _⨾_ counted
+  unfolding variable iso _⨾_ prefixed
   variable-ok = (
     (λ h. let x = private-ok .0 (h .1 .1) in record { key = h .0; value = h .1 .0; hidden = x .0; hidden-before-28 = x .1 }),
     (λ g. (g .key, (g .value, private-ok .1 (g .hidden, g .hidden-before-28)))),
@@ -87,12 +87,12 @@ module _ (v : ℕ) (seen : List MetadataRow) (r : MetadataRow) where
   place-ok = position-ok (λ (r : MetadataRow). r .position) seen (r .position)
 
   kind-ok : only {ends = fault.Ends} (before 23 v) 0 u16 .Ok (r .kind) ↔ ((v < 23 → U16 (r .kind)) × (23 ≤ v → r .kind ≡ 0))
-  unfolding number along
+  unfolding number iso
   kind-ok = before-ok u16 0 (r .kind) 23 v
 
-  content-ok : only {ends = fault.Ends} (before 23 v) [] (counted 2) .Ok (r .content) ↔ ((v < 23 → Run16 (r .content)) × (23 ≤ v → r .content ≡ []))
-  unfolding counted along
-  content-ok = before-ok (counted 2) [] (r .content) 23 v
+  content-ok : only {ends = fault.Ends} (before 23 v) [] (prefixed 2) .Ok (r .content) ↔ ((v < 23 → Run16 (r .content)) × (23 ≤ v → r .content ≡ []))
+  unfolding prefixed iso
+  content-ok = before-ok (prefixed 2) [] (r .content) 23 v
 
   variables-ok : only (since 23 v) [] (listed 4 λ _. variable v) .Ok (r .variables)
       ↔ ((23 ≤ v → listed 4 (λ _. variable v) .Ok (r .variables)) × (v < 23 → r .variables ≡ []))
@@ -102,7 +102,7 @@ module _ (v : ℕ) (seen : List MetadataRow) (r : MetadataRow) where
   inventory-ok = since-ok inventory [] (r .inventory) 23 v
 
   pub metadata-row-ok : metadataRow v seen .Ok r ↔ (MetadataGood v r × New)
-  unfolding metadataRow along _⨾_ inventory
+  unfolding metadataRow iso _⨾_ inventory
   metadata-row-ok = (there, λ h. back (h .0) (h .1))
     where
       list : listed 4 (λ _. variable v) .Ok (r .variables) ↔ ((length (r .variables) < 256 ^ 4) × Each (VariableGood v) (r .variables))
@@ -138,7 +138,7 @@ module _ (v : ℕ) (seen : List MetadataRow) (r : MetadataRow) where
           (place-ok .1 (g .position, n), (t, (c, (l, i))))
 
 pub object-ok : (r : ObjectRow) → objectRow .Ok r ↔ ObjectGood r
-unfolding objectRow along _⨾_ number counted
+unfolding objectRow iso _⨾_ number prefixed
 object-ok r =
     let x = s32-ok (r .x) in
     let y = s32-ok (r .y) in
@@ -148,7 +148,7 @@ object-ok r =
     )
 
 pub timer-ok : (seen : List TimerRow) (r : TimerRow) → timerRow seen .Ok r ↔ (TimerGood r × (unused (λ (r : TimerRow). r .position) all seen (r .position) ≡ true))
-unfolding timerRow along _⨾_
+unfolding timerRow iso _⨾_
 timer-ok seen r =
     let p = position-ok (λ (r : TimerRow). r .position) seen (r .position) in
     let t = s32-ok (r .timeout) in

@@ -8,7 +8,7 @@ use lib.Dec.{eqb}
 use lib.ListN.{length}
 use borrow.Author.Tests.{eq-eqb, eqb-true}
 use Rattle.wire.specs.Choice.{no-true, no-false}
-use Rattle.wire.specs.Format.{along, items, OkItems}
+use Rattle.wire.specs.Format.{iso, items, OkItems}
 use Rattle.wire.specs.Formats.{listed}
 use Rattle.mapblock.specs.Inventory.{Form}
 use Rattle.mapblock.specs.Layout.{all, unused}
@@ -59,7 +59,7 @@ module _ {A : Type 0} (Good : A → Type 0) (f : Form A) (row : (a : A) → f .O
 
   -- with a count of k bytes
   pub each-ok : (k : ℕ) (l : List A) → listed k (λ _. f) .Ok l ↔ ((length l < 256 ^ k) × Each Good l)
-  unfolding listed along items
+  unfolding listed iso items
   each-ok k l = ((λ h. (h .0, each-there (length l) [] l (h .1))), λ h. (h .0, each-back [] l (h .1)))
 
 -- ---- rows whose number none before them has
@@ -95,7 +95,7 @@ module _ {A : Type 0} (key : A → ℕ) (Good : A → Type 0) (item : List A →
       go n p (inr q) = h n (inr p) q
 
   pub rows-ok : (l : List A) → listed 2 item .Ok l ↔ (Rows Good l × Distinct key l)
-  unfolding listed along items Apart
+  unfolding listed iso items Apart
   rows-ok l = (
     (λ h. let x = rows-there (length l) [] l (h .1) in (record { count = h .0; each = x .0 }, x .1)),
     (λ h. (h .0 .count, rows-back [] l (h .0 .each) (h .1) (λ n p q. q))),

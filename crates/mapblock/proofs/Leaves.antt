@@ -6,27 +6,27 @@ use native.Mathlib.Omega.{arith}
 use lib.IntN.{ℤ}
 use lib.ListN.{length, take, drop, length-drop}
 use lib.Seq.{length-take-le}
-use Rattle.wire.specs.Read.{Read, done, reach, blaming, mapRead, reach-map}
+use Rattle.wire.specs.Read.{Read, done, reach, withFault, mapRead, reach-map}
 use Rattle.wire.specs.Format.{ends-in}
-use Rattle.wire.specs.Formats.{number, signed, counted}
+use Rattle.wire.specs.Formats.{number, signed, prefixed}
 use Rattle.wire.specs.Told.{Short, short}
-use Rattle.wire.proofs.Steps.{number-told, signed-told, counted-told}
+use Rattle.wire.proofs.Steps.{number-told, signed-told, prefixed-told}
 use Rattle.mapblock.specs.Inventory.{Form}
 use Rattle.mapblock.specs.declared.fault.Fault.{Fault}
 use Rattle.mapblock.specs.declared.fault.Fault.the-variants as fault
 
 module _ {R : Type 0} {x y : R} where
   pub by-number : (k : ℕ) (s : List ℕ) (told : R → Read Short ℕ) → told x ≡ number {ends = short} k .read s → x ≡ y
-      → number {ends = fault.Ends} k .read s ≡ blaming fault.Ends (told y)
+      → number {ends = fault.Ends} k .read s ≡ withFault fault.Ends (told y)
   by-number k s told e g = number-told fault.Ends k s (sym (ap told g) ∙ e)
 
   pub by-signed : (k half : ℕ) (h : 256 ^ k ≡ half + half) (s : List ℕ) (told : R → Read Short ℤ) → told x ≡ signed {ends = short} k half h .read s → x ≡ y
-      → signed {ends = fault.Ends} k half h .read s ≡ blaming fault.Ends (told y)
+      → signed {ends = fault.Ends} k half h .read s ≡ withFault fault.Ends (told y)
   by-signed k half h s told e g = signed-told fault.Ends k half h s (sym (ap told g) ∙ e)
 
-  pub by-counted : (k : ℕ) (s : List ℕ) (told : R → Read Short (List ℕ)) → told x ≡ counted {ends = short} k .read s → x ≡ y
-      → counted {ends = fault.Ends} k .read s ≡ blaming fault.Ends (told y)
-  by-counted k s told e g = counted-told fault.Ends k s (sym (ap told g) ∙ e)
+  pub by-counted : (k : ℕ) (s : List ℕ) (told : R → Read Short (List ℕ)) → told x ≡ prefixed {ends = short} k .read s → x ≡ y
+      → prefixed {ends = fault.Ends} k .read s ≡ withFault fault.Ends (told y)
+  by-counted k s told e g = prefixed-told fault.Ends k s (sym (ap told g) ∙ e)
 
 -- what was told of a reading lies in the list
 pub told-in : {A B : Type 0} (to : A → B) (f : Form A) (s : List ℕ) {r : Read Fault B} → r ≡ mapRead to (f .read s) → reach r ≤ length s
@@ -43,5 +43,5 @@ pub read-behind : {A : Type 0} (f : Form A) (n : ℕ) (s : List ℕ) {a : A} {m 
 read-behind f n s h k = omega (arith, ends-in f h, length-drop n s)
 
 -- a run that was told has its length
-pub run-length : (k n : ℕ) (s : List ℕ) → counted {ends = fault.Ends} k .read s ≡ done (take n (drop k s)) (k + n) → length (take n (drop k s)) ≡ n
-run-length k n s h = length-take-le n (drop k s) (omega (arith, ends-in (counted k) h, length-drop k s))
+pub run-length : (k n : ℕ) (s : List ℕ) → prefixed {ends = fault.Ends} k .read s ≡ done (take n (drop k s)) (k + n) → length (take n (drop k s)) ≡ n
+run-length k n s h = length-take-le n (drop k s) (omega (arith, ends-in (prefixed k) h, length-drop k s))

@@ -7,21 +7,21 @@ pub mod EndLines
 pub mod Firsts
 pub mod Entries
 pub mod Bounds
-pub mod Strays
+pub mod FirstUnmapped
 pub mod Zeros
 pub mod Positioned
 pub mod NameRows
 pub mod NameLoop
 pub mod ListLengths
-pub mod SavedLists
+pub mod NameMappings
 pub mod MetadataRows
 pub mod OtherRows
 pub mod RowLists
 -- The scan.
 pub mod Fronts
 pub mod Verdicts
-pub mod Uptos
-pub mod SoFar
+pub mod ReadUpTo
+pub mod WithoutLateTimers
 pub mod Endings
 pub mod Rests
 -- Well formed, and taken.
@@ -38,4 +38,4 @@ pub mod Walk
 pub mod RowsAlone
 pub mod BlockAnswers
 pub mod NodeNames
-pub mod AskedParts
+pub mod AskedRanges

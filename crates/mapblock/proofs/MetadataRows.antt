@@ -10,19 +10,20 @@ use lib.IntN.{ℤ}
 use lib.ListN.{length, take, drop, length-drop}
 use lib.Seq.{drop-drop, length-take-le}
 use borrow.Author.Tests.{le-leb, lt-leb}
-use Rattle.wire.specs.Bytes.{Bytes, bytes-drop, spelt}
-use Rattle.wire.specs.Read.{Read, done, refused, bind, mapRead, onward, bind-done, map-done, onward-done, cond-done}
-use Rattle.wire.specs.Format.{run, nothing, such, _⨾_, next, pair, along, items, encodeItems, items-length}
-use Rattle.wire.specs.Formats.{_▹_, number, u8, u16, s32, counted, listed, times, only, into, Shape}
+use Rattle.wire.specs.Bytes.{Bytes, bytes-drop, fromBE}
+use Rattle.wire.specs.Read.{Read, done, refused, bind, mapRead, shift, bind-done, map-done, shift-done, cond-done}
+use Rattle.wire.specs.Format.{run, nothing, refine, _⨾_, next, pair, iso, items, encodeItems, items-length}
+use Rattle.wire.specs.Formats.{_▹_, number, u8, u16, s32, prefixed, listed, times, only, into, Shape}
 use Rattle.mapblock.specs.Inventory.{Form, inventory}
-use Rattle.mapblock.specs.Data.{Variable, MetadataRow, TimerRow, metadataParts, timerParts}
+use Rattle.mapblock.specs.Data.{Variable, MetadataRow, TimerRow, metadataShape, timerShape}
 use Rattle.mapblock.specs.Layout.{since, all, unused, position, newPosition, variable, metadataRow, timerRow}
-use Rattle.mapblock.specs.Rows.{part, nowhere, metadataFields}
+use Rattle.wire.specs.Ranges.{rangeAt, noRange}
+use Rattle.mapblock.specs.Rows.{metadataFields}
 use Rattle.mapblock.specs.Told.{ended}
 use Rattle.mapblock.specs.declared.metadata.MetadataFields.{MetadataFields}
 use Rattle.mapblock.specs.declared.fault.Fault.{Fault}
 use Rattle.mapblock.specs.declared.fault.Fault.the-variants as fault
-use Rattle.wire.proofs.Joints.{such-done, then-refused, then-done, listed-refused, listed-done}
+use Rattle.wire.proofs.Joints.{refine-done, then-refused, then-done, listed-refused, listed-done}
 use Rattle.mapblock.proofs.Readings.{num, text, within, ended-done, ended-refused, ended-map, behind, ended-third}
 
 -- ---- one variable
@@ -30,7 +31,7 @@ abbrev pub keyAndValue : Form (List ℕ × List ℕ)
 keyAndValue = text 2 ▹ text 4
 
 abbrev hidden : ℕ → Form ℕ
-hidden v = only (since 28 v) 0 (such (λ b. leb b 1) fault.PrivateByte u8)
+hidden v = only (since 28 v) 0 (refine (λ b. leb b 1) fault.PrivateByte u8)
 
 module _ (s : List ℕ) where
   pub key-ends : {e : Fault} {p : ℕ} → text 2 .read s ≡ refused e p → refused e p ≡ ended (keyAndValue .read s)
@@ -49,7 +50,7 @@ module _ (s : List ℕ) where
 
 module _ (v : ℕ) (s : List ℕ) where
   variable-by : {r : Read Fault (Unit {0})} → r ≡ ended (keyAndValue .read s) → ended (variable v .read s) ≡ bind r (behind (hidden v) s)
-  unfolding variable along
+  unfolding variable iso
   variable-by {r} h = rw (ended-map, h) (ended-third (text 2) (text 4) (hidden v) s)
 
   pub variable-refused : {r : Read Fault (Unit {0})} {e : Fault} {p : ℕ} → r ≡ ended (keyAndValue .read s) → r ≡ refused e p → r ≡ ended (variable v .read s)
@@ -62,15 +63,15 @@ module _ (v : ℕ) (s : List ℕ) where
 
     module _ (k : 28 ≤ v) where
       pub private-ends : num 1 .read (drop n s) ≡ refused fault.Ends 0 → refused fault.Ends n ≡ ended (variable v .read s)
-      unfolding such
+      unfolding refine
       private-ends g = sym (variable-by h ∙ rw (le-leb 28 v k, g, add-zero))
 
       pub private-other : {b : ℕ} → num 1 .read (drop n s) ≡ done b 1 → 1 < b → refused fault.PrivateByte n ≡ ended (variable v .read s)
-      unfolding such
+      unfolding refine
       private-other {b} g o = sym (variable-by h ∙ rw (le-leb 28 v k, g, lt-leb b 1 o, add-zero))
 
       pub private-done : {b : ℕ} → num 1 .read (drop n s) ≡ done b 1 → b ≤ 1 → done tt (n + 1) ≡ ended (variable v .read s)
-      unfolding such
+      unfolding refine
       private-done {b} g o = sym (variable-by h ∙ rw (le-leb 28 v k, g, le-leb b 1 o))
 
 -- ---- rows that begin with a number that is tested
@@ -78,39 +79,39 @@ first-done : {A C : Type 0} (f : Form A) (g : Form C) (s : List ℕ) (x : A × C
 unfolding _⨾_
 first-done {A} {C} f g s x {n} h =
     let y = bind-done (f .read s) (next (λ _. g) s) x n h in
-    let z = onward-done (y .1) (pair (y .0)) (g .read (drop (y .1) s)) x n (y .3) in
+    let z = shift-done (y .1) (pair (y .0)) (g .read (drop (y .1) s)) x n (y .3) in
     (y .1, y .2 ∙ ap (λ (a : A × C). done (a .0) (y .1)) (z .3))
 
 abbrev pub firstTested : {B C : Type 0} → Shape (ℕ × C) B → Fault → Form ℕ → Form C → (ℕ → Bool) → Form B
-firstTested shape e f g test = into shape (such test e f ▹ g)
+firstTested shape e f g test = into shape (refine test e f ▹ g)
 
 module _ {B C : Type 0} (shape : Shape (ℕ × C) B) (e : Fault) (f : Form ℕ) (g : Form C) (test : ℕ → Bool) (s : List ℕ) where
   pub first-passes : (other : ℕ → Bool) {p n : ℕ} → f .read s ≡ done p n → test p ≡ other p → firstTested shape e f g test .read s ≡ firstTested shape e f g other .read s
-  unfolding along _⨾_ such
+  unfolding iso _⨾_ refine
   first-passes other h t = rw (h, t)
 
-  pub first-read : {b : B} {n : ℕ} → firstTested shape e f g test .read s ≡ done b n → (m : ℕ) × (such test e f .read s ≡ done (shape .parts b .0) m)
-  unfolding along
+  pub first-read : {b : B} {n : ℕ} → firstTested shape e f g test .read s ≡ done b n → (m : ℕ) × (refine test e f .read s ≡ done (shape .parts b .0) m)
+  unfolding iso
   first-read {b} {n} h =
-      let x = map-done (shape .make) ((such test e f ▹ g) .read s) b n h in
-      let y = first-done (such test e f) g s (x .0) (x .1) in
+      let x = map-done (shape .make) ((refine test e f ▹ g) .read s) b n h in
+      let y = first-done (refine test e f) g s (x .0) (x .1) in
       (y .0, y .1 ∙ ap (λ (a : ℕ × C). done (a .0) (y .0)) (sym (shape .back (x .0)) ∙ ap (shape .parts) (x .2)))
 
 -- ---- positions of rows
 pub position-two : (s : List ℕ) {p n : ℕ} → position .read s ≡ done p n → n ≡ 2
-unfolding number along run
+unfolding number iso run
 position-two s {p} {n} h =
-    let x = map-done (spelt 0) (run {ends = fault.Ends} 2 .read s) p n (such-done (λ p. leb p 4095) fault.PositionAbove u16 s h) in
+    let x = map-done (fromBE 0) (run {ends = fault.Ends} 2 .read s) p n (refine-done (λ p. leb p 4095) fault.PositionAbove u16 s h) in
     let y = cond-done (leb 2 (length s)) (done (take 2 s) 2) fault.Ends 0 (x .0) n (x .1) in
     cc (y .1)
 
 -- a position that was read in a row
 placed-two : {B : Type 0} (key : B → ℕ) (seen : List B) (s : List ℕ) {p n : ℕ} → newPosition key seen .read s ≡ done p n → newPosition key seen .read s ≡ done p 2
-placed-two key seen s {p} {n} h = h ∙ ap (done p) (position-two s (such-done (unused key all seen) fault.PositionTwice position s h))
+placed-two key seen s {p} {n} h = h ∙ ap (done p) (position-two s (refine-done (unused key all seen) fault.PositionTwice position s h))
 
 -- a row's position, and what stands behind it
-abbrev pub nodeOf : MetadataRow → ℕ
-nodeOf r = r .position
+abbrev pub nodeNameOf : MetadataRow → ℕ
+nodeNameOf r = r .position
 
 abbrev pub timedOf : TimerRow → ℕ
 timedOf r = r .position
@@ -123,51 +124,51 @@ abbrev tailBy : Form ℕ → Form (List ℕ) → Form (List Variable) → Form (
 tailBy u c l i b = only (not b) 0 u ▹ only (not b) [] c ▹ only b [] l ▹ only b [] i
 
 abbrev metadataTail : ℕ → Bool → Form (ℕ × (List ℕ × (List Variable × List ℕ)))
-metadataTail v b = tailBy u16 (counted 2) (variableList v) inventory b
+metadataTail v b = tailBy u16 (prefixed 2) (variableList v) inventory b
 
 abbrev timerTail : Form (ℤ × ℤ)
 timerTail = s32 ▹ s32
 
 module _ (v : ℕ) (seen : List MetadataRow) (s : List ℕ) where
-  pub metadata-alone : {p n : ℕ} → position .read s ≡ done p n → unused nodeOf all seen p ≡ true → metadataRow v seen .read s ≡ metadataRow v [] .read s
+  pub metadata-alone : {p n : ℕ} → position .read s ≡ done p n → unused nodeNameOf all seen p ≡ true → metadataRow v seen .read s ≡ metadataRow v [] .read s
   unfolding metadataRow unused
-  metadata-alone h t = first-passes metadataParts fault.PositionTwice position (metadataTail v (since 23 v)) (unused nodeOf all seen) s all h t
+  metadata-alone h t = first-passes metadataShape fault.PositionTwice position (metadataTail v (since 23 v)) (unused nodeNameOf all seen) s all h t
 
-  pub metadata-position : {a : MetadataRow} {n : ℕ} → metadataRow v seen .read s ≡ done a n → newPosition nodeOf seen .read s ≡ done (a .position) 2
+  pub metadata-position : {a : MetadataRow} {n : ℕ} → metadataRow v seen .read s ≡ done a n → newPosition nodeNameOf seen .read s ≡ done (a .position) 2
   unfolding metadataRow
-  metadata-position h = placed-two nodeOf seen s (first-read metadataParts fault.PositionTwice position (metadataTail v (since 23 v)) (unused nodeOf all seen) s h .1)
+  metadata-position h = placed-two nodeNameOf seen s (first-read metadataShape fault.PositionTwice position (metadataTail v (since 23 v)) (unused nodeNameOf all seen) s h .1)
 
 module _ (seen : List TimerRow) (s : List ℕ) where
   pub timer-alone : {p n : ℕ} → position .read s ≡ done p n → unused timedOf all seen p ≡ true → timerRow seen .read s ≡ timerRow [] .read s
   unfolding timerRow unused
-  timer-alone h t = first-passes timerParts fault.PositionTwice position timerTail (unused timedOf all seen) s all h t
+  timer-alone h t = first-passes timerShape fault.PositionTwice position timerTail (unused timedOf all seen) s all h t
 
   pub timer-position : {a : TimerRow} {n : ℕ} → timerRow seen .read s ≡ done a n → newPosition timedOf seen .read s ≡ done (a .position) 2
   unfolding timerRow
-  timer-position h = placed-two timedOf seen s (first-read timerParts fault.PositionTwice position timerTail (unused timedOf all seen) s h .1)
+  timer-position h = placed-two timedOf seen s (first-read timerShape fault.PositionTwice position timerTail (unused timedOf all seen) s h .1)
 
 -- ---- the row at the front, judged alone
 abbrev told : ℕ → List ℕ → Read Fault MetadataFields
 told v s = mapRead (metadataFields v) (metadataRow v [] .read s)
 
 pub row-refused : (v : ℕ) (s : List ℕ) {e : Fault} → position .read s ≡ refused e 0 → refused e 0 ≡ told v s
-unfolding metadataRow along _⨾_ such unused
+unfolding metadataRow iso _⨾_ refine unused
 row-refused v s h = rw h
 
 module _ (v : ℕ) (s : List ℕ) {at : ℕ} (h : position .read s ≡ done at 2) where
   -- version 22
   module _ (k : v < 23) where
     pub kind-ends : num 2 .read (drop 2 s) ≡ refused fault.Ends 0 → refused fault.Ends 2 ≡ told v s
-    unfolding metadataRow along _⨾_ such unused
+    unfolding metadataRow iso _⨾_ refine unused
     kind-ends g = rw (h, lt-leb 23 v k, g)
 
     pub content-ends : {kind p : ℕ} → num 2 .read (drop 2 s) ≡ done kind 2 → text 2 .read (drop 4 s) ≡ refused fault.Ends p → refused fault.Ends (4 + p) ≡ told v s
-    unfolding metadataRow along _⨾_ such unused
+    unfolding metadataRow iso _⨾_ refine unused
     content-ends {p = p} g f = let z : 4 + p ≡ 2 + (2 + p) = omega arith in rw (h, lt-leb 23 v k, g, drop-drop 2 2 s, f) (ap (refused fault.Ends) z)
 
     pub content-done : {kind n : ℕ} → num 2 .read (drop 2 s) ≡ done kind 2 → text 2 .read (drop 4 s) ≡ done (take n (drop 2 (drop 4 s))) (2 + n)
-        → done record { position = at; kind = kind; content = part 6 n; variables = 0; rows = nowhere; inventory = nowhere } (6 + n) ≡ told v s
-    unfolding metadataRow along _⨾_ such unused nothing
+        → done record { position = at; kind = kind; content = rangeAt 6 n; variables = 0; rows = noRange; inventory = noRange } (6 + n) ≡ told v s
+    unfolding metadataRow iso _⨾_ refine unused nothing
     content-done {n = n} g f =
         let z : 6 + n ≡ 2 + (2 + (2 + n + (0 + 0))) = omega arith in
         let l : n ≤ length (drop 2 (drop 4 s)) = rw length-drop (omega (arith, within (text 2) (drop 4 s) f)) in
@@ -178,35 +179,35 @@ abbrev newRow : ℕ → List Variable × List ℕ → MetadataRow
 newRow at x = record { position = at; kind = 0; content = []; variables = x .0; inventory = x .1 }
 
 new-by : (p u : Form ℕ) (c : Form (List ℕ)) (l : Form (List Variable)) (i : Form (List ℕ)) (s : List ℕ) {at : ℕ} → p .read s ≡ done at 2
-    → into metadataParts (p ▹ tailBy u c l i true) .read s ≡ onward 2 (newRow at) ((l ▹ i) .read (drop 2 s))
-unfolding along _⨾_ nothing
+    → into metadataShape (p ▹ tailBy u c l i true) .read s ≡ shift 2 (newRow at) ((l ▹ i) .read (drop 2 s))
+unfolding iso _⨾_ nothing
 new-by p u c l i s {at} h = rw h (go ((l ▹ i) .read (drop 2 s)))
   where
-    go : (r : Read Fault (List Variable × List ℕ)) → mapRead (metadataParts .make) (onward 2 (pair at) (onward 0 (pair 0) (onward 0 (pair []) r))) ≡ onward 2 (newRow at) r
+    go : (r : Read Fault (List Variable × List ℕ)) → mapRead (metadataShape .make) (shift 2 (pair at) (shift 0 (pair 0) (shift 0 (pair []) r))) ≡ shift 2 (newRow at) r
     go (done x n) = simp zero-add
     go (refused e q) = simp zero-add
 
 fields-are : (v at : ℕ) (l : List Variable) (i : List ℕ) {count n m : ℕ} → 23 ≤ v → length l ≡ count → length (encodeItems (λ _. variable v) [] l) ≡ n → length i ≡ m
-    → metadataFields v (newRow at (pair l i)) ≡ record { position = at; kind = 0; content = nowhere; variables = count; rows = part 6 n; inventory = part (6 + n) m }
+    → metadataFields v (newRow at (pair l i)) ≡ record { position = at; kind = 0; content = noRange; variables = count; rows = rangeAt 6 n; inventory = rangeAt (6 + n) m }
 fields-are v at l i k a b c = rw (le-leb 23 v k, a, b, c)
 
 module _ (v : ℕ) (s : List ℕ) {at : ℕ} (h : position .read s ≡ done at 2) (k : 23 ≤ v) where
-  first-is : newPosition nodeOf [] .read s ≡ done at 2
-  unfolding such unused
+  first-is : newPosition nodeNameOf [] .read s ≡ done at 2
+  unfolding refine unused
   first-is = rw h
 
-  new-is : {r : Read Fault (List Variable × List ℕ)} → (variableList v ▹ inventory) .read (drop 2 s) ≡ r → mapRead (metadataFields v) (onward 2 (newRow at) r) ≡ told v s
+  new-is : {r : Read Fault (List Variable × List ℕ)} → (variableList v ▹ inventory) .read (drop 2 s) ≡ r → mapRead (metadataFields v) (shift 2 (newRow at) r) ≡ told v s
   unfolding metadataRow
   new-is e = ap (mapRead (metadataFields v)) (sym (
-      ap (λ (b : Bool). into metadataParts (newPosition nodeOf [] ▹ metadataTail v b) .read s) (le-leb 23 v k)
-      ∙ new-by (newPosition nodeOf []) u16 (counted 2) (variableList v) inventory s first-is ∙ ap (onward 2 (newRow at)) e))
+      ap (λ (b : Bool). into metadataShape (newPosition nodeNameOf [] ▹ metadataTail v b) .read s) (le-leb 23 v k)
+      ∙ new-by (newPosition nodeNameOf []) u16 (prefixed 2) (variableList v) inventory s first-is ∙ ap (shift 2 (newRow at)) e))
 
   pub count-ends : num 4 .read (drop 2 s) ≡ refused fault.Ends 0 → refused fault.Ends 2 ≡ told v s
   count-ends g = new-is (then-refused (variableList v) inventory (drop 2 s) (listed-refused 4 (λ _. variable v) (drop 2 s) g))
 
   module _ {count : ℕ} (g : num 4 .read (drop 2 s) ≡ done count 4) where
-    list-is : {r : Read Fault (List Variable)} → times count (variable v) .read (drop 6 s) ≡ r → variableList v .read (drop 2 s) ≡ onward 4 (λ l. l) r
-    list-is e = listed-done 4 (λ _. variable v) (drop 2 s) g ∙ ap (onward 4 (λ l. l)) (ap (times count (variable v) .read) (drop-drop 4 2 s) ∙ e)
+    list-is : {r : Read Fault (List Variable)} → times count (variable v) .read (drop 6 s) ≡ r → variableList v .read (drop 2 s) ≡ shift 4 (λ l. l) r
+    list-is e = listed-done 4 (λ _. variable v) (drop 2 s) g ∙ ap (shift 4 (λ l. l)) (ap (times count (variable v) .read) (drop-drop 4 2 s) ∙ e)
 
     pub variables-refused : {e : Fault} {p : ℕ} → refused e p ≡ ended (times count (variable v) .read (drop 6 s)) → refused e (6 + p) ≡ told v s
     variables-refused {e} {p} f =
@@ -219,7 +220,7 @@ module _ (v : ℕ) (s : List ℕ) {at : ℕ} (h : position .read s ≡ done at 2
       found : (l : List Variable) × (times count (variable v) .read (drop 6 s) ≡ done l n)
       found = ended-done (times count (variable v) .read (drop 6 s)) f
 
-      both-is : {r : Read Fault (List ℕ)} → inventory .read (drop (6 + n) s) ≡ r → (variableList v ▹ inventory) .read (drop 2 s) ≡ onward (4 + n) (pair (found .0)) r
+      both-is : {r : Read Fault (List ℕ)} → inventory .read (drop (6 + n) s) ≡ r → (variableList v ▹ inventory) .read (drop 2 s) ≡ shift (4 + n) (pair (found .0)) r
       both-is e =
           let z : 2 + (4 + n) ≡ 6 + n = omega arith in
           then-done (variableList v) inventory (drop 2 s) (list-is (found .1)) (ap (inventory .read) (drop-drop (4 + n) 2 s ∙ ap (λ (m : ℕ). drop m s) z) ∙ e)
@@ -231,7 +232,7 @@ module _ (v : ℕ) (s : List ℕ) {at : ℕ} (h : position .read s ≡ done at 2
           ap (refused e) z ∙ new-is (both-is x)
 
       pub new-done : {m : ℕ} → Bytes s → done tt m ≡ ended (inventory .read (drop (6 + n) s))
-          → done record { position = at; kind = 0; content = nowhere; variables = count; rows = part 6 n; inventory = part (6 + n) m } (6 + n + m) ≡ told v s
+          → done record { position = at; kind = 0; content = noRange; variables = count; rows = rangeAt 6 n; inventory = rangeAt (6 + n) m } (6 + n + m) ≡ told v s
       unfolding items inventory
       new-done {m} b i =
           let x = ended-done (inventory .read (drop (6 + n) s)) i in

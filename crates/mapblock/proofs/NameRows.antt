@@ -6,13 +6,14 @@ use mathlib.Core.Bool.{Bool, true, false}
 use native.Mathlib.Numerals.{sub-one}
 use native.Mathlib.Omega.{arith}
 use lib.ListN.{length, take, drop, set}
-use Rattle.wire.specs.Read.{Read, done, refused, mapRead, never, map-done, map-refused}
-use Rattle.wire.specs.Format.{such, _⨾_, along}
-use Rattle.wire.specs.Formats.{u16, counted}
+use Rattle.wire.specs.Read.{Read, done, refused, mapRead, not-done, map-done, map-refused}
+use Rattle.wire.specs.Format.{refine, _⨾_, iso}
+use Rattle.wire.specs.Formats.{u16, prefixed}
 use Rattle.wire.specs.Walk.{rowsRead}
 use Rattle.mapblock.specs.Data.{NameRow}
 use Rattle.mapblock.specs.Layout.{all, unused, unmapped, nameRow}
-use Rattle.mapblock.specs.Rows.{part, nameFields}
+use Rattle.wire.specs.Ranges.{rangeAt}
+use Rattle.mapblock.specs.Rows.{nameFields}
 use Rattle.mapblock.specs.Table.{unmarked, frontRows}
 use Rattle.mapblock.specs.declared.names.NameFields.{NameFields}
 use Rattle.mapblock.proofs.Leaves.{run-length}
@@ -21,21 +22,21 @@ use Rattle.mapblock.specs.declared.fault.Fault.the-variants as fault
 
 module _ (free : ℕ → Bool) (seen : List NameRow) (s : List ℕ) where
   pub row-no-id : {e : Fault} {p : ℕ} → u16 {ends = fault.Ends} .read s ≡ refused e p → nameRow free seen .read s ≡ refused e p
-  unfolding nameRow along _⨾_ such
+  unfolding nameRow iso _⨾_ refine
   row-no-id h = rw h
 
   pub row-twice : {id n : ℕ} → u16 {ends = fault.Ends} .read s ≡ done id n → unmapped free seen id ≡ false → nameRow free seen .read s ≡ refused fault.IdTwice 0
-  unfolding nameRow along _⨾_ such
+  unfolding nameRow iso _⨾_ refine
   row-twice h m = rw (h, m)
 
   module _ {id n : ℕ} (h : u16 {ends = fault.Ends} .read s ≡ done id n) (m : unmapped free seen id ≡ true) where
-    pub row-no-name : {e : Fault} {p : ℕ} → counted {ends = fault.Ends} 2 .read (drop n s) ≡ refused e p → nameRow free seen .read s ≡ refused e (n + p)
-    unfolding nameRow along _⨾_ such
+    pub row-no-name : {e : Fault} {p : ℕ} → prefixed {ends = fault.Ends} 2 .read (drop n s) ≡ refused e p → nameRow free seen .read s ≡ refused e (n + p)
+    unfolding nameRow iso _⨾_ refine
     row-no-name k = rw (h, m, k)
 
-    pub row-done : {name : List ℕ} {q : ℕ} → counted {ends = fault.Ends} 2 .read (drop n s) ≡ done name q
+    pub row-done : {name : List ℕ} {q : ℕ} → prefixed {ends = fault.Ends} 2 .read (drop n s) ≡ done name q
         → nameRow free seen .read s ≡ done (record { id = id; name = name }) (n + q)
-    unfolding nameRow along _⨾_ such
+    unfolding nameRow iso _⨾_ refine
     row-done k = rw (h, m, k)
 
 -- ---- a row alone, as it is told
@@ -48,21 +49,21 @@ module _ (s : List ℕ) where
   alone-no-id h = sym (ap (mapRead nameFields) (row-no-id all [] s h))
 
   module _ {id : ℕ} (h : u16 {ends = fault.Ends} .read s ≡ done id 2) where
-    pub alone-no-name : {e : Fault} {p : ℕ} → counted {ends = fault.Ends} 2 .read (drop 2 s) ≡ refused e p → refused e (2 + p) ≡ mapRead nameFields (nameRow all [] .read s)
+    pub alone-no-name : {e : Fault} {p : ℕ} → prefixed {ends = fault.Ends} 2 .read (drop 2 s) ≡ refused e p → refused e (2 + p) ≡ mapRead nameFields (nameRow all [] .read s)
     alone-no-name k = sym (ap (mapRead nameFields) (row-no-name all [] s h (alone-free id) k))
 
-    pub alone-done : {n : ℕ} → counted {ends = fault.Ends} 2 .read (drop 2 s) ≡ done (take n (drop 2 (drop 2 s))) (2 + n)
-        → done (record { id = id; name = part 4 n }) (4 + n) ≡ mapRead nameFields (nameRow all [] .read s)
+    pub alone-done : {n : ℕ} → prefixed {ends = fault.Ends} 2 .read (drop 2 s) ≡ done (take n (drop 2 (drop 2 s))) (2 + n)
+        → done (record { id = id; name = rangeAt 4 n }) (4 + n) ≡ mapRead nameFields (nameRow all [] .read s)
     alone-done {n} k =
         let size : length (take n (drop 2 (drop 2 s))) ≡ n = run-length 2 n (drop 2 s) k in
         let end : 4 + n ≡ 2 + (2 + n) = omega arith in
-        let z : nameFields (record { id = id; name = take n (drop 2 (drop 2 s)) }) ≡ record { id = id; name = part 4 n } = rw size in
+        let z : nameFields (record { id = id; name = take n (drop 2 (drop 2 s)) }) ≡ record { id = id; name = rangeAt 4 n } = rw size in
         sym (ap (mapRead nameFields) (row-done all [] s h (alone-free id) k) ∙ rw (z, end))
 
 -- ---- a row whose id is new, and one whose id is not
 module _ (free : ℕ → Bool) (seen : List NameRow) (s : List ℕ) where
   pub row-as-alone : {id n : ℕ} → u16 {ends = fault.Ends} .read s ≡ done id n → unmapped free seen id ≡ true → nameRow all [] .read s ≡ nameRow free seen .read s
-  unfolding nameRow along _⨾_ such unused
+  unfolding nameRow iso _⨾_ refine unused
   row-as-alone h m = rw (h, m)
 
   -- what was read has a new id, and is read alone too
@@ -73,19 +74,19 @@ module _ (free : ℕ → Bool) (seen : List NameRow) (s : List ℕ) where
       Out = (nameRow all [] .read s ≡ done r n) × (unmapped free seen (r .id) ≡ true)
 
       by-name : (id m : ℕ) → u16 {ends = fault.Ends} .read s ≡ done id m → unmapped free seen id ≡ true → (y : Read Fault (List ℕ))
-          → counted {ends = fault.Ends} 2 .read (drop m s) ≡ y → Out
-      by-name id m e f (refused k p) g = never (sym (row-no-name free seen s e f g) ∙ h)
+          → prefixed {ends = fault.Ends} 2 .read (drop m s) ≡ y → Out
+      by-name id m e f (refused k p) g = not-done (sym (row-no-name free seen s e f g) ∙ h)
       by-name id m e f (done name q) g =
           let z : done (record { id = id; name = name }) (m + q) ≡ done r n = sym (row-done free seen s e f g) ∙ h in
           let same : id ≡ r .id = cc in
           (row-as-alone e f ∙ h, rw (← same) f)
 
       by-test : (id m : ℕ) → u16 {ends = fault.Ends} .read s ≡ done id m → (b : Bool) → unmapped free seen id ≡ b → Out
-      by-test id m e true f = by-name id m e f (counted 2 .read (drop m s)) refl
-      by-test id m e false f = never (sym (row-twice free seen s e f) ∙ h)
+      by-test id m e true f = by-name id m e f (prefixed 2 .read (drop m s)) refl
+      by-test id m e false f = not-done (sym (row-twice free seen s e f) ∙ h)
 
       by-id : (x : Read Fault ℕ) → u16 {ends = fault.Ends} .read s ≡ x → Out
-      by-id (refused k p) e = never (sym (row-no-id free seen s e) ∙ h)
+      by-id (refused k p) e = not-done (sym (row-no-id free seen s e) ∙ h)
       by-id (done id m) e = by-test id m e (unmapped free seen id) refl
 
 -- ---- rows from the front

@@ -5,11 +5,11 @@ use mathlib.Core.List.{List, [], _∷_, _++_, append-assoc}
 use native.Mathlib.Omega.{arith}
 use lib.ListN.{length, drop, length-append, length-drop}
 use lib.Seq.{drop-append-seam}
-use Rattle.wire.specs.Lists.{nil-is}
+use Rattle.wire.proofs.Lists.{nil-is}
 use Rattle.wire.specs.Bytes.{Bytes, bytes-drop}
-use Rattle.wire.specs.Read.{Read, done, refused, mapRead, never, map-done, map-refused}
-use Rattle.wire.specs.Format.{run, such, _⨾_, along, encodeItems, ends-in}
-use Rattle.wire.specs.Formats.{number, counted}
+use Rattle.wire.specs.Read.{Read, done, refused, mapRead, not-done, map-done, map-refused}
+use Rattle.wire.specs.Format.{run, refine, _⨾_, iso, encodeItems, ends-in}
+use Rattle.wire.specs.Formats.{number, prefixed}
 use Rattle.wire.specs.Walk.{rowsRead, rowThen}
 use Rattle.mapblock.specs.Data.{NameRow}
 use Rattle.mapblock.specs.Layout.{all, unused, nameRow}
@@ -32,7 +32,7 @@ pub head-length : (r : NameRow) → length (rowHead r) ≡ 4
 head-length r = rw (length-append, num-length 2 (r .id), num-length 2 (length (r .name)))
 
 pub row-bytes : (seen : List NameRow) (r : NameRow) → nameRow all seen .encode r ≡ rowHead r ++ r .name
-unfolding nameRow along _⨾_ such counted run
+unfolding nameRow iso _⨾_ refine prefixed run
 row-bytes seen r = sym (append-assoc (num 2 .encode (r .id)) (num 2 .encode (length (r .name))) (r .name))
 
 pub row-length : (seen : List NameRow) (r : NameRow) → length (nameRow all seen .encode r) ≡ 4 + length (r .name)
@@ -62,7 +62,7 @@ module _ (s : List ℕ) {row : NameFields} {n : ℕ} (h : done row n ≡ mapRead
 -- ---- all rows at the front of some bytes
 -- no row stands behind the end
 pub nothing-there : nameRow all [] .read [] ≡ refused fault.Ends 0
-unfolding nameRow along _⨾_ such number run counted unused
+unfolding nameRow iso _⨾_ refine number run prefixed unused
 nothing-there = refl
 
 front-nothing : (k : ℕ) → frontRows k [] ≡ []
@@ -105,7 +105,7 @@ pub record FirstRow (s : List ℕ) (fields₀ : NameFields) (n : ℕ) : Type 0 w
 
 pub first-row : (s : List ℕ) {row : NameFields} {n : ℕ} → Bytes s → done row n ≡ mapRead nameFields (nameRow all [] .read s) → FirstRow s row n
 unfolding rowsRead
-first-row [] w h = never (sym (h ∙ ap (mapRead nameFields) nothing-there))
+first-row [] w h = not-done (sym (h ∙ ap (mapRead nameFields) nothing-there))
 first-row (x ∷ s) {row} {n} w h =
     let y = row-read (x ∷ s) h in
     let size : 4 + length (y .0 .name) ≡ n = ap (λ (z : NameFields). 4 + z .name .length) (y .2) ∙ sym (row-size (x ∷ s) h w) in

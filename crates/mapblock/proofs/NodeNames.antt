@@ -8,7 +8,7 @@ use lib.Dec.{eqb}
 use lib.ListN.{length, take, drop, length-append, length-drop, take-append-drop}
 use lib.Seq.{length-take-le}
 use borrow.Author.Tests.{eq-eqb, ne-eqb, le-leb, lt-leb}
-use Rattle.wire.specs.Lists.{rest-is}
+use Rattle.wire.proofs.Lists.{rest-is}
 use Rattle.wire.specs.Bytes.{Bytes, bytes-drop}
 use Rattle.wire.specs.Read.{done, mapRead}
 use Rattle.wire.specs.Answer.{good, plain, noSuch}
@@ -18,13 +18,14 @@ use Rattle.mapblock.specs.Layout.{all, nameRow}
 use Rattle.mapblock.specs.Block.{idAt}
 use Rattle.mapblock.specs.Params.{idIn}
 use Rattle.mapblock.specs.Table.{allRows}
-use Rattle.mapblock.specs.Rows.{part, nameFields}
-use Rattle.mapblock.specs.Sections.{sections, within}
-use Rattle.mapblock.specs.Questions.{nameOf, spotOf, nameSpot, nodeOf, NameRun}
+use Rattle.wire.specs.Ranges.{rangeAt, bytesIn}
+use Rattle.mapblock.specs.Rows.{nameFields}
+use Rattle.mapblock.specs.Sections.{sections}
+use Rattle.mapblock.specs.Questions.{nameOf, nameRangeOf, nameRange, nodeNameOf, NameRun}
 use Rattle.mapblock.specs.Theorems.{Holds, VeryBytes}
-use Rattle.mapblock.specs.declared.head.Part.{Part}
+use Rattle.wire.specs.declared.ranges.Range.{Range}
 use Rattle.mapblock.specs.declared.names.NameFields.{NameFields}
-use Rattle.mapblock.specs.declared.scan.Found.{Found}
+use Rattle.mapblock.specs.declared.scan.Scanned.{Scanned}
 use Rattle.mapblock.proofs.Entries.{id-same}
 use Rattle.mapblock.proofs.NameWalks.{row-bytes, row-length, head-length, rowHead, row-inside, first-row, all-run}
 use Rattle.mapblock.proofs.Taken.{taken}
@@ -33,7 +34,7 @@ use Rattle.mapblock.proofs.BlockAnswers.{TakenAs}
 
 -- ---- the very bytes
 module _ (s : List ℕ) (id : ℕ) where
-  spot-holds : (p q : List ℕ) (seen l : List NameRow) (at : ℕ) → s ≡ p ++ (encodeItems (nameRow all) seen l ++ q) → at ≡ length p → Holds s (spotOf l at id) (nameOf l id)
+  spot-holds : (p q : List ℕ) (seen l : List NameRow) (at : ℕ) → s ≡ p ++ (encodeItems (nameRow all) seen l ++ q) → at ≡ length p → Holds s (nameRangeOf l at id) (nameOf l id)
   spot-holds p q seen [] at e z = part-holds s p [] q at e z
   spot-holds p q seen (r ∷ l) at e z = go (eqb id (r .id)) (spot-holds (p ++ nameRow all seen .encode r) q (r ∷ seen) l (at + 4 + length (r .name)) further place)
     where
@@ -49,13 +50,13 @@ module _ (s : List ℕ) (id : ℕ) where
       start : at + 4 ≡ length (p ++ rowHead r)
       start = rw (length-append, head-length r) (omega arith)
 
-      go : (b : Bool) → Holds s (spotOf l (at + 4 + length (r .name)) id) (nameOf l id)
-          → Holds s (cond b (part (at + 4) (length (r .name))) (spotOf l (at + 4 + length (r .name)) id)) (cond b (r .name) (nameOf l id))
+      go : (b : Bool) → Holds s (nameRangeOf l (at + 4 + length (r .name)) id) (nameOf l id)
+          → Holds s (cond b (rangeAt (at + 4) (length (r .name))) (nameRangeOf l (at + 4 + length (r .name)) id)) (cond b (r .name) (nameOf l id))
       go true h = part-holds s (p ++ rowHead r) (r .name) (encodeItems (nameRow all) (r ∷ seen) l ++ q) (at + 4) here start
       go false h = h
 
 -- bytes about a part that holds r
-split-at : (s : List ℕ) (p : Part) {r : List ℕ} → Holds s p r → s ≡ take (p .start) s ++ (r ++ drop (p .length) (drop (p .start) s))
+split-at : (s : List ℕ) (p : Range) {r : List ℕ} → Holds s p r → s ≡ take (p .start) s ++ (r ++ drop (p .length) (drop (p .start) s))
 split-at s p h =
     sym (take-append-drop (p .start) s)
     ∙ ap (λ (x : List ℕ). take (p .start) s ++ x) (sym (take-append-drop (p .length) (drop (p .start) s)) ∙ ap (λ (x : List ℕ). x ++ drop (p .length) (drop (p .start) s)) (h .bytes))
@@ -71,7 +72,7 @@ very-bytes s b n w h i k =
 -- ---- the walk over the rows of names
 -- What is left of the rows has the name at the same place as all of them.
 pub record Finding (names rest : List ℕ) (start at id : ℕ) : Type 0 where
-  pub left : spotOf (allRows rest) at id ≡ spotOf (allRows names) start id
+  pub left : nameRangeOf (allRows rest) at id ≡ nameRangeOf (allRows names) start id
   pub size : at + length rest ≡ start + length names
   pub bytes : Bytes rest
 
@@ -79,56 +80,56 @@ pub finding-start : (names : List ℕ) (start id : ℕ) → Bytes names → Find
 finding-start names start id w = record { left = refl; size = refl; bytes = w }
 
 module _ {names rest : List ℕ} {start at id : ℕ} (f : Finding names rest start at id) where
-  pub finding-none : allRows rest ≡ [] → part at 0 ≡ spotOf (allRows names) start id
-  finding-none e = ap (λ (m : List NameRow). spotOf m at id) (sym e) ∙ f .left
+  pub finding-none : allRows rest ≡ [] → rangeAt at 0 ≡ nameRangeOf (allRows names) start id
+  finding-none e = ap (λ (m : List NameRow). nameRangeOf m at id) (sym e) ∙ f .left
 
   module _ {row : NameFields} {n : ℕ} (k : done row n ≡ mapRead nameFields (nameRow all [] .read rest)) where
-    pub finding-here : row .id ≡ id → part (at + row .name .start) (row .name .length) ≡ spotOf (allRows names) start id
+    pub finding-here : row .id ≡ id → rangeAt (at + row .name .start) (row .name .length) ≡ nameRangeOf (allRows names) start id
     finding-here e =
         let y = first-row rest (f .bytes) k in
         let same : id ≡ y .row .id = sym e ∙ sym (ap (λ (z : NameFields). z .id) (y .fields)) in
-        let here : part (at + 4) (length (y .row .name)) ≡ spotOf (y .row ∷ allRows (drop n rest)) at id = rw (eq-eqb id (y .row .id) same) in
-        ap (λ (z : NameFields). part (at + z .name .start) (z .name .length)) (sym (y .fields)) ∙ here ∙ ap (λ (m : List NameRow). spotOf m at id) (sym (y .rows)) ∙ f .left
+        let here : rangeAt (at + 4) (length (y .row .name)) ≡ nameRangeOf (y .row ∷ allRows (drop n rest)) at id = rw (eq-eqb id (y .row .id) same) in
+        ap (λ (z : NameFields). rangeAt (at + z .name .start) (z .name .length)) (sym (y .fields)) ∙ here ∙ ap (λ (m : List NameRow). nameRangeOf m at id) (sym (y .rows)) ∙ f .left
 
     pub finding-on : (row .id ≡ id → ⊥) → Finding names (take (length rest - n) (drop n rest)) start (at + n) id
     finding-on e =
         let y = first-row rest (f .bytes) k in
         let other : id ≡ y .row .id → ⊥ = λ z. e (sym (ap (λ (z : NameFields). z .id) (y .fields)) ∙ sym z) in
         let place : at + n ≡ at + 4 + length (y .row .name) = omega (arith, y .size) in
-        let on : spotOf (allRows (drop n rest)) (at + n) id ≡ spotOf (y .row ∷ allRows (drop n rest)) at id = rw (ne-eqb id (y .row .id) other, place) in
+        let on : nameRangeOf (allRows (drop n rest)) (at + n) id ≡ nameRangeOf (y .row ∷ allRows (drop n rest)) at id = rw (ne-eqb id (y .row .id) other, place) in
         rw (rest-is n rest) record {
-          left = on ∙ ap (λ (m : List NameRow). spotOf m at id) (sym (y .rows)) ∙ f .left;
+          left = on ∙ ap (λ (m : List NameRow). nameRangeOf m at id) (sym (y .rows)) ∙ f .left;
           size = rw length-drop (omega (arith, f .size, row-inside rest k));
           bytes = bytes-drop n rest (f .bytes);
         }
 
 -- ---- the answers
-pub within-length : (s : List ℕ) (p : Part) → p .start + p .length ≤ length s → length (within s p) ≡ p .length
+pub within-length : (s : List ℕ) (p : Range) → p .start + p .length ≤ length s → length (bytesIn s p) ≡ p .length
 within-length s p h = length-take-le (p .length) (drop (p .start) s) (rw length-drop (omega arith))
 
-module _ {s : List ℕ} {w : Found} (k : TakenAs s w) (y : Bytes s) where
+module _ {s : List ℕ} {w : Scanned} (k : TakenAs s w) (y : Bytes s) where
   -- the section of names
-  pub names-run : NameRun (within s (w .sections .names)) (k .b .names)
-  names-run = subst (λ (x : Found). NameRun (within s (x .sections .names)) (k .b .names)) (k .shows) record {
+  pub names-run : NameRun (bytesIn s (w .sections .names)) (k .b .names)
+  names-run = subst (λ (x : Scanned). NameRun (bytesIn s (x .sections .names)) (k .b .names)) (k .shows) record {
     bytes = sections-are-rows s (k .b) (k .n) y (k .reads) .names .bytes;
     good = taken s (k .b) (k .n) y .0 (k .reads) .0 .names .each;
   }
 
   -- an id's name among the rows that stand there
-  pub spot-in : (names : List ℕ) (id : ℕ) {p : Part} → names ≡ within s (w .sections .names) → p ≡ spotOf (allRows names) (w .sections .names .start) id
-      → p ≡ spotOf (k .b .names) (w .sections .names .start) id
-  spot-in names id e h = h ∙ ap (λ (l : List NameRow). spotOf l (w .sections .names .start) id) (ap allRows e ∙ all-run names-run)
+  pub spot-in : (names : List ℕ) (id : ℕ) {p : Range} → names ≡ bytesIn s (w .sections .names) → p ≡ nameRangeOf (allRows names) (w .sections .names .start) id
+      → p ≡ nameRangeOf (k .b .names) (w .sections .names .start) id
+  spot-in names id e h = h ∙ ap (λ (l : List NameRow). nameRangeOf l (w .sections .names .start) id) (ap allRows e ∙ all-run names-run)
 
   module _ (i : ℕ) where
-    pub node-none : 4096 ≤ i → plain noSuch ≡ nodeOf s i
+    pub node-none : 4096 ≤ i → plain noSuch ≡ nodeNameOf s i
     node-none h = rw (k .answer, lt-leb i 4095 (omega arith))
 
     -- the name of the id that the lists tell, from where the names start
-    pub node-told : {id : ℕ} {p : Part} → i < 4096 → id ≡ idIn (w .head .version) (take (length s - w .lists) (drop (w .lists) s)) i
-        → p ≡ spotOf (k .b .names) (w .sections .names .start) id → good p ≡ nodeOf s i
+    pub node-told : {id : ℕ} {p : Range} → i < 4096 → id ≡ idIn (w .head .version) (take (length s - w .lists) (drop (w .lists) s)) i
+        → p ≡ nameRangeOf (k .b .names) (w .sections .names .start) id → good p ≡ nodeNameOf s i
     unfolding sections
     node-told {id} {p} h e g =
-        let same : id ≡ idAt (k .b) i = e ∙ ap (λ (l : List ℕ). idIn (w .head .version) l i) (rest-is (w .lists) s) ∙ sym (id-same (k .b) (w .head .version) (drop (w .lists) s) (ap (λ (x : Found). x .head .version) (k .shows)) (k .nodes) i h) in
-        let start : w .sections .names .start ≡ sections (k .b) .names .start = sym (ap (λ (x : Found). x .sections .names .start) (k .shows)) in
-        let spot : p ≡ nameSpot (k .b) i = g ∙ rw (start, same) in
+        let same : id ≡ idAt (k .b) i = e ∙ ap (λ (l : List ℕ). idIn (w .head .version) l i) (rest-is (w .lists) s) ∙ sym (id-same (k .b) (w .head .version) (drop (w .lists) s) (ap (λ (x : Scanned). x .head .version) (k .shows)) (k .nodes) i h) in
+        let start : w .sections .names .start ≡ sections (k .b) .names .start = sym (ap (λ (x : Scanned). x .sections .names .start) (k .shows)) in
+        let spot : p ≡ nameRange (k .b) i = g ∙ rw (start, same) in
         rw (k .answer, le-leb i 4095 (omega arith)) (ap good spot)

@@ -8,8 +8,8 @@ use lib.Dec.{leb, eqb}
 use lib.ListN.{getD, set, length-set}
 use lib.Seq.{getD-set-same, getD-set-other}
 use borrow.Author.Tests.{le-leb, lt-leb, leb-true, eq-eqb, ne-eqb, eqb-true, eqb-false}
-use Rattle.wire.specs.Read.{done, refused, never, bind-done, cond-done}
-use Rattle.wire.specs.Format.{such, tested}
+use Rattle.wire.specs.Read.{done, refused, not-done, bind-done, cond-done}
+use Rattle.wire.specs.Format.{refine, tested}
 use Rattle.wire.specs.Formats.{u16}
 use Rattle.mapblock.specs.Layout.{position, without}
 use Rattle.mapblock.specs.Table.{freeIn, Tabled}
@@ -20,20 +20,20 @@ use Rattle.mapblock.specs.declared.positions.PositionRead.the-variants a
 
 module _ (s : List ℕ) where
   pub position-ends : {e : Fault} {p : ℕ} → u16 {ends = fault.Ends} .read s ≡ refused e p → refused e p ≡ position .read s
-  unfolding such
+  unfolding refine
   position-ends h = rw h
 
   module _ {p : ℕ} (h : u16 {ends = fault.Ends} .read s ≡ done p 2) where
     pub position-above : 4095 < p → refused fault.PositionAbove 0 ≡ position .read s
-    unfolding such
+    unfolding refine
     position-above k = rw (h, lt-leb _ _ k)
 
     pub position-done : p ≤ 4095 → done p 2 ≡ position .read s
-    unfolding such
+    unfolding refine
     position-done k = rw (h, le-leb _ _ k)
 
   pub position-below : {p n : ℕ} → position .read s ≡ done p n → p ≤ 4095
-  unfolding such
+  unfolding refine
   position-below {p} {n} h =
       let x = bind-done (u16 {ends = fault.Ends} .read s) (tested (λ p. leb p 4095) fault.PositionAbove) p n h in
       let y = cond-done (leb (x .0) 4095) (done (x .0) (x .1)) fault.PositionAbove 0 p n (x .3) in
@@ -54,21 +54,21 @@ marked-one n free t m h k = record { size = length-set t m 1 ∙ k .size; tells 
 -- ---- the three ways of a position after others
 module _ (s t : List ℕ) where
   pub new-refused : {f : Fault} → position .read s ≡ refused f 0 → PositionMarked s t t (positions.Refused f)
-  unfolding such
-  new-refused h = record { told = λ free k. rw h; marked = λ free p n k e. never (rw h at e) }
+  unfolding refine
+  new-refused h = record { told = λ free k. rw h; marked = λ free p n k e. not-done (rw h at e) }
 
   module _ {p : ℕ} (h : position .read s ≡ done p 2) where
     pub new-twice : (getD t p 0 ≡ 0 → ⊥) → PositionMarked s t t (positions.Refused fault.PositionTwice)
-    unfolding such
+    unfolding refine
     new-twice l =
         let b = position-below s h in
         record {
           told = λ free k. rw (h, k .tells p (omega arith), ne-eqb _ _ l);
-          marked = λ free q n k e. never (rw (h, k .tells p (omega arith), ne-eqb _ _ l) at e);
+          marked = λ free q n k e. not-done (rw (h, k .tells p (omega arith), ne-eqb _ _ l) at e);
         }
 
     pub new-done : getD t p 0 ≡ 0 → PositionMarked s t (set t p 1) (positions.At p)
-    unfolding such
+    unfolding refine
     new-done l =
         let b = position-below s h in
         record {

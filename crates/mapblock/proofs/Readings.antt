@@ -6,9 +6,9 @@ use native.Mathlib.Nat.{zero-add, add-assoc}
 use native.Mathlib.Omega.{arith}
 use lib.ListN.{length, drop, length-drop}
 use lib.Seq.{drop-drop}
-use Rattle.wire.specs.Read.{Read, done, refused, bind, mapRead, onward, reach, map-done, map-refused}
+use Rattle.wire.specs.Read.{Read, done, refused, bind, mapRead, shift, reach, map-done, map-refused}
 use Rattle.wire.specs.Format.{_⨾_, next, pair, items, readItems, ends-in}
-use Rattle.wire.specs.Formats.{_▹_, number, counted}
+use Rattle.wire.specs.Formats.{_▹_, number, prefixed}
 use Rattle.wire.proofs.Items.{after, items-start, items-on, items-refused, items-end}
 use Rattle.mapblock.specs.Inventory.{Form}
 use Rattle.mapblock.proofs.Leaves.{told-in}
@@ -20,7 +20,7 @@ abbrev pub num : ℕ → Form ℕ
 num k = number k
 
 abbrev pub text : ℕ → Form (List ℕ)
-text k = counted k
+text k = prefixed k
 
 -- ---- an end or a place lies in the bytes
 pub within : {A : Type 0} (f : Form A) (s : List ℕ) {r : Read Fault A} → f .read s ≡ r → reach r ≤ length s
@@ -40,17 +40,17 @@ pub ended-map : {A B : Type 0} (f : A → B) (r : Read Fault A) → ended (mapRe
 ended-map f (done a n) = refl
 ended-map f (refused e p) = refl
 
-onward-twice : {A B C : Type 0} (n m : ℕ) (f : B → C) (g : A → B) (r : Read Fault A) → ended (onward n f (onward m g r)) ≡ onward (n + m) (λ u. u) (ended r)
-onward-twice n m f g (done a k) = rw add-assoc
-onward-twice n m f g (refused e p) = rw add-assoc
+shift-twice : {A B C : Type 0} (n m : ℕ) (f : B → C) (g : A → B) (r : Read Fault A) → ended (shift n f (shift m g r)) ≡ shift (n + m) (λ u. u) (ended r)
+shift-twice n m f g (done a k) = rw add-assoc
+shift-twice n m f g (refused e p) = rw add-assoc
 
 -- what follows a reading that ended
 abbrev pub behind : {A : Type 0} → Form A → List ℕ → Unit {0} → ℕ → Read Fault (Unit {0})
-behind h s u n = onward n (λ w. w) (ended (h .read (drop n s)))
+behind h s u n = shift n (λ w. w) (ended (h .read (drop n s)))
 
 module _ {A B C : Type 0} (f : Form A) (g : Form B) (h : Form C) (s : List ℕ) where
-  third-by : (a : A) (n : ℕ) (x : Read Fault B) → ended (onward n (pair a) (bind x (next (λ _. h) (drop n s)))) ≡ bind (ended (onward n (pair a) x)) (behind h s)
-  third-by a n (done b m) = rw (drop-drop m n s) (onward-twice n m (pair a) (pair b) (h .read (drop (n + m) s)))
+  third-by : (a : A) (n : ℕ) (x : Read Fault B) → ended (shift n (pair a) (bind x (next (λ _. h) (drop n s)))) ≡ bind (ended (shift n (pair a) x)) (behind h s)
+  third-by a n (done b m) = rw (drop-drop m n s) (shift-twice n m (pair a) (pair b) (h .read (drop (n + m) s)))
   third-by a n (refused e p) = refl
 
   second-by : (x : Read Fault A) → ended (bind x (next (λ _. g ▹ h) s)) ≡ bind (ended (bind x (next (λ _. g) s))) (behind h s)

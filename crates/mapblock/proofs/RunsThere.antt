@@ -8,12 +8,13 @@ use lib.ListN.{length, drop, length-append}
 use borrow.Author.Tests.{le-leb, lt-leb}
 use Rattle.wire.specs.Bytes.{Bytes}
 use Rattle.wire.specs.Read.{done}
-use Rattle.wire.specs.Format.{Took, run, nothing, such, _⨾_, along, items, encodeItems}
-use Rattle.wire.specs.Formats.{signed, unsignedOf, half32, counted, listed}
+use Rattle.wire.specs.Format.{Parsed, run, nothing, refine, _⨾_, iso, items, encodeItems}
+use Rattle.wire.specs.Formats.{signed, unsignedOf, half32, prefixed, listed}
 use Rattle.mapblock.specs.Inventory.{inventory}
 use Rattle.mapblock.specs.Data.{NameRow, MetadataRow, ObjectRow}
 use Rattle.mapblock.specs.Layout.{all, variable, nameRow, metadataRow, objectRow}
-use Rattle.mapblock.specs.Rows.{nowhere, nameFields, objectFields, variableBytes}
+use Rattle.wire.specs.Ranges.{noRange}
+use Rattle.mapblock.specs.Rows.{nameFields, objectFields, variableBytes}
 use Rattle.mapblock.specs.Valid.{MetadataGood}
 use Rattle.mapblock.specs.Theorems.{Holds, MetadataRunsIn, RunsAreThere}
 use Rattle.mapblock.proofs.Readings.{num}
@@ -26,8 +27,8 @@ use Rattle.mapblock.proofs.SectionsThere.{part-holds}
 name-there : (s : List ℕ) (r : NameRow) (n : ℕ) → Bytes s → nameRow all [] .read s ≡ done r n → Holds s (nameFields r .name) (r .name)
 name-there s r n w h =
     let t = nameRow all [] .backward s r n w h in
-    let laid : s ≡ rowHead r ++ (r .name ++ drop n s) = t .front ∙ ap (λ (l : List ℕ). l ++ drop n s) (row-bytes [] r) ∙ append-assoc (rowHead r) (r .name) (drop n s) in
-    part-holds s (rowHead r) (r .name) (drop n s) 4 laid (sym (head-length r))
+    let overwrite : s ≡ rowHead r ++ (r .name ++ drop n s) = t .front ∙ ap (λ (l : List ℕ). l ++ drop n s) (row-bytes [] r) ∙ append-assoc (rowHead r) (r .name) (drop n s) in
+    part-holds s (rowHead r) (r .name) (drop n s) 4 overwrite (sym (head-length r))
 
 -- ---- objects
 -- a row's type, coordinates and size
@@ -41,19 +42,19 @@ object-head-length : (r : ObjectRow) → length (objectHead r) ≡ 15
 object-head-length r = simp (length-append, num-length)
 
 object-bytes : (r : ObjectRow) → objectRow .encode r ≡ objectHead r ++ r .content
-unfolding objectRow along _⨾_ signed counted run
+unfolding objectRow iso _⨾_ signed prefixed run
 object-bytes r = simp append-assoc
 
 object-there : (s : List ℕ) (r : ObjectRow) (n : ℕ) → Bytes s → objectRow .read s ≡ done r n → Holds s (objectFields r .content) (r .content)
 object-there s r n w h =
     let t = objectRow .backward s r n w h in
-    let laid : s ≡ objectHead r ++ (r .content ++ drop n s) = t .front ∙ ap (λ (l : List ℕ). l ++ drop n s) (object-bytes r) ∙ append-assoc (objectHead r) (r .content) (drop n s) in
-    part-holds s (objectHead r) (r .content) (drop n s) 15 laid (sym (object-head-length r))
+    let overwrite : s ≡ objectHead r ++ (r .content ++ drop n s) = t .front ∙ ap (λ (l : List ℕ). l ++ drop n s) (object-bytes r) ∙ append-assoc (objectHead r) (r .content) (drop n s) in
+    part-holds s (objectHead r) (r .content) (drop n s) 15 overwrite (sym (object-head-length r))
 
 -- ---- metadata
 -- nothing stands nowhere
-nowhere-holds : (s r : List ℕ) → r ≡ [] → Holds s nowhere r
-nowhere-holds s r e = rw e record { inside = omega arith; bytes = refl }
+noRange-holds : (s r : List ℕ) → r ≡ [] → Holds s noRange r
+noRange-holds s r e = rw e record { inside = omega arith; bytes = refl }
 
 module _ (v : ℕ) (r : MetadataRow) where
   -- version 22: position, type and size
@@ -74,17 +75,17 @@ module _ (v : ℕ) (r : MetadataRow) where
   new-length = simp (length-append, num-length)
 
   old-bytes : v < 23 → metadataRow v [] .encode r ≡ oldHead ++ (r .content ++ [])
-  unfolding metadataRow along _⨾_ such nothing counted run
+  unfolding metadataRow iso _⨾_ refine nothing prefixed run
   old-bytes h = rw (lt-leb 23 v h) (simp append-assoc)
 
   new-bytes : 23 ≤ v → metadataRow v [] .encode r ≡ newHead ++ (variables ++ r .inventory)
-  unfolding metadataRow along _⨾_ such nothing listed items inventory
+  unfolding metadataRow iso _⨾_ refine nothing listed items inventory
   new-bytes h = rw (le-leb 23 v h) (simp append-assoc)
 
 metadata-there : (v : ℕ) (s : List ℕ) (r : MetadataRow) (n : ℕ) → Bytes s → metadataRow v [] .read s ≡ done r n → MetadataRunsIn v s r
 metadata-there v s r n w h = either 23 v new old
   where
-    t : Took (metadataRow v [] .Ok) (metadataRow v [] .encode) s r n
+    t : Parsed (metadataRow v [] .Ok) (metadataRow v [] .encode) s r n
     t = metadataRow v [] .backward s r n w h
 
     good : MetadataGood v r
@@ -93,23 +94,23 @@ metadata-there v s r n w h = either 23 v new old
     old : v < 23 → MetadataRunsIn v s r
     old k =
         let g = good .in-22 k in
-        let laid : s ≡ oldHead v r ++ (r .content ++ drop n s) = t .front ∙ ap (λ (l : List ℕ). l ++ drop n s) (old-bytes v r k) ∙ simp append-assoc in
+        let overwrite : s ≡ oldHead v r ++ (r .content ++ drop n s) = t .front ∙ ap (λ (l : List ℕ). l ++ drop n s) (old-bytes v r k) ∙ simp append-assoc in
         let none : variables v r ≡ [] = ap (encodeItems (λ _. variable v) []) (g .no-variables) in
         record {
-          content = rw (lt-leb 23 v k) (part-holds s (oldHead v r) (r .content) (drop n s) 6 laid (sym (old-length v r)));
-          variables = rw (lt-leb 23 v k) (nowhere-holds s (variables v r) none);
-          inventory = rw (lt-leb 23 v k) (nowhere-holds s (r .inventory) (g .no-inventory));
+          content = rw (lt-leb 23 v k) (part-holds s (oldHead v r) (r .content) (drop n s) 6 overwrite (sym (old-length v r)));
+          variables = rw (lt-leb 23 v k) (noRange-holds s (variables v r) none);
+          inventory = rw (lt-leb 23 v k) (noRange-holds s (r .inventory) (g .no-inventory));
         }
 
     new : 23 ≤ v → MetadataRunsIn v s r
     new k =
         let g = good .from-23 k in
-        let laid : s ≡ newHead v r ++ (variables v r ++ (r .inventory ++ drop n s)) = t .front ∙ ap (λ (l : List ℕ). l ++ drop n s) (new-bytes v r k) ∙ simp append-assoc in
-        let apart : s ≡ (newHead v r ++ variables v r) ++ (r .inventory ++ drop n s) = laid ∙ simp append-assoc in
+        let overwrite : s ≡ newHead v r ++ (variables v r ++ (r .inventory ++ drop n s)) = t .front ∙ ap (λ (l : List ℕ). l ++ drop n s) (new-bytes v r k) ∙ simp append-assoc in
+        let apart : s ≡ (newHead v r ++ variables v r) ++ (r .inventory ++ drop n s) = overwrite ∙ simp append-assoc in
         let place : 6 + variableBytes v r ≡ length (newHead v r ++ variables v r) = rw (length-append, new-length v r) in
         record {
-          content = rw (le-leb 23 v k) (nowhere-holds s (r .content) (g .no-content));
-          variables = rw (le-leb 23 v k) (part-holds s (newHead v r) (variables v r) (r .inventory ++ drop n s) 6 laid (sym (new-length v r)));
+          content = rw (le-leb 23 v k) (noRange-holds s (r .content) (g .no-content));
+          variables = rw (le-leb 23 v k) (part-holds s (newHead v r) (variables v r) (r .inventory ++ drop n s) 6 overwrite (sym (new-length v r)));
           inventory = rw (le-leb 23 v k) (part-holds s (newHead v r ++ variables v r) (r .inventory) (drop n s) (6 + variableBytes v r) apart place);
         }
 

@@ -8,17 +8,17 @@ use native.Mathlib.Omega.{arith}
 use lib.Dec.{eqb}
 use lib.ListN.{length, getD, take, drop, length-append, length-drop}
 use lib.Seq.{drop-at, take-append-seam, drop-drop}
-use Rattle.wire.specs.Bytes.{Bytes, spelt}
+use Rattle.wire.specs.Bytes.{Bytes, fromBE}
 use Rattle.wire.specs.Read.{done}
-use Rattle.wire.specs.Format.{Took, nothing, such, _⨾_, along, items, encodeItems}
+use Rattle.wire.specs.Format.{Parsed, nothing, refine, _⨾_, iso, items, encodeItems}
 use Rattle.wire.specs.Formats.{behind, fixed, listed, only}
 use Rattle.mapblock.specs.Inventory.{Form}
-use Rattle.mapblock.specs.Data.{Block, Saved, Timers, Nodes, MetadataRow, ObjectRow, unsaved, untimed}
-use Rattle.mapblock.specs.Layout.{since, before, all, width, nameRow, metadataRow, objectRow, timerRow, opening, saved, nodes, metadata, earlyTimers, objects, lateTimers, front, rest, steps}
-use Rattle.mapblock.specs.Block.{block, openingOf, savedOf, timersOf, listsAt, frontNamesEnd, param0At, verdict}
+use Rattle.mapblock.specs.Data.{Block, NameMapping, Timers, Nodes, MetadataRow, ObjectRow, noMapping, noTimers}
+use Rattle.mapblock.specs.Layout.{since, before, all, width, nameRow, metadataRow, objectRow, timerRow, opening, nameMapping, nodes, metadata, earlyTimers, objects, lateTimers, front, rest, steps}
+use Rattle.mapblock.specs.Block.{block, openingOf, nameMappingOf, timersOf, listsAt, frontNamesEnd, param0At, verdict}
 use Rattle.mapblock.specs.Params.{listsOf}
-use Rattle.mapblock.specs.Rows.{part}
-use Rattle.mapblock.specs.Sections.{rowsTo, sections}
+use Rattle.wire.specs.Ranges.{rangeAt}
+use Rattle.mapblock.specs.Sections.{rangeTo, sections}
 use Rattle.mapblock.specs.Theorems.{Holds, RowsIn, SectionsAreRows, Param0There}
 use Rattle.mapblock.specs.declared.fault.Fault.{Fault}
 use Rattle.mapblock.specs.declared.fault.Fault.the-variants as fault
@@ -30,7 +30,7 @@ use Rattle.mapblock.proofs.ValidOk.{valid-is-ok}
 use Rattle.mapblock.proofs.Taken.{taken}
 
 -- ---- parts of bytes
-pub part-holds : (s p r q : List ℕ) (at : ℕ) → s ≡ p ++ (r ++ q) → at ≡ length p → Holds s (part at (length r)) r
+pub part-holds : (s p r q : List ℕ) (at : ℕ) → s ≡ p ++ (r ++ q) → at ≡ length p → Holds s (rangeAt at (length r)) r
 part-holds s p r q at e z = rw e record {
   inside = rw (length-append, length-append) (omega arith);
   bytes = rw (drop-at p (r ++ q) at (sym z), take-append-seam);
@@ -41,7 +41,7 @@ abbrev Ending : List ℕ → List ℕ → Type 0
 Ending x r = (h : List ℕ) × (x ≡ h ++ r)
 
 -- rows at the end of x, which stands behind p
-rows-hold : (s p x q : List ℕ) {r : List ℕ} (end : ℕ) → s ≡ p ++ (x ++ q) → Ending x r → end ≡ length p + length x → Holds s (rowsTo end (length r)) r
+rows-hold : (s p x q : List ℕ) {r : List ℕ} (end : ℕ) → s ≡ p ++ (x ++ q) → Ending x r → end ≡ length p + length x → Holds s (rangeTo end (length r)) r
 rows-hold s p x q {r} end e (h, g) z =
     let size : length x ≡ length h + length r = ap (length {A = ℕ}) g ∙ length-append h r in
     let place : end - length r ≡ length (p ++ h) = rw length-append (omega arith) in
@@ -50,17 +50,17 @@ rows-hold s p x q {r} end e (h, g) z =
 -- ---- rows stand at the end of their lists
 module _ {A : Type 0} (k : ℕ) (item : List A → Form A) where
   listed-ending : (l : List A) → Ending (listed k item .encode l) (encodeItems item [] l)
-  unfolding listed along _⨾_ items
+  unfolding listed iso _⨾_ items
   listed-ending l = (num k .encode (length l), refl)
 
   fixed-ending : (j v : ℕ) (e : Fault) (l : List A) → Ending (fixed j v e (listed k item) .encode l) (encodeItems item [] l)
-  unfolding behind along _⨾_ such
+  unfolding behind iso _⨾_ refine
   fixed-ending j v e l =
       let x = listed-ending l in
       (num j .encode v ++ x .0, rw (x .1) (sym (append-assoc (num j .encode v) (x .0) (encodeItems item [] l))))
 
-names-ending : (sv : Saved) → Ending (saved all .encode sv) (encodeItems (nameRow all) [] (sv .names))
-unfolding saved along _⨾_
+names-ending : (sv : NameMapping) → Ending (nameMapping all .encode sv) (encodeItems (nameRow all) [] (sv .names))
+unfolding nameMapping iso _⨾_
 names-ending sv =
     let x = fixed-ending 2 (nameRow all) 1 0 fault.MappingVersion (sv .names) in
     (num 4 .encode (sv .timestamp) ++ x .0, rw (x .1) (sym (append-assoc (num 4 .encode (sv .timestamp)) (x .0) (encodeItems (nameRow all) [] (sv .names)))))
@@ -74,11 +74,11 @@ unfolding objects
 objects-ending l = fixed-ending 2 (λ _. objectRow) 1 0 fault.ObjectVersion l
 
 -- no rows stand at the end of anything
-none-ending : (x : List ℕ) (k : Timers) → k ≡ untimed → Ending x (encodeItems timerRow [] (k .rows))
+none-ending : (x : List ℕ) (k : Timers) → k ≡ noTimers → Ending x (encodeItems timerRow [] (k .rows))
 none-ending x k h = subst⁻¹ (λ (y : Timers). Ending x (encodeItems timerRow [] (y .rows))) h (x, sym (append-nil x))
 
 ending-of-24 : (k : Timers) → timersOf24 .Ok k → Ending (timersOf24 .encode k) (encodeItems timerRow [] (k .rows))
-unfolding along _⨾_ such nothing
+unfolding iso _⨾_ refine nothing
 ending-of-24 k h = go (eqb (k .byte) 1) (h .1)
   where
     go : (b : Bool) → only b [] (listed 2 timerRow) .Ok (k .rows) → Ending (num 1 .encode (k .byte) ++ only b [] (listed 2 timerRow) .encode (k .rows)) (encodeItems timerRow [] (k .rows))
@@ -88,7 +88,7 @@ ending-of-24 k h = go (eqb (k .byte) 1) (h .1)
     go false o = rw o (num 1 .encode (k .byte), refl)
 
 ending-by : (a b c : Bool) (k : Timers) → earlyBy a b c .Ok k → Ending (earlyBy a b c .encode k) (encodeItems timerRow [] (k .rows))
-unfolding nothing behind along _⨾_
+unfolding nothing behind iso _⨾_
 ending-by true true c k h = ending-of-24 k h
 ending-by true false true k h = none-ending _ k (h .1)
 ending-by true false false k h = none-ending _ k h
@@ -99,7 +99,7 @@ unfolding earlyTimers
 early-ending v k h = ending-by (before 25 v) (since 24 v) (since 23 v) k h
 
 late-ending : (v : ℕ) (k : Timers) → since 25 v ≡ true → Ending (lateTimers v .encode k) (encodeItems timerRow [] (k .rows))
-unfolding lateTimers along _⨾_ nothing
+unfolding lateTimers iso _⨾_ nothing
 late-ending v k h = rw h (fixed-ending 2 timerRow 1 10 fault.TimerRowLength (k .rows))
 
 -- ---- the pieces of a block's bytes; inFront: the names stand in front, atEnd: the timers stand at the end
@@ -107,7 +107,7 @@ record Pieces : Type 0 where
   inFront : Bool
   atEnd : Bool
   opening : List ℕ
-  saved : List ℕ
+  nameMapping : List ℕ
   nodes : List ℕ
   metadata : List ℕ
   early : List ℕ
@@ -125,10 +125,10 @@ second-length false x = refl
 module _ (x : Pieces) where
   -- names and timers, each in one of two places
   abbrev names₁ : List ℕ
-  names₁ = cond (x .inFront) (x .saved) []
+  names₁ = cond (x .inFront) (x .nameMapping) []
 
   abbrev names₂ : List ℕ
-  names₂ = cond (x .inFront) [] (x .saved)
+  names₂ = cond (x .inFront) [] (x .nameMapping)
 
   abbrev timers₁ : List ℕ
   timers₁ = cond (x .atEnd) [] (x .early)
@@ -147,7 +147,7 @@ module _ (x : Pieces) where
   whole = toNodes ++ (x .metadata ++ behindMetadata)
 
   abbrev frontEnd : ℕ
-  frontEnd = length (x .opening) + cond (x .inFront) (length (x .saved)) 0
+  frontEnd = length (x .opening) + cond (x .inFront) (length (x .nameMapping)) 0
 
   abbrev metadataEnd : ℕ
   metadataEnd = frontEnd + length (x .nodes) + length (x .metadata)
@@ -159,18 +159,18 @@ module _ (x : Pieces) where
   objectsEnd = earlyEnd + length (x .objects)
 
   abbrev namesEnd : ℕ
-  namesEnd = objectsEnd + cond (x .inFront) 0 (length (x .saved))
+  namesEnd = objectsEnd + cond (x .inFront) 0 (length (x .nameMapping))
 
   abbrev lateEnd : ℕ
   lateEnd = namesEnd + cond (x .atEnd) (length (x .late)) 0
 
   nodes-size : length toNodes ≡ frontEnd + length (x .nodes)
-  nodes-size = rw (length-append, length-append, first-length (x .inFront) (x .saved)) (omega arith)
+  nodes-size = rw (length-append, length-append, first-length (x .inFront) (x .nameMapping)) (omega arith)
 
   -- whatever follows
   nodes-lie : (t : List ℕ) → drop frontEnd (whole ++ t) ≡ x .nodes ++ ((x .metadata ++ behindMetadata) ++ t)
   nodes-lie t =
-      let size : length (x .opening ++ names₁) ≡ frontEnd = rw (length-append, first-length (x .inFront) (x .saved)) in
+      let size : length (x .opening ++ names₁) ≡ frontEnd = rw (length-append, first-length (x .inFront) (x .nameMapping)) in
       let apart : whole ++ t ≡ (x .opening ++ names₁) ++ (x .nodes ++ ((x .metadata ++ behindMetadata) ++ t)) = simp append-assoc in
       ap (drop frontEnd) apart ∙ drop-at (x .opening ++ names₁) (x .nodes ++ ((x .metadata ++ behindMetadata) ++ t)) frontEnd size
 
@@ -178,29 +178,29 @@ module _ (x : Pieces) where
   to-size : (p : List ℕ) → length (toNodes ++ (x .metadata ++ p)) ≡ metadataEnd + length p
   to-size p = rw (length-append toNodes (x .metadata ++ p), length-append (x .metadata) p) (omega (arith, nodes-size))
 
-  metadata-holds : {r : List ℕ} → Ending (x .metadata) r → Holds whole (rowsTo metadataEnd (length r)) r
+  metadata-holds : {r : List ℕ} → Ending (x .metadata) r → Holds whole (rangeTo metadataEnd (length r)) r
   metadata-holds h = rows-hold whole toNodes (x .metadata) behindMetadata _ refl h (omega (arith, nodes-size))
 
-  objects-hold : {r : List ℕ} → Ending (x .objects) r → Holds whole (rowsTo objectsEnd (length r)) r
+  objects-hold : {r : List ℕ} → Ending (x .objects) r → Holds whole (rangeTo objectsEnd (length r)) r
   objects-hold h = rows-hold whole (toNodes ++ (x .metadata ++ timers₁)) (x .objects) (names₂ ++ timers₂) _ (simp append-assoc) h (rw (to-size timers₁, second-length (x .atEnd) (x .early)))
 
-  names-hold : {r : List ℕ} → Ending (x .saved) r → Holds whole (rowsTo (cond (x .inFront) frontEnd namesEnd) (length r)) r
+  names-hold : {r : List ℕ} → Ending (x .nameMapping) r → Holds whole (rangeTo (cond (x .inFront) frontEnd namesEnd) (length r)) r
   names-hold {r} h = go (x .inFront) refl
     where
-      go : (b : Bool) → x .inFront ≡ b → Holds whole (rowsTo (cond (x .inFront) frontEnd namesEnd) (length r)) r
-      go true z = rows-hold whole (x .opening) (x .saved) (x .nodes ++ (x .metadata ++ behindMetadata)) _ (rw z (simp append-assoc)) h (rw z refl)
+      go : (b : Bool) → x .inFront ≡ b → Holds whole (rangeTo (cond (x .inFront) frontEnd namesEnd) (length r)) r
+      go true z = rows-hold whole (x .opening) (x .nameMapping) (x .nodes ++ (x .metadata ++ behindMetadata)) _ (rw z (simp append-assoc)) h (rw z refl)
       go false z =
           let size : length (timers₁ ++ x .objects) ≡ cond (x .atEnd) 0 (length (x .early)) + length (x .objects) = rw (length-append, second-length (x .atEnd) (x .early)) in
           let end : length (toNodes ++ (x .metadata ++ (timers₁ ++ x .objects))) ≡ objectsEnd = rw (to-size (timers₁ ++ x .objects)) (omega arith) in
-          rows-hold whole (toNodes ++ (x .metadata ++ (timers₁ ++ x .objects))) (x .saved) timers₂ _ (rw z (simp append-assoc)) h (rw (end, z))
+          rows-hold whole (toNodes ++ (x .metadata ++ (timers₁ ++ x .objects))) (x .nameMapping) timers₂ _ (rw z (simp append-assoc)) h (rw (end, z))
 
   timers-hold : {r : List ℕ} → (x .atEnd ≡ false → Ending (x .early) r) → (x .atEnd ≡ true → Ending (x .late) r)
-      → Holds whole (rowsTo (cond (x .atEnd) lateEnd earlyEnd) (length r)) r
+      → Holds whole (rangeTo (cond (x .atEnd) lateEnd earlyEnd) (length r)) r
   timers-hold {r} early late = go (x .atEnd) refl
     where
-      go : (b : Bool) → x .atEnd ≡ b → Holds whole (rowsTo (cond (x .atEnd) lateEnd earlyEnd) (length r)) r
+      go : (b : Bool) → x .atEnd ≡ b → Holds whole (rangeTo (cond (x .atEnd) lateEnd earlyEnd) (length r)) r
       go true z =
-          let size : length (timers₁ ++ (x .objects ++ names₂)) ≡ cond (x .atEnd) 0 (length (x .early)) + (length (x .objects) + cond (x .inFront) 0 (length (x .saved))) = rw (length-append timers₁ (x .objects ++ names₂), length-append (x .objects) names₂, second-length (x .atEnd) (x .early), second-length (x .inFront) (x .saved)) in
+          let size : length (timers₁ ++ (x .objects ++ names₂)) ≡ cond (x .atEnd) 0 (length (x .early)) + (length (x .objects) + cond (x .inFront) 0 (length (x .nameMapping))) = rw (length-append timers₁ (x .objects ++ names₂), length-append (x .objects) names₂, second-length (x .atEnd) (x .early), second-length (x .inFront) (x .nameMapping)) in
           let end : length (toNodes ++ (x .metadata ++ (timers₁ ++ (x .objects ++ names₂)))) ≡ namesEnd = rw (to-size (timers₁ ++ (x .objects ++ names₂))) (omega arith) in
           rows-hold whole (toNodes ++ (x .metadata ++ (timers₁ ++ (x .objects ++ names₂)))) (x .late) [] _ (rw z (simp (append-assoc, append-nil))) (late z) (rw (end, z))
       go false z =
@@ -229,13 +229,13 @@ unfolding nothing
 same-first true f x u = refl
 same-first false f x u = refl
 
-early-slot : (v : ℕ) (k : Timers) → earlyTimers v .encode (cond (since 25 v) untimed k) ≡ cond (since 25 v) [] (earlyTimers v .encode k)
+early-slot : (v : ℕ) (k : Timers) → earlyTimers v .encode (cond (since 25 v) noTimers k) ≡ cond (since 25 v) [] (earlyTimers v .encode k)
 unfolding earlyTimers
-early-slot v k = same-second (since 25 v) _ k untimed
+early-slot v k = same-second (since 25 v) _ k noTimers
 
-late-slot : (v : ℕ) (k : Timers) → lateTimers v .encode (cond (since 25 v) k untimed) ≡ cond (since 25 v) (lateTimers v .encode k) []
+late-slot : (v : ℕ) (k : Timers) → lateTimers v .encode (cond (since 25 v) k noTimers) ≡ cond (since 25 v) (lateTimers v .encode k) []
 unfolding lateTimers
-late-slot v k = same-first (since 25 v) _ k untimed
+late-slot v k = same-first (since 25 v) _ k noTimers
 
 module _ (b : Block) where
   abbrev v : ℕ
@@ -246,7 +246,7 @@ module _ (b : Block) where
     inFront = since 29 v;
     atEnd = since 25 v;
     opening = opening .encode (openingOf b);
-    saved = saved all .encode (savedOf b);
+    nameMapping = nameMapping all .encode (nameMappingOf b);
     nodes = nodes v .encode (b .nodes);
     metadata = metadata v .encode (b .metadata);
     early = earlyTimers v .encode (timersOf b);
@@ -254,16 +254,16 @@ module _ (b : Block) where
     late = lateTimers v .encode (timersOf b);
   }
 
-  block-laid : block all .encode b ≡ whole pieces
-  unfolding block along steps front rest _⨾_
-  block-laid = rw (slot-first (since 29 v) (saved all) (savedOf b) unsaved, slot-second (since 29 v) (saved all) (savedOf b) unsaved, early-slot v (timersOf b), late-slot v (timersOf b))
+  block-overwrite : block all .encode b ≡ whole pieces
+  unfolding block iso steps front rest _⨾_
+  block-overwrite = rw (slot-first (since 29 v) (nameMapping all) (nameMappingOf b) noMapping, slot-second (since 29 v) (nameMapping all) (nameMappingOf b) noMapping, early-slot v (timersOf b), late-slot v (timersOf b))
 
   nodes-ok : block all .Ok b → nodes v .Ok (b .nodes)
-  unfolding block along steps front _⨾_
+  unfolding block iso steps front _⨾_
   nodes-ok h = h .0 .1 .1
 
   early-ok : block all .Ok b → since 25 v ≡ false → earlyTimers v .Ok (timersOf b)
-  unfolding block along steps rest _⨾_
+  unfolding block iso steps rest _⨾_
   early-ok h z = rw z at (h .1 .1 .0)
 
 -- ---- a block that was read
@@ -271,13 +271,13 @@ module _ (s : List ℕ) (b : Block) (n : ℕ) (w : Bytes s) (h : block all .read
   abbrev version : ℕ
   version = b .head .version
 
-  took : Took (block all .Ok) (block all .encode) s b n
+  took : Parsed (block all .Ok) (block all .encode) s b n
   took = block all .backward s b n w h
 
   nodes-read : nodes version .read (drop (frontNamesEnd b) s) ≡ done (b .nodes) (length (nodes version .encode (b .nodes)))
   nodes-read =
       let behind = metadata version .encode (b .metadata) ++ behindMetadata (pieces b) in
-      ap (λ (x : List ℕ). nodes version .read (drop (frontNamesEnd b) x)) (took .front ∙ ap (λ (x : List ℕ). x ++ drop n s) (block-laid b))
+      ap (λ (x : List ℕ). nodes version .read (drop (frontNamesEnd b) x)) (took .front ∙ ap (λ (x : List ℕ). x ++ drop n s) (block-overwrite b))
       ∙ ap (nodes version .read) (nodes-lie (pieces b) (drop n s))
       ∙ nodes version .forward (b .nodes) (nodes-ok b (took .ok)) (behind ++ drop n s)
 
@@ -297,7 +297,7 @@ param0-there s b n w h i k =
     let end : suc i * width v ≤ 4096 * width v = mul-le-mul-right (width v) k in
     let room : width v ≤ length (drop (param0At b i) s) = rw length-drop (omega (arith, lists-inside s b n w h, suc-mul i (width v), mul-comm i (width v))) in
     number-done fault.Ends (width v) (drop (param0At b i) s) room
-    ∙ ap (λ (x : List ℕ). done (spelt 0 (take (width v) x)) (width v)) (sym at)
+    ∙ ap (λ (x : List ℕ). done (fromBE 0 (take (width v) x)) (width v)) (sym at)
     ∙ ap (λ (x : ℕ). done x (width v)) (sym (ap (λ (x : Nodes). getD (x .param0) i 0) (lists-there s b n w h) ∙ entries-at (width v) 4096 (drop (listsAt b) s) i k))
 
 -- ---- a block that is taken
@@ -305,18 +305,18 @@ module _ (s : List ℕ) (b : Block) (n : ℕ) (w : Bytes s) (h : verdict all s �
   ok : block all .Ok b
   ok = valid-is-ok b .0 (taken s b n w .0 h .0) .0
 
-  bytes-laid : s ≡ whole (pieces b)
-  bytes-laid = taken s b n w .0 h .1 ∙ block-laid b
+  bytes-overwrite : s ≡ whole (pieces b)
+  bytes-overwrite = taken s b n w .0 h .1 ∙ block-overwrite b
 
   rows-in : RowsIn (whole (pieces b)) b
   unfolding sections
   rows-in =
       let v = b .head .version in record {
-        names = names-hold (pieces b) (names-ending (savedOf b));
+        names = names-hold (pieces b) (names-ending (nameMappingOf b));
         metadata = metadata-holds (pieces b) (metadata-ending v (b .metadata));
         objects = objects-hold (pieces b) (objects-ending (b .objects));
         timers = timers-hold (pieces b) (λ z. early-ending v (timersOf b) (early-ok b ok z)) (late-ending v (timersOf b));
       }
 
 pub sections-are-rows : SectionsAreRows
-sections-are-rows s b n w h = subst⁻¹ (λ (x : List ℕ). RowsIn x b) (bytes-laid s b n w h) (rows-in s b n w h)
+sections-are-rows s b n w h = subst⁻¹ (λ (x : List ℕ). RowsIn x b) (bytes-overwrite s b n w h) (rows-in s b n w h)

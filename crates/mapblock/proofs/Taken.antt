@@ -10,11 +10,11 @@ use lib.Dec.{eqb, lit<, lit≤}
 use lib.ListN.{length, getD, replicate, length-replicate, getD-replicate}
 use borrow.Author.Tests.{eqb-true, eq-eqb}
 use Rattle.wire.specs.Bytes.{Bytes, bytes-nil, bytes-cons}
-use Rattle.wire.specs.Read.{done, refused, never, bind-done, cond-done}
+use Rattle.wire.specs.Read.{done, refused, not-done, bind-done, cond-done}
 use Rattle.wire.proofs.EveryFormat.{every-format}
 use Rattle.mapblock.specs.Data.{Block}
 use Rattle.mapblock.specs.Layout.{since, all}
-use Rattle.mapblock.specs.Block.{block, contentId, stray, judged, verdict}
+use Rattle.mapblock.specs.Block.{block, contentId, firstUnmapped, judged, verdict}
 use Rattle.mapblock.specs.Valid.{U32, Entries, Valid}
 use Rattle.mapblock.specs.Theorems.{Reader, TakenBy, Taken, WritesBack, ReadsBack, GivesOne, TakesTwo, ShutOut}
 use Rattle.mapblock.specs.declared.fault.Fault.the-variants as fault
@@ -23,7 +23,7 @@ use Rattle.mapblock.proofs.ValidOk.{valid-is-ok}
 -- ---- taken
 judged-done : (b c : Block) (n m : ℕ) (o : Option ℕ) → judged all b n o ≡ done c m → (o ≡ none) × (b ≡ c) × (n ≡ m)
 judged-done b c n m none h = (refl, (cc), (cc))
-judged-done b c n m (some i) h = never h
+judged-done b c n m (some i) h = not-done h
 
 pub taken : Taken
 unfolding verdict
@@ -31,13 +31,13 @@ taken s b n w = (there, back)
   where
     there : verdict all s ≡ done b n → Valid b × (s ≡ block all .encode b) × (n ≡ length s)
     there h =
-        let x = bind-done (block all .read s) (λ b n. cond (eqb n (length s)) (judged all b n (stray all b)) (refused fault.BytesAfter n)) b n h in
-        let y = cond-done (eqb (x .1) (length s)) (judged all (x .0) (x .1) (stray all (x .0))) fault.BytesAfter (x .1) b n (x .3) in
-        let z = judged-done (x .0) b (x .1) n (stray all (x .0)) (y .1) in
+        let x = bind-done (block all .read s) (λ b n. cond (eqb n (length s)) (judged all b n (firstUnmapped all b)) (refused fault.BytesAfter n)) b n h in
+        let y = cond-done (eqb (x .1) (length s)) (judged all (x .0) (x .1) (firstUnmapped all (x .0))) fault.BytesAfter (x .1) b n (x .3) in
+        let z = judged-done (x .0) b (x .1) n (firstUnmapped all (x .0)) (y .1) in
         let size : x .1 ≡ length s = eqb-true (x .1) (length s) (y .0) in
         let r : block all .read s ≡ done b (length s) = x .2 ∙ ap (λ (c : Block). done c (x .1)) (z .1) ∙ ap (done b) size in
         let k = every-format (block all) .accepted s b w .0 r in
-        (valid-is-ok b .1 (k .0, ap (stray all) (sym (z .1)) ∙ z .0), k .1, sym (z .2) ∙ size)
+        (valid-is-ok b .1 (k .0, ap (firstUnmapped all) (sym (z .1)) ∙ z .0), k .1, sym (z .2) ∙ size)
 
     back : Valid b × (s ≡ block all .encode b) × (n ≡ length s) → verdict all s ≡ done b n
     back (g, e, size) =
@@ -148,7 +148,7 @@ takes-two r t v h k =
     }
 
 pub shut-out : ShutOut
-shut-out r t = ((λ h. let x = h (two .s₁) (two .bytes₁) in never (sym (x .2) ∙ two .taken₁)), one, takes-two r t)
+shut-out r t = ((λ h. let x = h (two .s₁) (two .bytes₁) in not-done (sym (x .2) ∙ two .taken₁)), one, takes-two r t)
   where
     two : TakesTwo 29 r
     two = takes-two r t 29 (lit≤ tt) (lit≤ tt)

@@ -9,13 +9,13 @@ use native.Mathlib.Omega.{arith}
 use lib.Dec.{leb, eqb, lit<}
 use lib.ListN.{length, getD}
 use borrow.Author.Tests.{le-leb, lt-leb, leb-true, eqb-true, eqb-false}
-use Rattle.wire.specs.Choice.{and-yes, yes-and}
-use Rattle.wire.specs.Format.{nothing, such, _⨾_, along, items, OkItems, items-length}
+use Rattle.wire.proofs.Tests.{and-yes, yes-and}
+use Rattle.wire.specs.Format.{nothing, refine, _⨾_, iso, items, OkItems, items-length}
 use Rattle.wire.specs.Formats.{number, u16, fixed, listed, times, only}
 use Rattle.mapblock.specs.Inventory.{Form}
-use Rattle.mapblock.specs.Data.{NameRow, MetadataRow, ObjectRow, TimerRow, Nodes, Opening, Saved, Timers, Block, unsaved, untimed}
-use Rattle.mapblock.specs.Layout.{since, all, unmapped, nameRow, metadataRow, objectRow, timerRow, saved, width, params, nodes, metadata, objects, earlyTimers, lateTimers, opening, front, rest, steps}
-use Rattle.mapblock.specs.Block.{openingOf, savedOf, timersOf, block, idAt, stray}
+use Rattle.mapblock.specs.Data.{NameRow, MetadataRow, ObjectRow, TimerRow, Nodes, Opening, NameMapping, Timers, Block, noMapping, noTimers}
+use Rattle.mapblock.specs.Layout.{since, all, unmapped, nameRow, metadataRow, objectRow, timerRow, nameMapping, width, params, nodes, metadata, objects, earlyTimers, lateTimers, opening, front, rest, steps}
+use Rattle.mapblock.specs.Block.{openingOf, nameMappingOf, timersOf, block, idAt, firstUnmapped}
 use Rattle.mapblock.specs.Valid.{Has, Distinct, U8, U16, U32, NameGood, MetadataGood, ObjectGood, TimerGood, Rows, Entries, NodesGood, Valid}
 use Rattle.mapblock.specs.Theorems.{ValidIsOk}
 use Rattle.mapblock.specs.declared.fault.Fault.the-variants as fault
@@ -43,14 +43,14 @@ record TimersGood (v : ℕ) (k : Timers) : Type 0 where
   of-24 : v ≡ 24 → k .byte ≡ 0 → k .rows ≡ []
 
 late-ok : (v : ℕ) (k : Timers) → 25 ≤ v → lateTimers v .Ok k ↔ ((k .byte ≡ 0) × Timed (k .rows))
-unfolding lateTimers along _⨾_ nothing
+unfolding lateTimers iso _⨾_ nothing
 late-ok v k h =
     let rows = fixed-ok 1 10 fault.TimerRowLength (listed 2 timerRow) (k .rows) (omega arith) in
     let keyed = rows-ok place TimerGood timerRow timer-ok (k .rows) in
     ((λ x. let y = rw (le-leb 25 v h) at x in (y .0, keyed .0 (rows .0 (y .1)))), (λ x. rw (le-leb 25 v h) (x .0, rows .1 (keyed .1 (x .1)))))
 
 of-24-ok : (k : Timers) → earlyTimers 24 .Ok k ↔ TimersGood 24 k
-unfolding earlyTimers along _⨾_ nothing such number
+unfolding earlyTimers iso _⨾_ nothing refine number
 of-24-ok k = ((λ h. there (eqb (k .byte) 1) refl (leb-true _ _ (h .0 .1)) (h .1)), λ g. ((omega (arith, g .byte), le-leb _ _ (g .byte)), back g (eqb (k .byte) 1) refl))
   where
     there : (c : Bool) → eqb (k .byte) 1 ≡ c → k .byte ≤ 1 → only c [] (listed 2 timerRow) .Ok (k .rows) → TimersGood 24 k
@@ -67,26 +67,26 @@ of-24-ok k = ((λ h. there (eqb (k .byte) 1) refl (leb-true _ _ (h .0 .1)) (h .1
     back g true e = rows-ok place TimerGood timerRow timer-ok (k .rows) .1 (g .timed)
     back g false e = g .of-24 refl (let n = eqb-false (k .byte) 1 e in omega (arith, g .byte))
 
-before-24-ok : (v : ℕ) (k : Timers) → v < 24 → earlyTimers v .Ok k ↔ (k ≡ untimed)
+before-24-ok : (v : ℕ) (k : Timers) → v < 24 → earlyTimers v .Ok k ↔ (k ≡ noTimers)
 unfolding earlyTimers nothing
 before-24-ok v k h =
     let late : leb 25 v ≡ false = lt-leb 25 v (omega arith) in
     ((λ x. by (leb 23 v) .0 (rw (late, lt-leb 24 v h) at x)), (λ e. rw (late, lt-leb 24 v h) (by (leb 23 v) .1 e)))
   where
-    by : (c : Bool) → cond c (fixed 1 0 fault.ByteOf23 (nothing {ends = fault.Ends} untimed)) (nothing untimed) .Ok k ↔ (k ≡ untimed)
-    by true = fixed-ok 1 0 fault.ByteOf23 (nothing untimed) k (omega arith)
+    by : (c : Bool) → cond c (fixed 1 0 fault.ByteOf23 (nothing {ends = fault.Ends} noTimers)) (nothing noTimers) .Ok k ↔ (k ≡ noTimers)
+    by true = fixed-ok 1 0 fault.ByteOf23 (nothing noTimers) k (omega arith)
     by false = ((λ e. e), λ e. e)
 
-no-early : (v : ℕ) → 25 ≤ v → earlyTimers v .Ok untimed
+no-early : (v : ℕ) → 25 ≤ v → earlyTimers v .Ok noTimers
 unfolding earlyTimers nothing
 no-early v h = rw (le-leb 25 v h)
 
-no-late : (v : ℕ) → v < 25 → lateTimers v .Ok untimed
+no-late : (v : ℕ) → v < 25 → lateTimers v .Ok noTimers
 unfolding lateTimers nothing
 no-late v h = rw (lt-leb 25 v h)
 
 -- where the version has them
-timers-there : (v : ℕ) (k : Timers) → earlyTimers v .Ok (cond (since 25 v) untimed k) → lateTimers v .Ok (cond (since 25 v) k untimed) → TimersGood v k
+timers-there : (v : ℕ) (k : Timers) → earlyTimers v .Ok (cond (since 25 v) noTimers k) → lateTimers v .Ok (cond (since 25 v) k noTimers) → TimersGood v k
 timers-there v k e l = either 25 v late (λ h. either 24 v (of-24 h) (old h))
   where
     late : 25 ≤ v → TimersGood v k
@@ -101,15 +101,15 @@ timers-there v k e l = either 25 v late (λ h. either 24 v (of-24 h) (old h))
 
     old : v < 25 → v < 24 → TimersGood v k
     old h i =
-        let x : k ≡ untimed = before-24-ok v k i .0 (rw (lt-leb 25 v h) at e) in
+        let x : k ≡ noTimers = before-24-ok v k i .0 (rw (lt-leb 25 v h) at e) in
         let rows : k .rows ≡ [] = ap (λ (k : Timers). k .rows) x in
         let byte : k .byte ≡ 0 = ap (λ (k : Timers). k .byte) x in
         record { timed = timed-none (k .rows) rows; byte = omega arith; except-24 = λ _. byte; before-24 = λ _. rows; of-24 = λ _ _. rows }
 
-timers-back : (v : ℕ) (k : Timers) → TimersGood v k → earlyTimers v .Ok (cond (since 25 v) untimed k) × lateTimers v .Ok (cond (since 25 v) k untimed)
+timers-back : (v : ℕ) (k : Timers) → TimersGood v k → earlyTimers v .Ok (cond (since 25 v) noTimers k) × lateTimers v .Ok (cond (since 25 v) k noTimers)
 timers-back v k g = either 25 v late (λ h. rw (lt-leb 25 v h) (either 24 v (of-24 h) old, no-late v h))
   where
-    late : 25 ≤ v → earlyTimers v .Ok (cond (since 25 v) untimed k) × lateTimers v .Ok (cond (since 25 v) k untimed)
+    late : 25 ≤ v → earlyTimers v .Ok (cond (since 25 v) noTimers k) × lateTimers v .Ok (cond (since 25 v) k noTimers)
     late h = rw (le-leb 25 v h) (no-early v h, late-ok v k h .1 (g .except-24 (λ z. absurd (omega arith)), g .timed))
 
     of-24 : v < 25 → 24 ≤ v → earlyTimers v .Ok k
@@ -124,14 +124,14 @@ timers-back v k g = either 25 v late (λ h. rw (lt-leb 25 v h) (either 24 v (of-
 
 -- ---- the node data
 entries-there : (w k : ℕ) (seen l : List ℕ) → OkItems (λ _. number {ends = fault.Ends} w) k seen l → (i : ℕ) → i < k → getD l i 0 < 256 ^ w
-unfolding number along
+unfolding number iso
 entries-there w zero seen l h i n = absurd (omega arith)
 entries-there w (suc k) seen [] h i n = absurd h
 entries-there w (suc k) seen (a ∷ l) h zero n = h .0
 entries-there w (suc k) seen (a ∷ l) h (suc i) n = entries-there w k (a ∷ seen) l (h .1) i (omega arith)
 
 entries-back : (w k : ℕ) (seen l : List ℕ) → length l ≡ k → ((i : ℕ) → i < k → getD l i 0 < 256 ^ w) → OkItems (λ _. number {ends = fault.Ends} w) k seen l
-unfolding number along
+unfolding number iso
 entries-back w zero seen [] e h = tt
 entries-back w zero seen (a ∷ l) e h = absurd (omega arith)
 entries-back w (suc k) seen [] e h = absurd (omega arith)
@@ -145,7 +145,7 @@ entries-ok w l = (
 )
 
 pub nodes-ok : (v : ℕ) (n : Nodes) → nodes v .Ok n ↔ NodesGood v n
-unfolding nodes params along _⨾_
+unfolding nodes params iso _⨾_
 nodes-ok v n = (there, back)
   where
     small : width v < 256
@@ -173,16 +173,16 @@ abbrev idOf : NameRow → ℕ
 idOf r = r .id
 
 -- no node is stray exactly where every id is mapped
-mapped-there : (b : Block) → stray all b ≡ none → (i : ℕ) → i < 4096 → Has idOf (idAt b i) (b .names)
+mapped-there : (b : Block) → firstUnmapped all b ≡ none → (i : ℕ) → i < 4096 → Has idOf (idAt b i) (b .names)
 mapped-there b h i k = used-has idOf (b .names) (idAt b i) (none-fails (λ i. unmapped all (b .names) (idAt b i)) 4096 0 h i (omega arith) k)
 
-mapped-back : (b : Block) → ((i : ℕ) → i < 4096 → Has idOf (idAt b i) (b .names)) → stray all b ≡ none
+mapped-back : (b : Block) → ((i : ℕ) → i < 4096 → Has idOf (idAt b i) (b .names)) → firstUnmapped all b ≡ none
 mapped-back b h = first-none (λ i. unmapped all (b .names) (idAt b i)) 4096 0 (λ i _ k. has-used idOf (b .names) (idAt b i) (h i k))
 
 -- ---- the other parts
-saved-ok : (x : Saved) → saved all .Ok x ↔ (U32 (x .timestamp) × (Rows NameGood (x .names) × Distinct idOf (x .names)))
-unfolding saved along _⨾_ number
-saved-ok x =
+name-mapping-ok : (x : NameMapping) → nameMapping all .Ok x ↔ (U32 (x .timestamp) × (Rows NameGood (x .names) × Distinct idOf (x .names)))
+unfolding nameMapping iso _⨾_ number
+name-mapping-ok x =
     let list = fixed-ok 1 0 fault.MappingVersion (listed 2 (nameRow all)) (x .names) (omega arith) in
     let rows = rows-ok idOf NameGood (nameRow all) name-ok (x .names) in
     ((λ h. (h .0, rows .0 (list .0 (h .1)))), λ h. (h .0, list .1 (rows .1 (h .1))))
@@ -220,7 +220,7 @@ record OpeningGood (o : Opening) : Type 0 where
   before-27 : o .version < 27 → o .lighting ≡ 65535
 
 opening-ok : (o : Opening) → opening .Ok o ↔ OpeningGood o
-unfolding opening along _⨾_ such number
+unfolding opening iso _⨾_ refine number
 opening-ok o = (there, back)
   where
     there : opening .Ok o → OpeningGood o
@@ -242,16 +242,16 @@ opening-ok o = (there, back)
 
 -- ---- the block
 pub valid-is-ok : ValidIsOk
-unfolding block along steps front rest _⨾_
+unfolding block iso steps front rest _⨾_
 valid-is-ok b = (there, back)
   where
     v : ℕ
     v = b .head .version
 
-    there : Valid b → block all .Ok b × (stray all b ≡ none)
+    there : Valid b → block all .Ok b × (firstUnmapped all b ≡ none)
     there g =
         let h = g .head in
-        let names = slot-ok (saved all) unsaved (savedOf b) (since 29 v) .1 (saved-ok (savedOf b) .1 (h .timestamp, (g .names, g .ids-distinct))) in
+        let names = slot-ok (nameMapping all) noMapping (nameMappingOf b) (since 29 v) .1 (name-mapping-ok (nameMappingOf b) .1 (h .timestamp, (g .names, g .ids-distinct))) in
         let k = timers-back v (timersOf b) record {
           timed = (g .timers, g .timers-distinct);
           byte = h .timer;
@@ -267,10 +267,10 @@ valid-is-ok b = (there, back)
           mapped-back b (g .ids-mapped),
         )
 
-    back : block all .Ok b × (stray all b ≡ none) → Valid b
+    back : block all .Ok b × (firstUnmapped all b ≡ none) → Valid b
     back (h, m) =
         let o = opening-ok (openingOf b) .0 (h .0 .0) in
-        let names = saved-ok (savedOf b) .0 (slot-ok (saved all) unsaved (savedOf b) (since 29 v) .0 (h .0 .1 .0, h .1 .1 .1 .1 .0)) in
+        let names = name-mapping-ok (nameMappingOf b) .0 (slot-ok (nameMapping all) noMapping (nameMappingOf b) (since 29 v) .0 (h .0 .1 .0, h .1 .1 .1 .1 .0)) in
         let d = metadata-ok v (b .metadata) .0 (h .1 .0) in
         let k = timers-there v (timersOf b) (h .1 .1 .0) (h .1 .1 .1 .1 .1) in
         record {

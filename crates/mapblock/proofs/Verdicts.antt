@@ -10,36 +10,36 @@ use lib.ListN.{length, drop, length-drop}
 use lib.Seq.{drop-drop}
 use borrow.Author.Tests.{eq-eqb, ne-eqb}
 use Rattle.wire.specs.Bytes.{Bytes, bytes-drop}
-use Rattle.wire.specs.Read.{Read, done, refused, mapRead, onward, never, same-refusal, onward-done, onward-refused}
+use Rattle.wire.specs.Read.{Read, done, refused, mapRead, shift, not-done, same-refusal, shift-done, shift-refused}
 use Rattle.wire.specs.Format.{_⨾_, pair, ends-in}
 use Rattle.wire.specs.Formats.{_▹_}
 use Rattle.mapblock.specs.Inventory.{Form}
 use Rattle.mapblock.specs.Data.{Block, Timers}
 use Rattle.mapblock.specs.Layout.{width, lateTimers}
-use Rattle.mapblock.specs.Block.{block, stray, param0At, verdict}
-use Rattle.mapblock.specs.Params.{strayIn}
-use Rattle.mapblock.specs.Sections.{found}
-use Rattle.mapblock.specs.Scan.{withLate, Upto}
+use Rattle.mapblock.specs.Block.{block, firstUnmapped, param0At, verdict}
+use Rattle.mapblock.specs.Params.{firstUnmappedIn}
+use Rattle.mapblock.specs.Sections.{scannedOf}
+use Rattle.mapblock.specs.Scan.{withLateTimersAt, ReadUpTo}
 use Rattle.mapblock.specs.Told.{ended}
 use Rattle.mapblock.specs.declared.fault.Fault.{Fault}
 use Rattle.mapblock.specs.declared.fault.Fault.the-variants as fault
-use Rattle.mapblock.specs.declared.scan.Found.{Found}
+use Rattle.mapblock.specs.declared.scan.Scanned.{Scanned}
 use Rattle.mapblock.proofs.Readings.{ended-done, ended-refused}
-use Rattle.mapblock.proofs.Entries.{stray-same}
+use Rattle.mapblock.proofs.Entries.{firstUnmapped-same}
 
 -- ---- told from further in front
-pub onward-twice : {A B C : Type 0} (n m : ℕ) (f : B → C) (g : A → B) (r : Read Fault A) → onward n f (onward m g r) ≡ onward (n + m) (λ a. f (g a)) r
-onward-twice n m f g (done a k) = rw add-assoc
-onward-twice n m f g (refused e p) = rw add-assoc
+pub shift-twice : {A B C : Type 0} (n m : ℕ) (f : B → C) (g : A → B) (r : Read Fault A) → shift n f (shift m g r) ≡ shift (n + m) (λ a. f (g a)) r
+shift-twice n m f g (done a k) = rw add-assoc
+shift-twice n m f g (refused e p) = rw add-assoc
 
-pub map-onward : {A B C : Type 0} (n : ℕ) (f : B → C) (g : A → B) (r : Read Fault A) → mapRead f (onward n g r) ≡ onward n (λ a. f (g a)) r
-map-onward n f g (done a k) = refl
-map-onward n f g (refused e p) = refl
+pub map-shift : {A B C : Type 0} (n : ℕ) (f : B → C) (g : A → B) (r : Read Fault A) → mapRead f (shift n g r) ≡ shift n (λ a. f (g a)) r
+map-shift n f g (done a k) = refl
+map-shift n f g (refused e p) = refl
 
 -- ---- G is F, and then X
 pub record Then {A B C : Type 0} (F : Form A) (G : Form B) (X : Form C) (put : A → C → B) : Type 0 where
   pub fails : (s : List ℕ) (e : Fault) (p : ℕ) → F .read s ≡ refused e p → G .read s ≡ refused e p
-  pub goes : (s : List ℕ) (a : A) (n : ℕ) → F .read s ≡ done a n → G .read s ≡ onward n (put a) (X .read (drop n s))
+  pub goes : (s : List ℕ) (a : A) (n : ℕ) → F .read s ≡ done a n → G .read s ≡ shift n (put a) (X .read (drop n s))
 
 pub then-one : {A C : Type 0} (F : Form A) (X : Form C) → Then F (F ▹ X) X pair
 unfolding _⨾_
@@ -49,22 +49,22 @@ module _ {A B C D : Type 0} (H : Form D) (F : Form A) (G : Form B) (X : Form C) 
   more-fails : (s : List ℕ) (e : Fault) (p : ℕ) (r : Read Fault D) → H .read s ≡ r → (H ▹ F) .read s ≡ refused e p → (H ▹ G) .read s ≡ refused e p
   unfolding _⨾_
   more-fails s e p (done d n) g h =
-      let x = onward-refused n (pair d) (F .read (drop n s)) e p (rw g at h) in
+      let x = shift-refused n (pair d) (F .read (drop n s)) e p (rw g at h) in
       rw (g, t .fails (drop n s) e (x .0) (x .1), x .2)
   more-fails s e p (refused k q) g h = rw g (same-refusal {A = D × A} (rw g at h))
 
   put-on : List ℕ → D × A → ℕ → Read Fault (D × B)
-  put-on s x m = onward m (λ c. pair (x .0) (put (x .1) c)) (X .read (drop m s))
+  put-on s x m = shift m (λ c. pair (x .0) (put (x .1) c)) (X .read (drop m s))
 
   more-goes : (s : List ℕ) (x : D × A) (m : ℕ) (r : Read Fault D) → H .read s ≡ r → (H ▹ F) .read s ≡ done x m
       → (H ▹ G) .read s ≡ put-on s x m
   unfolding _⨾_ put-on
   more-goes s x m (done d n) g h =
-      let y = onward-done n (pair d) (F .read (drop n s)) x m (rw g at h) in
-      let e : (H ▹ G) .read s ≡ onward n (pair d) (onward (y .1) (put (y .0)) (X .read (drop (y .1) (drop n s)))) = rw (g, t .goes (drop n s) (y .0) (y .1) (y .2)) in
-      e ∙ onward-twice n (y .1) (pair d) (put (y .0)) (X .read (drop (y .1) (drop n s))) ∙ ap (λ (l : List ℕ). onward (n + y .1) (λ c. pair d (put (y .0) c)) (X .read l)) (drop-drop (y .1) n s)
+      let y = shift-done n (pair d) (F .read (drop n s)) x m (rw g at h) in
+      let e : (H ▹ G) .read s ≡ shift n (pair d) (shift (y .1) (put (y .0)) (X .read (drop (y .1) (drop n s)))) = rw (g, t .goes (drop n s) (y .0) (y .1) (y .2)) in
+      e ∙ shift-twice n (y .1) (pair d) (put (y .0)) (X .read (drop (y .1) (drop n s))) ∙ ap (λ (l : List ℕ). shift (n + y .1) (λ c. pair d (put (y .0) c)) (X .read l)) (drop-drop (y .1) n s)
       ∙ ap₂ (put-on s) (y .3) (y .4)
-  more-goes s x m (refused k q) g h = never {A = D × A} (rw g at h)
+  more-goes s x m (refused k q) g h = not-done {A = D × A} (rw g at h)
 
   pub then-more : Then (H ▹ F) (H ▹ G) X (λ x c. pair (x .0) (put (x .1) c))
   unfolding put-on
@@ -72,55 +72,55 @@ module _ {A B C D : Type 0} (H : Form D) (F : Form A) (G : Form B) (X : Form C) 
 
 -- ---- the verdict by what the block's reading found
 module _ (free : ℕ → Bool) (s : List ℕ) where
-  pub verdict-refused : {e : Fault} {p : ℕ} → block free .read s ≡ refused e p → refused e p ≡ mapRead found (verdict free s)
+  pub verdict-refused : {e : Fault} {p : ℕ} → block free .read s ≡ refused e p → refused e p ≡ mapRead scannedOf (verdict free s)
   unfolding verdict
   verdict-refused h = rw h
 
   module _ {b : Block} {n : ℕ} (h : block free .read s ≡ done b n) where
-    pub verdict-after : (n ≡ length s → ⊥) → refused fault.BytesAfter n ≡ mapRead found (verdict free s)
+    pub verdict-after : (n ≡ length s → ⊥) → refused fault.BytesAfter n ≡ mapRead scannedOf (verdict free s)
     unfolding verdict
     verdict-after k = rw (h, ne-eqb _ _ k)
 
-    pub verdict-stray : {i : ℕ} → n ≡ length s → stray free b ≡ some i → refused fault.IdUnmapped (param0At b i) ≡ mapRead found (verdict free s)
+    pub verdict-firstUnmapped : {i : ℕ} → n ≡ length s → firstUnmapped free b ≡ some i → refused fault.IdUnmapped (param0At b i) ≡ mapRead scannedOf (verdict free s)
     unfolding verdict
-    verdict-stray k g = rw (h, eq-eqb _ _ k, g)
+    verdict-firstUnmapped k g = rw (h, eq-eqb _ _ k, g)
 
-    pub verdict-done : n ≡ length s → stray free b ≡ none → done (found b) n ≡ mapRead found (verdict free s)
+    pub verdict-done : n ≡ length s → firstUnmapped free b ≡ none → done (scannedOf b) n ≡ mapRead scannedOf (verdict free s)
     unfolding verdict
     verdict-done k g = rw (h, eq-eqb _ _ k, g)
 
 -- ---- the end of the scan
-module _ {free : ℕ → Bool} {s : List ℕ} {w : Found} {at : ℕ} {t : List ℕ} (u : Upto free s w at t) where
+module _ {free : ℕ → Bool} {s : List ℕ} {w : Scanned} {at : ℕ} {t : List ℕ} (u : ReadUpTo free s w at t) where
   abbrev late : Read Fault Timers
   late = lateTimers (w .head .version) .read (drop at s)
 
-  pub late-refused : {e : Fault} {p : ℕ} → refused e p ≡ ended late → refused e (at + p) ≡ mapRead found (verdict free s)
-  late-refused k = verdict-refused free s (u .reads ∙ ap (onward at (u .with)) (ended-refused late k))
+  pub late-refused : {e : Fault} {p : ℕ} → refused e p ≡ ended late → refused e (at + p) ≡ mapRead scannedOf (verdict free s)
+  late-refused k = verdict-refused free s (u .reads ∙ ap (shift at (u .with)) (ended-refused late k))
 
   pub late-inside : {n : ℕ} → done tt n ≡ ended late → at + n ≤ length s
   late-inside k = omega (arith, ends-in (lateTimers (w .head .version)) (ended-done late k .1), length-drop at s, u .inside)
 
   module _ {n : ℕ} (k : done tt n ≡ ended late) where
     taken : block free .read s ≡ done (u .with (ended-done late k .0)) (at + n)
-    taken = u .reads ∙ ap (onward at (u .with)) (ended-done late k .1)
+    taken = u .reads ∙ ap (shift at (u .with)) (ended-done late k .1)
 
-    same-stray : Bytes s → stray free (u .with (ended-done late k .0)) ≡ strayIn (w .head .version) (drop (w .lists) s) t
-    same-stray b = let x = ended-done late k .0 in stray-same (u .with x) (w .head .version) (drop (w .lists) s) (u .version x) (u .nodes x) free t (u .marked x) (bytes-drop (w .lists) s b)
+    same-firstUnmapped : Bytes s → firstUnmapped free (u .with (ended-done late k .0)) ≡ firstUnmappedIn (w .head .version) (drop (w .lists) s) t
+    same-firstUnmapped b = let x = ended-done late k .0 in firstUnmapped-same (u .with x) (w .head .version) (drop (w .lists) s) (u .version x) (u .nodes x) free t (u .marked x) (bytes-drop (w .lists) s b)
 
-    pub late-after : at + n < length s → refused fault.BytesAfter (at + n) ≡ mapRead found (verdict free s)
+    pub late-after : at + n < length s → refused fault.BytesAfter (at + n) ≡ mapRead scannedOf (verdict free s)
     late-after l = verdict-after free s taken (λ e. omega arith)
 
-    pub late-stray : {i : ℕ} → Bytes s → length s ≤ at + n → some i ≡ strayIn (w .head .version) (drop (w .lists) s) t
-        → refused fault.IdUnmapped (w .lists + width (w .head .version) * i) ≡ mapRead found (verdict free s)
-    late-stray {i} b l g =
+    pub late-firstUnmapped : {i : ℕ} → Bytes s → length s ≤ at + n → some i ≡ firstUnmappedIn (w .head .version) (drop (w .lists) s) t
+        → refused fault.IdUnmapped (w .lists + width (w .head .version) * i) ≡ mapRead scannedOf (verdict free s)
+    late-firstUnmapped {i} b l g =
         let x = ended-done late k in
         let end : at + n ≡ length s = omega (arith, late-inside k) in
-        let place : param0At (u .with (x .0)) i ≡ w .lists + width (w .head .version) * i = ap₂ (λ (l v : ℕ). l + width v * i) (ap (λ (f : Found). f .lists) (u .shows (x .0) n (x .1))) (u .version (x .0)) in
-        ap (refused fault.IdUnmapped) (sym place) ∙ verdict-stray free s taken end (same-stray b ∙ sym g)
+        let place : param0At (u .with (x .0)) i ≡ w .lists + width (w .head .version) * i = ap₂ (λ (l v : ℕ). l + width v * i) (ap (λ (f : Scanned). f .lists) (u .shows (x .0) n (x .1))) (u .version (x .0)) in
+        ap (refused fault.IdUnmapped) (sym place) ∙ verdict-firstUnmapped free s taken end (same-firstUnmapped b ∙ sym g)
 
-    pub late-done : Bytes s → length s ≤ at + n → none ≡ strayIn (w .head .version) (drop (w .lists) s) t
-        → done (withLate w at n) (at + n) ≡ mapRead found (verdict free s)
+    pub late-done : Bytes s → length s ≤ at + n → none ≡ firstUnmappedIn (w .head .version) (drop (w .lists) s) t
+        → done (withLateTimersAt w at n) (at + n) ≡ mapRead scannedOf (verdict free s)
     late-done b l g =
         let x = ended-done late k in
         let end : at + n ≡ length s = omega (arith, late-inside k) in
-        ap (λ (f : Found). done f (at + n)) (sym (u .shows (x .0) n (x .1))) ∙ verdict-done free s taken end (same-stray b ∙ sym g)
+        ap (λ (f : Scanned). done f (at + n)) (sym (u .shows (x .0) n (x .1))) ∙ verdict-done free s taken end (same-firstUnmapped b ∙ sym g)

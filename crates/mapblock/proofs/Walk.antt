@@ -6,23 +6,24 @@ use mathlib.Core.List.{List, [], _∷_, _++_, map}
 use lib.ListN.{length, drop}
 use lib.Seq.{drop-append-seam}
 use borrow.Author.Tests.{le-leb, ne-eqb}
-use Rattle.wire.specs.Lists.{nil-is}
-use Rattle.wire.specs.Choice.{yes-and}
+use Rattle.wire.proofs.Lists.{nil-is}
+use Rattle.wire.proofs.Tests.{yes-and}
 use Rattle.wire.specs.Bytes.{Bytes, bytes-take, bytes-drop}
-use Rattle.wire.specs.Read.{Misread, at-place, done, mapRead, never}
-use Rattle.wire.specs.Format.{run, such, _⨾_, along, encodeItems}
+use Rattle.wire.specs.Read.{Misread, at-place, done, mapRead, not-done}
+use Rattle.wire.specs.Format.{run, refine, _⨾_, iso, encodeItems}
 use Rattle.wire.specs.Formats.{number}
 use Rattle.wire.specs.Answer.{Answer, good}
-use Rattle.wire.specs.Walk.{GivesRows, walk-rows, walk-ends, rowsBehind}
+use Rattle.wire.specs.Walk.{GivesRows, rowsBehind}
+use Rattle.wire.proofs.Walks.{walk-rows, walk-ends}
 use Rattle.mapblock.specs.Inventory.{Form}
 use Rattle.mapblock.specs.Data.{NameRow, MetadataRow, ObjectRow}
 use Rattle.mapblock.specs.Layout.{all, unused, isVersion, nameRow, variable, metadataRow, objectRow, timerRow}
-use Rattle.mapblock.specs.Rows.{partTold, nameFields, metadataFields, objectFields, timerFields}
-use Rattle.mapblock.specs.Sections.{within}
+use Rattle.wire.specs.Ranges.{rangeTold, bytesIn}
+use Rattle.mapblock.specs.Rows.{nameFields, metadataFields, objectFields, timerFields}
 use Rattle.mapblock.specs.RowQuestions.{frontRow, nameRowOf, metadataRowOf, objectRowOf, timerRowOf}
 use Rattle.mapblock.specs.Valid.{Each, NameGood, MetadataGood, ObjectGood, TimerGood}
 use Rattle.mapblock.specs.Theorems.{Holds, rowShown, RunsWalked, WalkGivesRows}
-use Rattle.mapblock.specs.declared.head.Part.{Part}
+use Rattle.wire.specs.declared.ranges.Range.{Range}
 use Rattle.mapblock.specs.declared.names.NameFields.{NameFields}
 use Rattle.mapblock.specs.declared.metadata.MetadataFields.{MetadataFields}
 use Rattle.mapblock.specs.declared.objects.ObjectFields.{ObjectFields}
@@ -70,7 +71,7 @@ module _ {A B : Type 0} {item : List A → Form A} {Good : A → Type 0} {fields
   some-byte s a l h z = go (q .nothing)
     where
       go : Misread (item [] .read []) → ⊥
-      go (at-place p e) = never (sym e ∙ ap (item [] .read) (sym (nil-is s z)) ∙ front-read s a l h)
+      go (at-place p e) = not-done (sym e ∙ ap (item [] .read) (sym (nil-is s z)) ∙ front-read s a l h)
 
   front-asked : (s : List ℕ) (a : A) (l : List A) → Rows s (a ∷ l) → ask s ≡ good (shown a)
   front-asked s a l h = q .front s ∙ rw (ne-eqb (length s) 0 (some-byte s a l h), front-read s a l h)
@@ -89,10 +90,10 @@ module _ {A B : Type 0} {item : List A → Form A} {Good : A → Type 0} {fields
       ∙ ap (λ (x : Answer (B × ℕ)). map (λ (a : A). good (shown a)) l ++ x ∷ []) (q .front [])
 
   -- of a run that stands where the row tells it
-  runs-walked : {s : List ℕ} {l : List A} (run : B → Part) (bytes : A → List ℕ)
+  runs-walked : {s : List ℕ} {l : List A} (run : B → Range) (bytes : A → List ℕ)
       → ((s : List ℕ) (a : A) (n : ℕ) → Bytes s → item [] .read s ≡ done a n → Holds s (run (fields a)) (bytes a)) → Rows s l → RunsWalked ask run bytes s l
   runs-walked {s} {l} run bytes there h =
-      walk-rows Rows (λ p. rowsBehind p (ask p)) (λ p. within p (partTold (λ (x : B × ℕ). run (x .0)) (ask p))) bytes no-rows
+      walk-rows Rows (λ p. rowsBehind p (ask p)) (λ p. bytesIn p (rangeTold (λ (x : B × ℕ). run (x .0)) (ask p))) bytes no-rows
       (λ s a l h. rw (front-asked s a l h) (there s a (length (item [] .encode a)) (h .are-bytes) (front-read s a l h) .bytes)) rows-behind s l h
 
 -- ---- each kind of row
@@ -106,7 +107,7 @@ name-asked = record {
 }
 
 metadata-asked : (v : ℕ) → isVersion v ≡ true → Asks (metadataRow v) (MetadataGood v) (metadataFields v) (metadataRowOf v)
-unfolding metadataRow unused along _⨾_ such number run
+unfolding metadataRow unused iso _⨾_ refine number run
 metadata-asked v h = record {
   front = λ s. rw h;
   alike = λ seen r. refl;
@@ -115,7 +116,7 @@ metadata-asked v h = record {
 }
 
 object-asked : Asks (λ _. objectRow) ObjectGood objectFields objectRowOf
-unfolding objectRow along _⨾_ number run
+unfolding objectRow iso _⨾_ number run
 object-asked = record {
   front = λ s. refl;
   alike = λ seen r. refl;
@@ -124,7 +125,7 @@ object-asked = record {
 }
 
 timer-asked : Asks timerRow TimerGood timerFields timerRowOf
-unfolding timerRow unused along _⨾_ such number run
+unfolding timerRow unused iso _⨾_ refine number run
 timer-asked = record {
   front = λ s. refl;
   alike = λ seen r. refl;
@@ -134,8 +135,8 @@ timer-asked = record {
 
 -- ---- a block that is taken
 -- a section's rows, held in its part
-section : {A : Type 0} {item : List A → Form A} {Good : A → Type 0} {s : List ℕ} {p : Part} (l : List A) → Bytes s → Holds s p (encodeItems item [] l) → Each Good l
-    → Held item Good (within s p) l
+section : {A : Type 0} {item : List A → Form A} {Good : A → Type 0} {s : List ℕ} {p : Range} (l : List A) → Bytes s → Holds s p (encodeItems item [] l) → Each Good l
+    → Held item Good (bytesIn s p) l
 section {s = s} {p = p} l w h g = record { are-bytes = bytes-take (p .length) (drop (p .start) s) (bytes-drop (p .start) s w); seen = []; rows = h .bytes; each = g }
 
 pub walk-gives-rows : WalkGivesRows

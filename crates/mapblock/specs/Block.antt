@@ -7,11 +7,11 @@ use mathlib.Core.Bool.{Bool, true, false, cond, not}
 use lib.Dec.{ltb, eqb}
 use lib.ListN.{length, getD}
 use Rattle.wire.specs.Read.{Read, done, refused, bind}
-use Rattle.wire.specs.Format.{nothing, along, _⨾_}
+use Rattle.wire.specs.Format.{nothing, iso, _⨾_}
 use Rattle.wire.specs.Formats.{only}
 use Rattle.mapblock.specs.Inventory.{Form}
-use Rattle.mapblock.specs.Data.{Block, Opening, Saved, Timers, unsaved, untimed}
-use Rattle.mapblock.specs.Layout.{since, all, unmapped, saved, opening, front, rest, earlyTimers, lateTimers, Front, Rest, steps, width}
+use Rattle.mapblock.specs.Data.{Block, Opening, NameMapping, Timers, noMapping, noTimers}
+use Rattle.mapblock.specs.Layout.{since, all, unmapped, nameMapping, opening, front, rest, earlyTimers, lateTimers, Front, Rest, steps, width}
 use Rattle.mapblock.specs.declared.fault.Fault.{Fault}
 use Rattle.mapblock.specs.declared.fault.Fault.the-variants as fault
 
@@ -33,16 +33,16 @@ built n t x =
 abbrev pub openingOf : Block → Opening
 openingOf b = record { version = b .head .version; flags = b .head .flags; lighting = b .head .lighting }
 
-abbrev pub savedOf : Block → Saved
-savedOf b = record { timestamp = b .head .timestamp; names = b .names }
+abbrev pub nameMappingOf : Block → NameMapping
+nameMappingOf b = record { timestamp = b .head .timestamp; names = b .names }
 
 abbrev pub timersOf : Block → Timers
 timersOf b = record { byte = b .head .timer; rows = b .timers }
 
 abbrev pub pieces : Bool → Bool → Block → Front × Rest
 pieces n t b = (
-  (openingOf b, (cond n (savedOf b) unsaved, b .nodes)),
-  (b .metadata, (cond t untimed (timersOf b), (b .objects, (cond n unsaved (savedOf b), cond t (timersOf b) untimed)))),
+  (openingOf b, (cond n (nameMappingOf b) noMapping, b .nodes)),
+  (b .metadata, (cond t noTimers (timersOf b), (b .objects, (cond n noMapping (nameMappingOf b), cond t (timersOf b) noTimers)))),
 )
 
 pub built-pieces : (n t : Bool) (b : Block) → built n t (pieces n t b) ≡ b
@@ -52,17 +52,17 @@ built-pieces false true b = refl
 built-pieces false false b = refl
 
 -- with other names and timers
-abbrev with4 : Front × Rest → Saved → Timers → Saved → Timers → Front × Rest
+abbrev with4 : Front × Rest → NameMapping → Timers → NameMapping → Timers → Front × Rest
 with4 x a e s l = ((x .0 .0, (a, x .0 .1 .1)), (x .1 .0, (e, (x .1 .1 .1 .0, (s, l)))))
 
-slots : (n t : Bool) (x : Front × Rest) (f g : Form Saved) (e l : Form Timers)
-    → only n unsaved f .Ok (x .0 .1 .0) → only (not n) unsaved g .Ok (x .1 .1 .1 .1 .0)
-    → only (not t) untimed e .Ok (x .1 .1 .0) → only t untimed l .Ok (x .1 .1 .1 .1 .1) → pieces n t (built n t x) ≡ x
+slots : (n t : Bool) (x : Front × Rest) (f g : Form NameMapping) (e l : Form Timers)
+    → only n noMapping f .Ok (x .0 .1 .0) → only (not n) noMapping g .Ok (x .1 .1 .1 .1 .0)
+    → only (not t) noTimers e .Ok (x .1 .1 .0) → only t noTimers l .Ok (x .1 .1 .1 .1 .1) → pieces n t (built n t x) ≡ x
 unfolding nothing
-slots true true x f g e l h i j k = ap₂ (λ (e : Timers) (s : Saved). with4 x (x .0 .1 .0) e s (x .1 .1 .1 .1 .1)) (sym j) (sym i)
-slots true false x f g e l h i j k = ap₂ (λ (l : Timers) (s : Saved). with4 x (x .0 .1 .0) (x .1 .1 .0) s l) (sym k) (sym i)
-slots false true x f g e l h i j k = ap₂ (λ (e : Timers) (s : Saved). with4 x s e (x .1 .1 .1 .1 .0) (x .1 .1 .1 .1 .1)) (sym j) (sym h)
-slots false false x f g e l h i j k = ap₂ (λ (l : Timers) (s : Saved). with4 x s (x .1 .1 .0) (x .1 .1 .1 .1 .0) l) (sym k) (sym h)
+slots true true x f g e l h i j k = ap₂ (λ (e : Timers) (s : NameMapping). with4 x (x .0 .1 .0) e s (x .1 .1 .1 .1 .1)) (sym j) (sym i)
+slots true false x f g e l h i j k = ap₂ (λ (l : Timers) (s : NameMapping). with4 x (x .0 .1 .0) (x .1 .1 .0) s l) (sym k) (sym i)
+slots false true x f g e l h i j k = ap₂ (λ (e : Timers) (s : NameMapping). with4 x s e (x .1 .1 .1 .1 .0) (x .1 .1 .1 .1 .1)) (sym j) (sym h)
+slots false false x f g e l h i j k = ap₂ (λ (l : Timers) (s : NameMapping). with4 x s (x .1 .1 .0) (x .1 .1 .1 .1 .0) l) (sym k) (sym h)
 
 -- the names and the timers stand where the version has them
 abbrev pub blockFrom : Front × Rest → Block
@@ -75,12 +75,12 @@ module _ (free : ℕ → Bool) where
   pub pieces-built : (x : Front × Rest) → steps free .Ok x → piecesOf (blockFrom x) ≡ x
   unfolding steps front rest earlyTimers lateTimers _⨾_
   pieces-built x h =
-      slots (since 29 (x .0 .0 .version)) (since 25 (x .0 .0 .version)) x (saved free) (saved free) _ _
+      slots (since 29 (x .0 .0 .version)) (since 25 (x .0 .0 .version)) x (nameMapping free) (nameMapping free) _ _
       (h .0 .1 .0) (h .1 .1 .1 .1 .0) (h .1 .1 .0) (h .1 .1 .1 .1 .1)
 
   unfoldable pub block : Form Block
   block =
-      along (λ b. steps free .Ok (piecesOf b)) blockFrom piecesOf (steps free)
+      iso (λ b. steps free .Ok (piecesOf b)) blockFrom piecesOf (steps free)
       (λ b h. (h, built-pieces (since 29 (b .head .version)) (since 25 (b .head .version)) b))
       (λ x h. (subst⁻¹ (steps free .Ok) (pieces-built x h) h, pieces-built x h))
 
@@ -94,7 +94,7 @@ idAt b i = contentId (b .head .version) (getD (b .nodes .param0) i 0) (getD (b .
 
 -- where step 2 ends
 abbrev pub frontNamesEnd : Block → ℕ
-frontNamesEnd b = length (opening .encode (openingOf b)) + cond (since 29 (b .head .version)) (length (saved all .encode (savedOf b))) 0
+frontNamesEnd b = length (opening .encode (openingOf b)) + cond (since 29 (b .head .version)) (length (nameMapping all .encode (nameMappingOf b))) 0
 
 -- where the param lists stand, behind their two widths, and the param0 of a node
 abbrev pub listsAt : Block → ℕ
@@ -111,8 +111,8 @@ firstFrom test (suc n) i = cond (test i) (some i) (firstFrom test n (suc i))
 
 module _ (free : ℕ → Bool) where
   -- the first node whose id is not mapped
-  abbrev pub stray : Block → Option ℕ
-  stray b = firstFrom (λ i. unmapped free (b .names) (idAt b i)) 4096 0
+  abbrev pub firstUnmapped : Block → Option ℕ
+  firstUnmapped b = firstFrom (λ i. unmapped free (b .names) (idAt b i)) 4096 0
 
   abbrev pub judged : Block → ℕ → Option ℕ → Read Fault Block
   judged b n none = done b n
@@ -122,4 +122,4 @@ module _ (free : ℕ → Bool) where
   unfoldable pub verdict : List ℕ → Read Fault Block
   verdict s =
       bind (block free .read s) λ b n.
-      cond (eqb n (length s)) (judged b n (stray b)) (refused fault.BytesAfter n)
+      cond (eqb n (length s)) (judged b n (firstUnmapped b)) (refused fault.BytesAfter n)

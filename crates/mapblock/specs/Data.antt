@@ -59,7 +59,7 @@ pub record Opening : Type 0 where
   pub lighting : ℕ
 
 -- step 7, and in version 29 step 2
-pub record Saved : Type 0 where
+pub record NameMapping : Type 0 where
   pub timestamp : ℕ
   pub names : List NameRow
 
@@ -69,66 +69,66 @@ pub record Timers : Type 0 where
   pub rows : List TimerRow
 
 -- where a version has none
-abbrev pub unsaved : Saved
-unsaved = record { timestamp = 0; names = [] }
+abbrev pub noMapping : NameMapping
+noMapping = record { timestamp = 0; names = [] }
 
-abbrev pub untimed : Timers
-untimed = record { byte = 0; rows = [] }
+abbrev pub noTimers : Timers
+noTimers = record { byte = 0; rows = [] }
 
 -- ---- the records, from and to nested pairs
-abbrev pub nameParts : Shape (ℕ × List ℕ) NameRow
-nameParts = record { make = λ x. record { id = x .0; name = x .1 }; parts = λ r. (r .id, r .name); there = λ r. refl; back = λ x. refl }
+abbrev pub nameShape : Shape (ℕ × List ℕ) NameRow
+nameShape = record { make = λ x. record { id = x .0; name = x .1 }; parts = λ r. (r .id, r .name); there = λ r. refl; back = λ x. refl }
 
-abbrev pub variableParts : Shape (List ℕ × (List ℕ × ℕ)) Variable
-variableParts = record {
+abbrev pub variableShape : Shape (List ℕ × (List ℕ × ℕ)) Variable
+variableShape = record {
   make = λ x. record { key = x .0; value = x .1 .0; hidden = x .1 .1 };
   parts = λ r. (r .key, (r .value, r .hidden));
   there = λ r. refl;
   back = λ x. refl;
 }
 
-abbrev pub metadataParts : Shape (ℕ × (ℕ × (List ℕ × (List Variable × List ℕ)))) MetadataRow
-metadataParts = record {
+abbrev pub metadataShape : Shape (ℕ × (ℕ × (List ℕ × (List Variable × List ℕ)))) MetadataRow
+metadataShape = record {
   make = λ x. record { position = x .0; kind = x .1 .0; content = x .1 .1 .0; variables = x .1 .1 .1 .0; inventory = x .1 .1 .1 .1 };
   parts = λ r. (r .position, (r .kind, (r .content, (r .variables, r .inventory))));
   there = λ r. refl;
   back = λ x. refl;
 }
 
-abbrev pub objectParts : Shape (ℕ × (ℤ × (ℤ × (ℤ × List ℕ)))) ObjectRow
-objectParts = record {
+abbrev pub objectShape : Shape (ℕ × (ℤ × (ℤ × (ℤ × List ℕ)))) ObjectRow
+objectShape = record {
   make = λ x. record { kind = x .0; x = x .1 .0; y = x .1 .1 .0; z = x .1 .1 .1 .0; content = x .1 .1 .1 .1 };
   parts = λ r. (r .kind, (r .x, (r .y, (r .z, r .content))));
   there = λ r. refl;
   back = λ x. refl;
 }
 
-abbrev pub timerParts : Shape (ℕ × (ℤ × ℤ)) TimerRow
-timerParts = record {
+abbrev pub timerShape : Shape (ℕ × (ℤ × ℤ)) TimerRow
+timerShape = record {
   make = λ x. record { position = x .0; timeout = x .1 .0; elapsed = x .1 .1 };
   parts = λ r. (r .position, (r .timeout, r .elapsed));
   there = λ r. refl;
   back = λ x. refl;
 }
 
-abbrev pub nodeParts : Shape (List ℕ × (List ℕ × List ℕ)) Nodes
-nodeParts = record {
+abbrev pub nodeShape : Shape (List ℕ × (List ℕ × List ℕ)) Nodes
+nodeShape = record {
   make = λ x. record { param0 = x .0; param1 = x .1 .0; param2 = x .1 .1 };
   parts = λ r. (r .param0, (r .param1, r .param2));
   there = λ r. refl;
   back = λ x. refl;
 }
 
-abbrev pub openingParts : Shape (ℕ × (ℕ × ℕ)) Opening
-openingParts = record {
+abbrev pub openingShape : Shape (ℕ × (ℕ × ℕ)) Opening
+openingShape = record {
   make = λ x. record { version = x .0; flags = x .1 .0; lighting = x .1 .1 };
   parts = λ r. (r .version, (r .flags, r .lighting));
   there = λ r. refl;
   back = λ x. refl;
 }
 
-abbrev pub savedParts : Shape (ℕ × List NameRow) Saved
-savedParts = record { make = λ x. record { timestamp = x .0; names = x .1 }; parts = λ r. (r .timestamp, r .names); there = λ r. refl; back = λ x. refl }
+abbrev pub nameMappingShape : Shape (ℕ × List NameRow) NameMapping
+nameMappingShape = record { make = λ x. record { timestamp = x .0; names = x .1 }; parts = λ r. (r .timestamp, r .names); there = λ r. refl; back = λ x. refl }
 
-abbrev pub timersParts : Shape (ℕ × List TimerRow) Timers
-timersParts = record { make = λ x. record { byte = x .0; rows = x .1 }; parts = λ r. (r .byte, r .rows); there = λ r. refl; back = λ x. refl }
+abbrev pub timersShape : Shape (ℕ × List TimerRow) Timers
+timersShape = record { make = λ x. record { byte = x .0; rows = x .1 }; parts = λ r. (r .byte, r .rows); there = λ r. refl; back = λ x. refl }

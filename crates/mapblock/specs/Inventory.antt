@@ -12,8 +12,8 @@ use lib.Seq.{length-take-le, take-append-seam}
 use Rattle.wire.specs.Choice.{cond-yes}
 use Rattle.wire.specs.Bytes.{Bytes, bytes-take}
 use Rattle.wire.specs.Marks.{starts, starts-long, starts-append}
-use Rattle.wire.specs.Read.{Read, done, refused, reach, never}
-use Rattle.wire.specs.Format.{Format, Took, moved}
+use Rattle.wire.specs.Read.{Read, done, refused, reach, not-done}
+use Rattle.wire.specs.Format.{Format, Parsed, moved}
 use Rattle.mapblock.specs.declared.fault.Fault.{Fault}
 use Rattle.mapblock.specs.declared.fault.Fault.the-variants as fault
 
@@ -108,13 +108,13 @@ through-take b (x ∷ xs) n h =
         rw (← y .2) (step (y .0) false p (i .1) e ∙ ap after (ih (y .0) (y .1)))
 
 sized-done : (s : List ℕ) (o : Option ℕ) (l : List ℕ) (n : ℕ) → sized s o ≡ done l n → (o ≡ some n) × (take n s ≡ l)
-sized-done s none l n h = never h
+sized-done s none l n h = not-done h
 sized-done s (some m) l n h = let z : m ≡ n = cc in (ap some z, let e : take m s ≡ l = cc in rw z at e)
 
 pub inventory-forward : (l t : List ℕ) → through true l ≡ some (length l) → sized (l ++ t) (through true (l ++ t)) ≡ done l (length l)
 inventory-forward l t h = rw (through-more true l t (length l) h, take-append-seam)
 
-pub inventory-backward : (s l : List ℕ) (n : ℕ) → Bytes s → sized s (through true s) ≡ done l n → Took (λ l. (through true l ≡ some (length l)) × Bytes l) (λ l. l) s l n
+pub inventory-backward : (s l : List ℕ) (n : ℕ) → Bytes s → sized s (through true s) ≡ done l n → Parsed (λ l. (through true l ≡ some (length l)) × Bytes l) (λ l. l) s l n
 inventory-backward s l n b h =
     let y = sized-done s (through true s) l n h in
     let i = through-long true s n (y .0) in
@@ -128,7 +128,7 @@ inventory-backward s l n b h =
 -- it is refused for want of its end line alone
 pub inventory-refused : (s : List ℕ) (o : Option ℕ) (e : Fault) (p : ℕ) → sized s o ≡ refused e p → e ≡ fault.Ends
 inventory-refused s none e p h = cc
-inventory-refused s (some n) e p h = never (sym h)
+inventory-refused s (some n) e p h = not-done (sym h)
 
 pub inventory-inside : (s : List ℕ) (o : Option ℕ) → through true s ≡ o → reach (sized s o) ≤ length s
 inventory-inside s none h = zero-le
@@ -143,5 +143,5 @@ inventory = record {
   inside = λ s. inventory-inside s (through true s) refl;
   forward = λ l h t. inventory-forward l t (h .0);
   backward = inventory-backward;
-  firm = λ s t e p b h. inl (inventory-refused s (through true s) e p h);
+  stableRefusal = λ s t e p b h. inl (inventory-refused s (through true s) e p h);
 }

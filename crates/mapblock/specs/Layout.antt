@@ -4,10 +4,10 @@ use Prim.Native.Nat.{ℕ}
 use mathlib.Core.List.{List, [], _∷_}
 use mathlib.Core.Bool.{Bool, true, false, cond, not, _&&_}
 use lib.Dec.{leb, eqb}
-use Rattle.wire.specs.Format.{nothing, such, _⨾_}
-use Rattle.wire.specs.Formats.{_▹_, u8, u16, u32, s32, number, counted, listed, fixed, times, only, into}
+use Rattle.wire.specs.Format.{nothing, refine, _⨾_}
+use Rattle.wire.specs.Formats.{_▹_, u8, u16, u32, s32, number, prefixed, listed, fixed, times, only, into}
 use Rattle.mapblock.specs.Inventory.{Form, inventory}
-use Rattle.mapblock.specs.Data.{NameRow, Variable, MetadataRow, ObjectRow, TimerRow, Nodes, Opening, Saved, Timers, unsaved, untimed, nameParts, variableParts, metadataParts, objectParts, timerParts, nodeParts, openingParts, savedParts, timersParts}
+use Rattle.mapblock.specs.Data.{NameRow, Variable, MetadataRow, ObjectRow, TimerRow, Nodes, Opening, NameMapping, Timers, noMapping, noTimers, nameShape, variableShape, metadataShape, objectShape, timerShape, nodeShape, openingShape, nameMappingShape, timersShape}
 use Rattle.mapblock.specs.declared.fault.Fault.the-variants as fault
 
 abbrev pub since : ℕ → ℕ → Bool
@@ -31,37 +31,37 @@ abbrev pub all : ℕ → Bool
 all n = true
 
 abbrev pub position : Form ℕ
-position = such (λ p. leb p 4095) fault.PositionAbove u16
+position = refine (λ p. leb p 4095) fault.PositionAbove u16
 
 abbrev pub newPosition : {A : Type 0} → (A → ℕ) → List A → Form ℕ
-newPosition key seen = such (unused key all seen) fault.PositionTwice position
+newPosition key seen = refine (unused key all seen) fault.PositionTwice position
 
 abbrev pub unmapped : (ℕ → Bool) → List NameRow → ℕ → Bool
 unmapped = unused (λ (r : NameRow). r .id)
 
 -- A row is laid out over the fields that its list judges: an id, a position, the private byte of a variable.
 abbrev pub nameRowBy : Form ℕ → Form NameRow
-nameRowBy id = into nameParts
+nameRowBy id = into nameShape
     (id
-    ▹ counted 2)  -- name
+    ▹ prefixed 2)  -- name
 
 unfoldable pub nameRow : (ℕ → Bool) → List NameRow → Form NameRow
-nameRow free seen = nameRowBy (such (unmapped free seen) fault.IdTwice u16)
+nameRow free seen = nameRowBy (refine (unmapped free seen) fault.IdTwice u16)
 
 abbrev pub variableBy : Form ℕ → ℕ → Form Variable
-variableBy hidden v = into variableParts
-    (counted 2  -- key
-    ▹ counted 4  -- value
+variableBy hidden v = into variableShape
+    (prefixed 2  -- key
+    ▹ prefixed 4  -- value
     ▹ only (since 28 v) 0 hidden)  -- private
 
 unfoldable pub variable : ℕ → Form Variable
-variable v = variableBy (such (λ b. leb b 1) fault.PrivateByte u8) v
+variable v = variableBy (refine (λ b. leb b 1) fault.PrivateByte u8) v
 
 abbrev pub metadataRowBy : Form ℕ → Form Variable → ℕ → Form MetadataRow
-metadataRowBy at variable v = into metadataParts
+metadataRowBy at variable v = into metadataShape
     (at
     ▹ only (before 23 v) 0 u16  -- type
-    ▹ only (before 23 v) [] (counted 2)  -- content
+    ▹ only (before 23 v) [] (prefixed 2)  -- content
     ▹ only (since 23 v) [] (listed 4 λ _. variable)
     ▹ only (since 23 v) [] inventory)
 
@@ -69,13 +69,13 @@ unfoldable pub metadataRow : ℕ → List MetadataRow → Form MetadataRow
 metadataRow v seen = metadataRowBy (newPosition (λ (r : MetadataRow). r .position) seen) (variable v) v
 
 unfoldable pub objectRow : Form ObjectRow
-objectRow = into objectParts
+objectRow = into objectShape
     (u8  -- type
     ▹ s32 ▹ s32 ▹ s32  -- x, y, z
-    ▹ counted 2)  -- content
+    ▹ prefixed 2)  -- content
 
 abbrev pub timerRowBy : Form ℕ → Form TimerRow
-timerRowBy at = into timerParts
+timerRowBy at = into timerShape
     (at
     ▹ s32 ▹ s32)  -- timeout, elapsed
 
@@ -84,8 +84,8 @@ timerRow seen = timerRowBy (newPosition (λ (r : TimerRow). r .position) seen)
 
 -- ---- lists
 -- timestamp and names
-unfoldable pub saved : (ℕ → Bool) → Form Saved
-saved free = into savedParts
+unfoldable pub nameMapping : (ℕ → Bool) → Form NameMapping
+nameMapping free = into nameMappingShape
     (u32  -- timestamp
     ▹ fixed 1 0 fault.MappingVersion (listed 2 (nameRow free)))
 
@@ -93,7 +93,7 @@ abbrev pub width : ℕ → ℕ
 width v = cond (since 24 v) 2 1
 
 unfoldable pub params : ℕ → Form Nodes
-params v = into nodeParts
+params v = into nodeShape
     (times 4096 (number (width v))  -- param0
     ▹ times 4096 u8  -- param1
     ▹ times 4096 u8)  -- param2
@@ -109,44 +109,44 @@ objects = fixed 1 0 fault.ObjectVersion (listed 2 λ _. objectRow)
 
 -- behind the metadata: version 24's timer byte and rows, version 23's 0, else nothing
 unfoldable pub earlyTimers : ℕ → Form Timers
-earlyTimers v = only (before 25 v) untimed
-    (cond (since 24 v) (into timersParts (such (λ t. leb t 1) fault.TimerByte u8 ⨾ λ t. only (eqb t 1) [] (listed 2 timerRow)))
-    (cond (since 23 v) (fixed 1 0 fault.ByteOf23 (nothing untimed))
-    (nothing untimed)))
+earlyTimers v = only (before 25 v) noTimers
+    (cond (since 24 v) (into timersShape (refine (λ t. leb t 1) fault.TimerByte u8 ⨾ λ t. only (eqb t 1) [] (listed 2 timerRow)))
+    (cond (since 23 v) (fixed 1 0 fault.ByteOf23 (nothing noTimers))
+    (nothing noTimers)))
 
 -- at the end, from version 25
 unfoldable pub lateTimers : ℕ → Form Timers
-lateTimers v = only (since 25 v) untimed (into timersParts (nothing 0 ▹ fixed 1 10 fault.TimerRowLength (listed 2 timerRow)))
+lateTimers v = only (since 25 v) noTimers (into timersShape (nothing 0 ▹ fixed 1 10 fault.TimerRowLength (listed 2 timerRow)))
 
 -- ---- the eight steps
 abbrev pub isVersion : ℕ → Bool
 isVersion v = leb 22 v && leb v 29
 
 unfoldable pub opening : Form Opening
-opening = into openingParts
-    (such isVersion fault.Version u8 ⨾ λ v.  -- 1. version
+opening = into openingShape
+    (refine isVersion fault.Version u8 ⨾ λ v.  -- 1. version
     u8  --    flags
     ▹ only (since 27 v) 65535 u16)  --    lighting
 
 -- up to the end of the node data
 abbrev pub Front : Type 0
-Front = Opening × (Saved × Nodes)
+Front = Opening × (NameMapping × Nodes)
 
 unfoldable pub front : (ℕ → Bool) → Form Front
 front free = opening ⨾ λ o.
     let v = o .version in
-    only (since 29 v) unsaved (saved free)  -- 2. timestamp and names
+    only (since 29 v) noMapping (nameMapping free)  -- 2. timestamp and names
     ▹ nodes v  -- 3. 4. widths, params
 
 abbrev pub Rest : Type 0
-Rest = List MetadataRow × (Timers × (List ObjectRow × (Saved × Timers)))
+Rest = List MetadataRow × (Timers × (List ObjectRow × (NameMapping × Timers)))
 
 unfoldable pub rest : (ℕ → Bool) → ℕ → Form Rest
 rest free v =
     metadata v  -- 5. metadata
     ▹ earlyTimers v  --    and what follows it
     ▹ objects  -- 6. static objects
-    ▹ only (before 29 v) unsaved (saved free)  -- 7. timestamp and names
+    ▹ only (before 29 v) noMapping (nameMapping free)  -- 7. timestamp and names
     ▹ lateTimers v  -- 8. timers
 
 unfoldable pub steps : (ℕ → Bool) → Form (Front × Rest)

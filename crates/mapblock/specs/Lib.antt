@@ -16,7 +16,7 @@ pub mod AskedRows
 -- What contracts cite beside: the code's answers, its tables, and how far it has come.
 pub mod Table
 pub mod Told
-pub mod Kinds
+pub mod ListKinds
 pub mod Params
 pub mod Bounds
 pub mod Scan

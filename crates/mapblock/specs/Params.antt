@@ -6,7 +6,7 @@ use mathlib.Core.List.{List, [], _∷_}
 use mathlib.Core.Bool.{Bool, cond}
 use lib.Dec.{leb}
 use lib.ListN.{length, getD, take, drop}
-use Rattle.wire.specs.Bytes.{spelt}
+use Rattle.wire.specs.Bytes.{fromBE}
 use Rattle.mapblock.specs.Data.{Nodes}
 use Rattle.mapblock.specs.Layout.{width}
 use Rattle.mapblock.specs.Block.{contentId, firstFrom}
@@ -15,7 +15,7 @@ use Rattle.mapblock.specs.Table.{freeIn}
 -- n entries of w bytes
 unfoldable pub entries : ℕ → ℕ → List ℕ → List ℕ
 entries w zero s = []
-entries w (suc n) s = spelt 0 (take w s) ∷ entries w n (drop w s)
+entries w (suc n) s = fromBE 0 (take w s) ∷ entries w n (drop w s)
 
 -- the three lists, param0 of w bytes each
 abbrev pub listsOf : ℕ → List ℕ → Nodes
@@ -23,14 +23,14 @@ listsOf w s = record { param0 = entries w 4096 s; param1 = entries 1 4096 (drop 
 
 -- the content id of the node at an index
 abbrev pub idIn : ℕ → List ℕ → ℕ → ℕ
-idIn v s i = contentId v (spelt 0 (take (width v) (drop (width v * i) s))) (getD s (4096 * width v + 4096 + i) 0)
+idIn v s i = contentId v (fromBE 0 (take (width v) (drop (width v * i) s))) (getD s (4096 * width v + 4096 + i) 0)
 
 -- whether that has no mark in the table, and the first node of which it has none
-abbrev pub bareIn : ℕ → List ℕ → List ℕ → ℕ → Bool
-bareIn v s t i = freeIn t (idIn v s i)
+abbrev pub unmarkedIn : ℕ → List ℕ → List ℕ → ℕ → Bool
+unmarkedIn v s t i = freeIn t (idIn v s i)
 
-abbrev pub strayIn : ℕ → List ℕ → List ℕ → Option ℕ
-strayIn v s t = firstFrom (bareIn v s t) 4096 0
+abbrev pub firstUnmappedIn : ℕ → List ℕ → List ℕ → Option ℕ
+firstUnmappedIn v s t = firstFrom (unmarkedIn v s t) 4096 0
 
 -- every id up to a bound has a mark in the table
 abbrev pub MarkedUpto : List ℕ → ℕ → Type 0
@@ -40,8 +40,8 @@ MarkedUpto t bound = (id : ℕ) → id ≤ bound → getD t id 0 ≡ 0 → ⊥
 abbrev pub holdsLists : ℕ → List ℕ → Bool
 holdsLists v s = leb (4096 * width v + 8192) (length s)
 
-abbrev pub strayOf : ℕ → List ℕ → List ℕ → Option ℕ
-strayOf v s t = cond (holdsLists v s) (strayIn v s t) none
+abbrev pub firstUnmappedOf : ℕ → List ℕ → List ℕ → Option ℕ
+firstUnmappedOf v s t = cond (holdsLists v s) (firstUnmappedIn v s t) none
 
 abbrev pub idOf : ℕ → List ℕ → ℕ → ℕ
 idOf v s i = cond (leb 4096 i) 0 (cond (holdsLists v s) (idIn v s i) 0)

@@ -12,19 +12,19 @@ use Rattle.mapblock.specs.Data.{NameRow, Block}
 use Rattle.mapblock.specs.Layout.{all, nameRow}
 use Rattle.mapblock.specs.Block.{idAt, verdict}
 use Rattle.mapblock.specs.Numbers.{refusalNumber}
-use Rattle.mapblock.specs.Rows.{part, nowhere}
+use Rattle.wire.specs.Ranges.{rangeAt, noRange}
 use Rattle.mapblock.specs.Valid.{Each, NameGood}
-use Rattle.mapblock.specs.Sections.{sections, namesPart}
+use Rattle.mapblock.specs.Sections.{sections, namesRange}
 use Rattle.mapblock.specs.declared.fault.Fault.{Fault}
 use Rattle.mapblock.specs.declared.head.Head.{Head}
-use Rattle.mapblock.specs.declared.head.Part.{Part}
+use Rattle.wire.specs.declared.ranges.Range.{Range}
 use Rattle.mapblock.specs.declared.head.Sections.{Sections}
 use Rattle.mapblock.specs.declared.read.ReadAnswer.{ReadAnswer}
 use Rattle.mapblock.specs.declared.read.ReadAnswer.the-variants as read
 use Rattle.mapblock.specs.declared.read.SectionsAnswer.{SectionsAnswer}
 use Rattle.mapblock.specs.declared.read.SectionsAnswer.the-variants as looked
-use Rattle.mapblock.specs.declared.node.NodeAnswer.{NodeAnswer}
-use Rattle.mapblock.specs.declared.node.NodeAnswer.the-variants as nodes
+use Rattle.mapblock.specs.declared.node.NodeNameAnswer.{NodeNameAnswer}
+use Rattle.mapblock.specs.declared.node.NodeNameAnswer.the-variants as nodes
 
 -- the block, or the number and place of its fault
 abbrev pub blockAnswer : Read Fault Block → Answer Block
@@ -52,7 +52,7 @@ readOf s a b c = cond (areWhole a b c) (blockOf s) (plain partsMisfit)
 -- where the sections are; nowhere when refused
 abbrev pub partsOf : Answer (Head × Sections) → Sections
 partsOf (good x) = x .1
-partsOf (refusal n r o) = record { names = nowhere; metadata = nowhere; objects = nowhere; timers = nowhere }
+partsOf (refusal n r o) = record { names = noRange; metadata = noRange; objects = noRange; timers = noRange }
 
 -- ---- the name of a node
 -- the name that an id has in the rows
@@ -65,19 +65,19 @@ abbrev pub nameAt : Block → ℕ → List ℕ
 nameAt b i = nameOf (b .names) (idAt b i)
 
 -- where an id's name stands in rows that start at a place; a row's name stands behind its id and length
-abbrev pub spotOf : List NameRow → ℕ → ℕ → Part
-spotOf [] at id = part at 0
-spotOf (r ∷ l) at id = cond (eqb id (r .id)) (part (at + 4) (length (r .name))) (spotOf l (at + 4 + length (r .name)) id)
+abbrev pub nameRangeOf : List NameRow → ℕ → ℕ → Range
+nameRangeOf [] at id = rangeAt at 0
+nameRangeOf (r ∷ l) at id = cond (eqb id (r .id)) (rangeAt (at + 4) (length (r .name))) (nameRangeOf l (at + 4 + length (r .name)) id)
 
-abbrev pub nameSpot : Block → ℕ → Part
-nameSpot b i = spotOf (b .names) (namesPart b .start) (idAt b i)
+abbrev pub nameRange : Block → ℕ → Range
+nameRange b i = nameRangeOf (b .names) (namesRange b .start) (idAt b i)
 
 -- the reader's number, then 16 for an index above 4095
-abbrev pub nodeOn : ℕ → Answer Block → Answer Part
-nodeOn i a = thenAnswer a λ b. cond (leb i 4095) (good (nameSpot b i)) (plain noSuch)
+abbrev pub nodeNameIn : ℕ → Answer Block → Answer Range
+nodeNameIn i a = thenAnswer a λ b. cond (leb i 4095) (good (nameRange b i)) (plain noSuch)
 
-abbrev pub nodeOf : List ℕ → ℕ → Answer Part
-nodeOf s i = nodeOn i (blockOf s)
+abbrev pub nodeNameOf : List ℕ → ℕ → Answer Range
+nodeNameOf s i = nodeNameIn i (blockOf s)
 
 -- bytes that are the rows of names
 pub record NameRun (s : List ℕ) (l : List NameRow) : Type 0 where
@@ -94,7 +94,7 @@ abbrev pub toldSections : SectionsAnswer → Answer (Head × Sections)
 toldSections (looked.Block h s) = good (h, s)
 toldSections (looked.Refused f p) = refusal (refusalNumber f) 0 p
 
-abbrev pub toldNode : NodeAnswer → Answer Part
-toldNode (nodes.Name p) = good p
-toldNode nodes.NoSuchNode = plain noSuch
-toldNode (nodes.Refused f p) = refusal (refusalNumber f) 0 p
+abbrev pub toldNodeName : NodeNameAnswer → Answer Range
+toldNodeName (nodes.Name p) = good p
+toldNodeName nodes.NoSuchNode = plain noSuch
+toldNodeName (nodes.Refused f p) = refusal (refusalNumber f) 0 p

@@ -4,29 +4,16 @@ use mathlib.Core.Bool.{cond}
 use mathlib.Core.List.{[]}
 use lib.ListN.{length}
 use Rattle.wire.specs.Format.{encodeItems}
-use Rattle.wire.specs.Answer.{Answer, good, refusal}
 use Rattle.mapblock.specs.Data.{NameRow, MetadataRow, ObjectRow, TimerRow}
 use Rattle.mapblock.specs.Layout.{since, before, variable}
-use Rattle.mapblock.specs.declared.head.Part.{Part}
 use Rattle.mapblock.specs.declared.names.NameFields.{NameFields}
 use Rattle.mapblock.specs.declared.metadata.MetadataFields.{MetadataFields}
 use Rattle.mapblock.specs.declared.objects.ObjectFields.{ObjectFields}
 use Rattle.mapblock.specs.declared.timers.TimerFields.{TimerFields}
-
-abbrev pub part : ℕ → ℕ → Part
-part start n = record { start = start; length = n }
-
--- of a run that the version does not have, and of what is asked of a refused block
-abbrev pub nowhere : Part
-nowhere = part 0 0
-
--- the part that an answer tells; nowhere when refused
-abbrev pub partTold : {A : Type 0} → (A → Part) → Answer A → Part
-partTold which (good a) = which a
-partTold which (refusal n r o) = nowhere
+use Rattle.wire.specs.Ranges.{rangeAt, noRange}
 
 abbrev pub nameFields : NameRow → NameFields
-nameFields r = record { id = r .id; name = part 4 (length (r .name)) }
+nameFields r = record { id = r .id; name = rangeAt 4 (length (r .name)) }
 
 -- the bytes of a row's variables
 abbrev pub variableBytes : ℕ → MetadataRow → ℕ
@@ -36,14 +23,14 @@ abbrev pub metadataFields : ℕ → MetadataRow → MetadataFields
 metadataFields v r = record {
   position = r .position;
   kind = r .kind;
-  content = cond (before 23 v) (part 6 (length (r .content))) nowhere;
+  content = cond (before 23 v) (rangeAt 6 (length (r .content))) noRange;
   variables = length (r .variables);
-  rows = cond (since 23 v) (part 6 (variableBytes v r)) nowhere;
-  inventory = cond (since 23 v) (part (6 + variableBytes v r) (length (r .inventory))) nowhere;
+  rows = cond (since 23 v) (rangeAt 6 (variableBytes v r)) noRange;
+  inventory = cond (since 23 v) (rangeAt (6 + variableBytes v r) (length (r .inventory))) noRange;
 }
 
 abbrev pub objectFields : ObjectRow → ObjectFields
-objectFields r = record { kind = r .kind; x = r .x; y = r .y; z = r .z; content = part 15 (length (r .content)) }
+objectFields r = record { kind = r .kind; x = r .x; y = r .y; z = r .z; content = rangeAt 15 (length (r .content)) }
 
 abbrev pub timerFields : TimerRow → TimerFields
 timerFields r = record { position = r .position; timeout = r .timeout; elapsed = r .elapsed }

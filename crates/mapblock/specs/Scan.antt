@@ -5,18 +5,18 @@ use mathlib.Core.List.{List}
 use mathlib.Core.Bool.{Bool, cond}
 use lib.Dec.{eqb}
 use lib.ListN.{length, drop}
-use Rattle.wire.specs.Read.{Read, done, refused, onward}
+use Rattle.wire.specs.Read.{Read, done, refused, shift}
 use Rattle.wire.specs.Formats.{_▹_}
 use Rattle.mapblock.specs.Inventory.{Form}
 use Rattle.mapblock.specs.Data.{MetadataRow, ObjectRow, Opening, Timers, Block}
-use Rattle.mapblock.specs.Layout.{since, all, width, unmapped, opening, saved, metadata, earlyTimers, objects, lateTimers, Front, front}
+use Rattle.mapblock.specs.Layout.{since, all, width, unmapped, opening, nameMapping, metadata, earlyTimers, objects, lateTimers, Front, front}
 use Rattle.mapblock.specs.Block.{block}
 use Rattle.mapblock.specs.Params.{listsOf}
-use Rattle.mapblock.specs.Rows.{part}
-use Rattle.mapblock.specs.Sections.{InReach, found}
+use Rattle.wire.specs.Ranges.{rangeAt, InReach}
+use Rattle.mapblock.specs.Sections.{scannedOf}
 use Rattle.mapblock.specs.Table.{freeIn, Tabled, frontRows, NamesMarked}
 use Rattle.mapblock.specs.declared.fault.Fault.{Fault}
-use Rattle.mapblock.specs.declared.head.Part.{Part}
+use Rattle.wire.specs.declared.ranges.Range.{Range}
 use Rattle.mapblock.specs.declared.scan.OpeningFields.{OpeningFields}
 use Rattle.mapblock.specs.declared.scan.OpeningRead.{OpeningRead}
 use Rattle.mapblock.specs.declared.scan.OpeningRead.the-variants as openings
@@ -26,9 +26,9 @@ use Rattle.mapblock.specs.declared.scan.FrontRead.the-variants as fronts
 use Rattle.mapblock.specs.declared.scan.MiddleFields.{MiddleFields}
 use Rattle.mapblock.specs.declared.scan.MiddleRead.{MiddleRead}
 use Rattle.mapblock.specs.declared.scan.MiddleRead.the-variants as middles
-use Rattle.mapblock.specs.declared.scan.Found.{Found}
-use Rattle.mapblock.specs.declared.scan.Judged.{Judged}
-use Rattle.mapblock.specs.declared.scan.Judged.the-variants as judgeds
+use Rattle.mapblock.specs.declared.scan.Scanned.{Scanned}
+use Rattle.mapblock.specs.declared.scan.ScanRead.{ScanRead}
+use Rattle.mapblock.specs.declared.scan.ScanRead.the-variants as scans
 
 -- ---- step 1
 abbrev pub openingOn : ℕ → ℕ → ℕ → Opening
@@ -43,8 +43,8 @@ toldOpening (openings.Refused f p) = refused f p
 
 -- ---- up to the node data
 -- the bytes of a timestamp with its names, in front or not
-abbrev pub savedLength : Bool → Front → ℕ
-savedLength b x = cond b (length (saved all .encode (x .1 .0))) 0
+abbrev pub mappingLength : Bool → Front → ℕ
+mappingLength b x = cond b (length (nameMapping all .encode (x .1 .0))) 0
 
 -- the front was read; t is the table before, and u after
 pub record FrontIs (t u s : List ℕ) (w : FrontFields) : Type 0 where
@@ -53,7 +53,7 @@ pub record FrontIs (t u s : List ℕ) (w : FrontFields) : Type 0 where
   pub opened : x .0 ≡ openingOn (w .version) (w .flags) (w .lighting)
   pub time : x .1 .0 .timestamp ≡ w .timestamp
   pub count : length (x .1 .0 .names) ≡ w .count
-  pub at : w .lists ≡ length (opening .encode (x .0)) + savedLength (since 29 (w .version)) x + 2
+  pub at : w .lists ≡ length (opening .encode (x .0)) + mappingLength (since 29 (w .version)) x + 2
   pub nodes : x .1 .1 ≡ listsOf (width (w .version)) (drop (w .lists) s)
   pub ends : w .end ≡ w .lists + (4096 * width (w .version) + 8192)
   pub marked : NamesMarked t u (x .1 .0 .names)
@@ -90,15 +90,15 @@ metadataHead v = cond (since 23 v) 3 4
 abbrev pub earlyHead : MiddleFields → ℕ
 earlyHead m = cond (eqb (m .timer) 1) 3 (m .early)
 
-abbrev pub soFar : FrontFields → MiddleFields → ℕ → Part → Found
-soFar w m time names = record {
+abbrev pub withoutLateTimers : FrontFields → MiddleFields → ℕ → Range → Scanned
+withoutLateTimers w m time names = record {
   head = record { version = w .version; flags = w .flags; lighting = w .lighting; timestamp = time; timer = m .timer };
   lists = w .lists;
   sections = record {
     names = names;
-    metadata = part (w .end + metadataHead (w .version)) (m .metadata - metadataHead (w .version));
-    objects = part (w .end + m .metadata + m .early + 3) (m .objects - 3);
-    timers = part (w .end + m .metadata + earlyHead m) (m .early - earlyHead m);
+    metadata = rangeAt (w .end + metadataHead (w .version)) (m .metadata - metadataHead (w .version));
+    objects = rangeAt (w .end + m .metadata + m .early + 3) (m .objects - 3);
+    timers = rangeAt (w .end + m .metadata + earlyHead m) (m .early - earlyHead m);
   };
 }
 
@@ -110,23 +110,23 @@ pub record Sized (w : FrontFields) (m : MiddleFields) : Type 0 where
   pub fits : InReach (w .end + m .metadata + m .early + m .objects)
 
 -- with the late timers, which are the n bytes from a place on
-abbrev pub withLate : Found → ℕ → ℕ → Found
-withLate w at n = record {
+abbrev pub withLateTimersAt : Scanned → ℕ → ℕ → Scanned
+withLateTimersAt w at n = record {
   head = w .head;
   lists = w .lists;
   sections = record {
     names = w .sections .names;
     metadata = w .sections .metadata;
     objects = w .sections .objects;
-    timers = cond (since 25 (w .head .version)) (part (at + 3) (n - 3)) (w .sections .timers);
+    timers = cond (since 25 (w .head .version)) (rangeAt (at + 3) (n - 3)) (w .sections .timers);
   };
 }
 
 -- the block was read up to a place, where late timers may stand; t marks its names
-pub record Upto (free : ℕ → Bool) (s : List ℕ) (w : Found) (at : ℕ) (t : List ℕ) : Type 0 where
+pub record ReadUpTo (free : ℕ → Bool) (s : List ℕ) (w : Scanned) (at : ℕ) (t : List ℕ) : Type 0 where
   pub with : Timers → Block
-  pub reads : block free .read s ≡ onward at with (lateTimers (w .head .version) .read (drop at s))
-  pub shows : (k : Timers) (n : ℕ) → lateTimers (w .head .version) .read (drop at s) ≡ done k n → found (with k) ≡ withLate w at n
+  pub reads : block free .read s ≡ shift at with (lateTimers (w .head .version) .read (drop at s))
+  pub shows : (k : Timers) (n : ℕ) → lateTimers (w .head .version) .read (drop at s) ≡ done k n → scannedOf (with k) ≡ withLateTimersAt w at n
   pub version : (k : Timers) → with k .head .version ≡ w .head .version
   pub nodes : (k : Timers) → with k .nodes ≡ listsOf (width (w .head .version)) (drop (w .lists) s)
   pub marked : (k : Timers) → Tabled 65536 (unmapped free (with k .names)) t
@@ -134,6 +134,6 @@ pub record Upto (free : ℕ → Bool) (s : List ℕ) (w : Found) (at : ℕ) (t :
   pub inside : at ≤ length s
 
 -- ---- the whole
-abbrev pub toldScan : Judged → Read Fault Found
-toldScan (judgeds.Taken w n) = done w n
-toldScan (judgeds.Refused f p) = refused f p
+abbrev pub toldScan : ScanRead → Read Fault Scanned
+toldScan (scans.Taken w n) = done w n
+toldScan (scans.Refused f p) = refused f p

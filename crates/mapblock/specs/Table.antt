@@ -5,10 +5,10 @@ use mathlib.Core.Path.{_≡_}
 use mathlib.Core.List.{List, [], _∷_}
 use mathlib.Core.Bool.{Bool}
 use lib.Dec.{eqb}
-use lib.ListN.{length, getD, set}
+use lib.ListN.{length, getD, set, replicate}
 use Rattle.wire.specs.Read.{Read, done, refused}
 use Rattle.wire.specs.Walk.{rowsRead}
-use Rattle.mapblock.specs.Data.{NameRow, Saved}
+use Rattle.mapblock.specs.Data.{NameRow, NameMapping}
 use Rattle.mapblock.specs.Layout.{all, unmapped, nameRow}
 use Rattle.mapblock.specs.declared.fault.Fault.{Fault}
 
@@ -52,6 +52,10 @@ abbrev pub RowsMarked : List ℕ → List ℕ → Read Fault (List NameRow) → 
 RowsMarked t u (done l n) = NamesMarked t u l
 RowsMarked t u (refused e p) = u ≡ t
 
-abbrev pub SavedMarked : List ℕ → List ℕ → Read Fault Saved → Type 0
-SavedMarked t u (done x n) = NamesMarked t u (x .names)
-SavedMarked t u (refused e p) = u ≡ t
+abbrev pub NameMappingMarked : List ℕ → List ℕ → Read Fault NameMapping → Type 0
+NameMappingMarked t u (done x n) = NamesMarked t u (x .names)
+NameMappingMarked t u (refused e p) = u ≡ t
+
+-- a table of which nothing is set
+unfoldable pub clearTable : List ℕ
+clearTable = replicate 65536 0

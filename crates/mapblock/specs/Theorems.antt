@@ -19,15 +19,16 @@ use Rattle.wire.specs.Walk.{walk, GivesRows, rowsBehind}
 use Rattle.mapblock.specs.Data.{NameRow, MetadataRow, ObjectRow, Block}
 use Rattle.mapblock.specs.Inventory.{Form, endLine, through}
 use Rattle.mapblock.specs.Layout.{all, width, nameRow, variable, metadataRow, objectRow, timerRow}
-use Rattle.mapblock.specs.Block.{block, stray, param0At, verdict}
+use Rattle.mapblock.specs.Block.{block, firstUnmapped, param0At, verdict}
 use Rattle.mapblock.specs.Valid.{Valid}
-use Rattle.mapblock.specs.Rows.{partTold, nameFields, metadataFields, objectFields, timerFields}
-use Rattle.mapblock.specs.Sections.{sections, within}
-use Rattle.mapblock.specs.Questions.{nameAt, nameSpot}
+use Rattle.wire.specs.Ranges.{rangeTold, bytesIn}
+use Rattle.mapblock.specs.Rows.{nameFields, metadataFields, objectFields, timerFields}
+use Rattle.mapblock.specs.Sections.{sections}
+use Rattle.mapblock.specs.Questions.{nameAt, nameRange}
 use Rattle.mapblock.specs.RowQuestions.{nameRowOf, metadataRowOf, objectRowOf, timerRowOf}
 use Rattle.mapblock.specs.declared.fault.Fault.{Fault}
 use Rattle.mapblock.specs.declared.fault.Fault.the-variants as fault
-use Rattle.mapblock.specs.declared.head.Part.{Part}
+use Rattle.wire.specs.declared.ranges.Range.{Range}
 use Rattle.mapblock.specs.declared.names.NameFields.{NameFields}
 use Rattle.mapblock.specs.declared.metadata.MetadataFields.{MetadataFields}
 use Rattle.mapblock.specs.declared.objects.ObjectFields.{ObjectFields}
@@ -35,7 +36,7 @@ use Rattle.mapblock.specs.declared.objects.ObjectFields.{ObjectFields}
 -- ---- well formed
 -- The valid blocks are those that have bytes in the layout and no id unmapped.
 abbrev pub ValidIsOk : Type 0
-ValidIsOk = (b : Block) → Valid b ↔ (block all .Ok b × (stray all b ≡ none))
+ValidIsOk = (b : Block) → Valid b ↔ (block all .Ok b × (firstUnmapped all b ≡ none))
 
 -- ---- taken: demand 2's first sentence
 -- what finds a block in bytes, or a fault and its place
@@ -101,9 +102,9 @@ FirstEndLine = (l : List ℕ) (n : ℕ) → (through true l ≡ some n) ↔ ((k 
 
 -- ---- parts of the caller's block: document 01, 'Reading, looking, writing'
 -- the part p lies in s, and holds the bytes r
-pub record Holds (s : List ℕ) (p : Part) (r : List ℕ) : Type 0 where
+pub record Holds (s : List ℕ) (p : Range) (r : List ℕ) : Type 0 where
   pub inside : p .start + p .length ≤ length s
-  pub bytes : within s p ≡ r
+  pub bytes : bytesIn s p ≡ r
 
 -- each section of the block b holds the bytes of its rows
 pub record RowsIn (s : List ℕ) (b : Block) : Type 0 where
@@ -118,7 +119,7 @@ SectionsAreRows = (s : List ℕ) (b : Block) (n : ℕ) → Bytes s → verdict a
 
 -- "The name of a node comes back as the very bytes in the caller's block"
 abbrev pub VeryBytes : Type 0
-VeryBytes = (s : List ℕ) (b : Block) (n : ℕ) → Bytes s → verdict all s ≡ done b n → (i : ℕ) → i ≤ 4095 → Holds s (nameSpot b i) (nameAt b i)
+VeryBytes = (s : List ℕ) (b : Block) (n : ℕ) → Bytes s → verdict all s ≡ done b n → (i : ℕ) → i ≤ 4095 → Holds s (nameRange b i) (nameAt b i)
 
 -- ---- rows: document 01, 'Reading, looking, writing'
 -- the runs of a row of metadata; in version 22 its variables and its inventory are empty, from 23 its content
@@ -139,8 +140,8 @@ abbrev pub rowShown : {A B : Type 0} → Form A → (A → B) → A → B × ℕ
 rowShown f fields r = (fields r, length (f .encode r))
 
 -- The run that comes back of each row, where a part is walked by its row question and what remains, is these bytes.
-abbrev pub RunsWalked : {A B : Type 0} → (List ℕ → Answer (B × ℕ)) → (B → Part) → (A → List ℕ) → List ℕ → List A → Type 0
-RunsWalked {B = B} ask run bytes s rows = walk (λ p. rowsBehind p (ask p)) (λ p. within p (partTold (λ (x : B × ℕ). run (x .0)) (ask p))) (length rows) s ≡ map bytes rows
+abbrev pub RunsWalked : {A B : Type 0} → (List ℕ → Answer (B × ℕ)) → (B → Range) → (A → List ℕ) → List ℕ → List A → Type 0
+RunsWalked {B = B} ask run bytes s rows = walk (λ p. rowsBehind p (ask p)) (λ p. bytesIn p (rangeTold (λ (x : B × ℕ). run (x .0)) (ask p))) (length rows) s ≡ map bytes rows
 
 -- a part of names, of metadata in the version v, of static objects
 pub record NamesWalked (s : List ℕ) (l : List NameRow) : Type 0 where
@@ -159,10 +160,10 @@ pub record ObjectsWalked (s : List ℕ) (l : List ObjectRow) : Type 0 where
 
 -- each section of the block b; a row of timers has no run
 pub record SectionsWalked (s : List ℕ) (b : Block) : Type 0 where
-  pub names : NamesWalked (within s (sections b .names)) (b .names)
-  pub metadata : MetadataWalked (b .head .version) (within s (sections b .metadata)) (b .metadata)
-  pub objects : ObjectsWalked (within s (sections b .objects)) (b .objects)
-  pub timers : GivesRows timerRowOf (rowShown (timerRow []) timerFields) (within s (sections b .timers)) (b .timers)
+  pub names : NamesWalked (bytesIn s (sections b .names)) (b .names)
+  pub metadata : MetadataWalked (b .head .version) (bytesIn s (sections b .metadata)) (b .metadata)
+  pub objects : ObjectsWalked (bytesIn s (sections b .objects)) (b .objects)
+  pub timers : GivesRows timerRowOf (rowShown (timerRow []) timerFields) (bytesIn s (sections b .timers)) (b .timers)
 
 -- "Rows are taken from the front, and the rows behind a row are handed on as what remains": of every block that is taken, each section so gives
 -- the block's rows, and 16 where they end.

@@ -5,9 +5,9 @@ use mathlib.Core.Option.{Option, some, none}
 use mathlib.Core.List.{List}
 use mathlib.Core.Bool.{Bool}
 use lib.ListN.{length}
-use Rattle.wire.specs.Format.{such}
+use Rattle.wire.specs.Format.{refine}
 use Rattle.wire.specs.Read.{Read, done, refused, mapRead}
-use Rattle.mapblock.specs.Data.{Saved, Timers}
+use Rattle.mapblock.specs.Data.{NameMapping, Timers}
 use Rattle.mapblock.specs.Layout.{position, without}
 use Rattle.mapblock.specs.Table.{Tabled}
 use Rattle.mapblock.specs.declared.fault.Fault.{Fault}
@@ -16,13 +16,13 @@ use Rattle.mapblock.specs.declared.fault.Reach.{Reach}
 use Rattle.mapblock.specs.declared.fault.Reach.the-variants as reach
 use Rattle.mapblock.specs.declared.positions.PositionRead.{PositionRead}
 use Rattle.mapblock.specs.declared.positions.PositionRead.the-variants as positions
-use Rattle.mapblock.specs.declared.nodes.Stray.{Stray}
-use Rattle.mapblock.specs.declared.nodes.Stray.the-variants as stray
+use Rattle.mapblock.specs.declared.nodes.FirstUnmapped.{FirstUnmapped}
+use Rattle.mapblock.specs.declared.nodes.FirstUnmapped.the-variants as firstUnmapped
 use Rattle.mapblock.specs.declared.names.NameFields.{NameFields}
 use Rattle.mapblock.specs.declared.names.NameRead.{NameRead}
 use Rattle.mapblock.specs.declared.names.NameRead.the-variants as name
-use Rattle.mapblock.specs.declared.names.SavedRead.{SavedRead}
-use Rattle.mapblock.specs.declared.names.SavedRead.the-variants as saved
+use Rattle.mapblock.specs.declared.names.NameMappingRead.{NameMappingRead}
+use Rattle.mapblock.specs.declared.names.NameMappingRead.the-variants as nameMapping
 use Rattle.mapblock.specs.declared.lists.EarlyRead.{EarlyRead}
 use Rattle.mapblock.specs.declared.lists.EarlyRead.the-variants as early
 use Rattle.mapblock.specs.declared.metadata.MetadataFields.{MetadataFields}
@@ -47,21 +47,21 @@ abbrev pub toldPosition : PositionRead → Read Fault ℕ
 toldPosition (positions.At p) = done p 2
 toldPosition (positions.Refused f) = refused f 0
 
-abbrev pub toldStray : Stray → Option ℕ
-toldStray stray.None = none
-toldStray (stray.At i) = some i
+abbrev pub toldUnmapped : FirstUnmapped → Option ℕ
+toldUnmapped firstUnmapped.None = none
+toldUnmapped (firstUnmapped.At i) = some i
 
 abbrev pub toldName : NameRead → Read Fault NameFields
 toldName (name.Row r n) = done r n
 toldName (name.Refused f p) = refused f p
 
 -- a timestamp and a number of names
-abbrev pub shownSaved : Saved → ℕ × ℕ
-shownSaved x = (x .timestamp, length (x .names))
+abbrev pub shownMapping : NameMapping → ℕ × ℕ
+shownMapping x = (x .timestamp, length (x .names))
 
-abbrev pub toldSaved : SavedRead → Read Fault (ℕ × ℕ)
-toldSaved (saved.Rows t k n) = done (t, k) n
-toldSaved (saved.Refused f p) = refused f p
+abbrev pub toldMapping : NameMappingRead → Read Fault (ℕ × ℕ)
+toldMapping (nameMapping.Rows t k n) = done (t, k) n
+toldMapping (nameMapping.Refused f p) = refused f p
 
 abbrev pub toldMetadata : MetadataRead → Read Fault MetadataFields
 toldMetadata (metadata.Row r n) = done r n
@@ -86,5 +86,5 @@ toldTimer (timer.Refused f p) = refused f p
 
 -- a position read where the table t tells which are free; u is the table after
 pub record PositionMarked (s t u : List ℕ) (r : PositionRead) : Type 0 where
-  pub told : (free : ℕ → Bool) → Tabled 4096 free t → toldPosition r ≡ such free fault.PositionTwice position .read s
-  pub marked : (free : ℕ → Bool) (p n : ℕ) → Tabled 4096 free t → such free fault.PositionTwice position .read s ≡ done p n → Tabled 4096 (without p free) u
+  pub told : (free : ℕ → Bool) → Tabled 4096 free t → toldPosition r ≡ refine free fault.PositionTwice position .read s
+  pub marked : (free : ℕ → Bool) (p n : ℕ) → Tabled 4096 free t → refine free fault.PositionTwice position .read s ≡ done p n → Tabled 4096 (without p free) u

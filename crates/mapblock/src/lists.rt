@@ -1,9 +1,9 @@
 // The lists of a block that are neither names nor nodes: metadata, static objects, timers.
 use crate::fault::Fault;
 use crate::fault::Reach;
-use crate::rows::Kind;
+use crate::rows::ListKind;
 use crate::rows::listed;
-use crate::timers::TIMER_ROW_BYTE;
+use crate::timers::TIMER_ROW_LENGTH_BYTE;
 use wire::fields::U8;
 use wire::fields::U16;
 use wire::fields::u8_at;
@@ -12,15 +12,15 @@ ghost use mathlib.Core.Path.{_≡_};
 ghost use Prim.Native.Nat.{_<_};
 ghost use Rattle.wire.specs.Read.{mapRead};
 ghost use Rattle.wire.specs.Formats.{fixed, listed};
-ghost use Rattle.mapblock.specs.Kinds.{rowAfter};
+ghost use Rattle.mapblock.specs.ListKinds.{rowAfter};
 ghost use Rattle.mapblock.specs.Layout.{metadata, objects, earlyTimers, lateTimers};
 ghost use Rattle.mapblock.specs.Told.{toldReach, ended, toldEarly, timerByte};
 
 // The bytes before the rows of such a list: a byte and a count.
-pub const LIST_HEAD: usize = 3;
+pub const LIST_HEAD_LENGTH: usize = 3;
 
 // Behind a byte that is fixed, a count and so many rows.
-fn fixed_list(kind: Kind, version: u8, s: &[u8], value: u8, fault: Fault) -> Reach
+fn fixed_list(kind: ListKind, version: u8, s: &[u8], value: u8, fault: Fault) -> Reach
     ensures { λ r. ⌜ toldReach r ≡ ended (fixed 1 value fault (listed 2 (rowAfter kind version)) .read (now (s .entry))) ⌝ }
 {
     let U8::Value(v) = u8_at(s, 0) else {
@@ -46,7 +46,7 @@ fn old_metadata(version: u8, s: &[u8]) -> Reach
     if v != 1 {
         return Reach::Refused(Fault::MetadataVersion, 0);
     }
-    match listed(Kind::Metadata, version, &s[2..]) {
+    match listed(ListKind::Metadata, version, &s[2..]) {
         Reach::Refused(f, p) => Reach::Refused(f, 2 + p),
         Reach::End(n) => Reach::End(2 + n),
     }
@@ -61,7 +61,7 @@ pub(crate) fn metadata_list(version: u8, s: &[u8]) -> Reach
     }
     let list_version = if version < 28 { 1 } else { 2 };
     fixed_list(
-        Kind::Metadata,
+        ListKind::Metadata,
         version,
         s,
         list_version,
@@ -73,7 +73,7 @@ pub(crate) fn metadata_list(version: u8, s: &[u8]) -> Reach
 pub(crate) fn object_list(version: u8, s: &[u8]) -> Reach
     ensures { λ r. ⌜ toldReach r ≡ ended (objects .read (now (s .entry))) ⌝ }
 {
-    fixed_list(Kind::Objects, version, s, 0, Fault::ObjectVersion)
+    fixed_list(ListKind::Objects, version, s, 0, Fault::ObjectVersion)
 }
 
 // The timer byte and where what follows the metadata ends, or the fault and its place.
@@ -95,7 +95,7 @@ fn timers_of_24(s: &[u8]) -> EarlyRead
     if byte == 0 {
         return EarlyRead::Timers(0, 1);
     }
-    match listed(Kind::Timers, 24, &s[1..]) {
+    match listed(ListKind::Timers, 24, &s[1..]) {
         Reach::Refused(f, p) => EarlyRead::Refused(f, 1 + p),
         Reach::End(n) => EarlyRead::Timers(1, 1 + n),
     }
@@ -138,10 +138,10 @@ pub(crate) fn late_timers(version: u8, s: &[u8]) -> Reach
         return Reach::End(0);
     }
     fixed_list(
-        Kind::Timers,
+        ListKind::Timers,
         version,
         s,
-        TIMER_ROW_BYTE,
+        TIMER_ROW_LENGTH_BYTE,
         Fault::TimerRowLength,
     )
 }

@@ -1,26 +1,26 @@
 // Rows of metadata.
 use crate::fault::Fault;
 use crate::fault::Reach;
-use crate::head::NOWHERE;
-use crate::head::Part;
 use crate::inventory::inventory;
 use crate::positions::PositionRead;
 use crate::positions::position;
-use wire::fields::Counted;
+use wire::fields::Run;
 use wire::fields::U8;
 use wire::fields::U16;
 use wire::fields::U32;
-use wire::fields::counted16_at;
-use wire::fields::counted32_at;
+use wire::fields::run16_at;
+use wire::fields::run32_at;
 use wire::fields::u8_at;
 use wire::fields::u16_at;
 use wire::fields::u32_at;
+use wire::ranges::NO_RANGE;
+use wire::ranges::Range;
 ghost use mathlib.Core.Path.{_≡_};
 ghost use mathlib.Core.List.{[]};
 ghost use Prim.Native.Nat.{_<_, _≤_};
 ghost use Rattle.wire.specs.Read.{done, mapRead};
 ghost use Rattle.wire.specs.Format.{items};
-ghost use Rattle.wire.specs.Formats.{_▹_, counted};
+ghost use Rattle.wire.specs.Formats.{_▹_, prefixed};
 ghost use Rattle.mapblock.specs.Layout.{variable, metadataRow, position};
 ghost use Rattle.mapblock.specs.Rows.{metadataFields};
 ghost use Rattle.mapblock.specs.Told.{toldReach, ended, toldMetadata};
@@ -29,10 +29,10 @@ ghost use Rattle.mapblock.specs.Told.{toldReach, ended, toldMetadata};
 pub struct MetadataFields {
     pub position: u16,
     pub kind: u16,
-    pub content: Part,
+    pub content: Range,
     pub variables: u32,
-    pub rows: Part,
-    pub inventory: Part,
+    pub rows: Range,
+    pub inventory: Range,
 }
 
 // The front row with its length, or the fault and its place.
@@ -43,13 +43,13 @@ pub enum MetadataRead {
 
 // A variable's key and value at the front of a part.
 pub fn key_and_value(s: &[u8]) -> Reach
-    ensures { λ r. ⌜ toldReach r ≡ ended ((counted {ends = Fault.Ends} 2 ▹ counted 4) .read (now (s .entry))) ⌝ }
+    ensures { λ r. ⌜ toldReach r ≡ ended ((prefixed {ends = Fault.Ends} 2 ▹ prefixed 4) .read (now (s .entry))) ⌝ }
 {
-    match counted16_at(s, 0) {
-        Counted::Ends(p) => Reach::Refused(Fault::Ends, p),
-        Counted::Bytes(k) => match counted32_at(s, 2 + k) {
-            Counted::Ends(p) => Reach::Refused(Fault::Ends, 2 + k + p),
-            Counted::Bytes(n) => Reach::End(6 + k + n),
+    match run16_at(s, 0) {
+        Run::Ends(p) => Reach::Refused(Fault::Ends, p),
+        Run::Bytes(k) => match run32_at(s, 2 + k) {
+            Run::Ends(p) => Reach::Refused(Fault::Ends, 2 + k + p),
+            Run::Bytes(n) => Reach::End(6 + k + n),
         },
     }
 }
@@ -107,19 +107,19 @@ fn old_row(version: u8, at: u16, s: &[u8]) -> MetadataRead
     let U16::Value(kind) = u16_at(s, 2) else {
         return MetadataRead::Refused(Fault::Ends, 2);
     };
-    match counted16_at(s, 4) {
-        Counted::Ends(p) => MetadataRead::Refused(Fault::Ends, 4 + p),
-        Counted::Bytes(n) => {
+    match run16_at(s, 4) {
+        Run::Ends(p) => MetadataRead::Refused(Fault::Ends, 4 + p),
+        Run::Bytes(n) => {
             let fields = MetadataFields {
                 position: at,
                 kind,
-                content: Part {
+                content: Range {
                     start: 6,
                     length: n,
                 },
                 variables: 0,
-                rows: NOWHERE,
-                inventory: NOWHERE,
+                rows: NO_RANGE,
+                inventory: NO_RANGE,
             };
             MetadataRead::Row(fields, 6 + n)
         }
@@ -142,13 +142,13 @@ fn new_row(version: u8, at: u16, s: &[u8]) -> MetadataRead
                 let fields = MetadataFields {
                     position: at,
                     kind: 0,
-                    content: NOWHERE,
+                    content: NO_RANGE,
                     variables: count,
-                    rows: Part {
+                    rows: Range {
                         start: 6,
                         length: n,
                     },
-                    inventory: Part {
+                    inventory: Range {
                         start: 6 + n,
                         length: m,
                     },

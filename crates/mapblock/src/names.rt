@@ -1,16 +1,16 @@
 // Rows of names, and the timestamp that stands before them.
 use crate::fault::Fault;
 use crate::fault::Reach;
-use crate::head::Part;
 use crate::nodes::IDS;
-use wire::fields::Counted;
+use wire::fields::Run;
 use wire::fields::U8;
 use wire::fields::U16;
 use wire::fields::U32;
-use wire::fields::counted16_at;
+use wire::fields::run16_at;
 use wire::fields::u8_at;
 use wire::fields::u16_at;
 use wire::fields::u32_at;
+use wire::ranges::Range;
 ghost use mathlib.Core.Path.{_≡_};
 ghost use mathlib.Core.List.{List, []};
 ghost use mathlib.Core.Bool.{Bool};
@@ -19,15 +19,15 @@ ghost use lib.ListN.{length};
 ghost use Rattle.wire.specs.Read.{mapRead};
 ghost use Rattle.wire.specs.Format.{items};
 ghost use Rattle.mapblock.specs.Data.{NameRow};
-ghost use Rattle.mapblock.specs.Layout.{all, nameRow, unmapped, saved};
-ghost use Rattle.mapblock.specs.Table.{freeIn, Tabled, unmarked, frontRows, markedBy, SavedMarked};
+ghost use Rattle.mapblock.specs.Layout.{all, nameRow, unmapped, nameMapping};
+ghost use Rattle.mapblock.specs.Table.{freeIn, Tabled, unmarked, frontRows, markedBy, NameMappingMarked};
 ghost use Rattle.mapblock.specs.Rows.{nameFields};
-ghost use Rattle.mapblock.specs.Told.{toldReach, ended, toldName, toldSaved, shownSaved};
+ghost use Rattle.mapblock.specs.Told.{toldReach, ended, toldName, toldMapping, shownMapping};
 
 // A row's numbers, and where its runs stand in the part it was read from.
 pub struct NameFields {
     pub id: u16,
-    pub name: Part,
+    pub name: Range,
 }
 
 // The front row with its length, or the fault and its place.
@@ -43,10 +43,10 @@ pub fn name_row(s: &[u8]) -> NameRead
     let U16::Value(id) = u16_at(s, 0) else {
         return NameRead::Refused(Fault::Ends, 0);
     };
-    match counted16_at(s, 2) {
-        Counted::Ends(p) => NameRead::Refused(Fault::Ends, 2 + p),
-        Counted::Bytes(n) => {
-            let name = Part {
+    match run16_at(s, 2) {
+        Run::Ends(p) => NameRead::Refused(Fault::Ends, 2 + p),
+        Run::Bytes(n) => {
+            let name = Range {
                 start: 4,
                 length: n,
             };
@@ -126,33 +126,33 @@ pub fn name_rows(s: &[u8], count: u16, ids: &mut [u8; IDS]) -> Reach
 }
 
 // The bytes before the rows: timestamp, list version and count.
-pub const NAMES_HEAD: usize = 7;
+pub const NAMES_HEAD_LENGTH: usize = 7;
 
 // Timestamp, number of rows, and where they end; or the fault and its place.
-pub enum SavedRead {
+pub enum NameMappingRead {
     Rows(u32, u16, usize),
     Refused(Fault, usize),
 }
 
 // Timestamp and names; the ids are marked, and on a refusal the table is as it was.
-pub(crate) fn saved(s: &[u8], ids: &mut [u8; IDS]) -> SavedRead
-    ensures { λ r. ⌜ toldSaved r ≡ mapRead shownSaved (saved (freeIn (now (ids .entry))) .read (now (s .entry))) ⌝ }
-    ensures { λ r. ⌜ SavedMarked (now (ids .entry)) (now (ids .exit)) (saved (freeIn (now (ids .entry))) .read (now (s .entry))) ⌝ }
+pub(crate) fn name_mapping(s: &[u8], ids: &mut [u8; IDS]) -> NameMappingRead
+    ensures { λ r. ⌜ toldMapping r ≡ mapRead shownMapping (nameMapping (freeIn (now (ids .entry))) .read (now (s .entry))) ⌝ }
+    ensures { λ r. ⌜ NameMappingMarked (now (ids .entry)) (now (ids .exit)) (nameMapping (freeIn (now (ids .entry))) .read (now (s .entry))) ⌝ }
 {
     let U32::Value(timestamp) = u32_at(s, 0) else {
-        return SavedRead::Refused(Fault::Ends, 0);
+        return NameMappingRead::Refused(Fault::Ends, 0);
     };
     let U8::Value(zero) = u8_at(s, 4) else {
-        return SavedRead::Refused(Fault::Ends, 4);
+        return NameMappingRead::Refused(Fault::Ends, 4);
     };
     if zero != 0 {
-        return SavedRead::Refused(Fault::MappingVersion, 4);
+        return NameMappingRead::Refused(Fault::MappingVersion, 4);
     }
     let U16::Value(count) = u16_at(s, 5) else {
-        return SavedRead::Refused(Fault::Ends, 5);
+        return NameMappingRead::Refused(Fault::Ends, 5);
     };
-    match name_rows(&s[NAMES_HEAD..], count, ids) {
-        Reach::Refused(f, p) => SavedRead::Refused(f, NAMES_HEAD + p),
-        Reach::End(n) => SavedRead::Rows(timestamp, count, NAMES_HEAD + n),
+    match name_rows(&s[NAMES_HEAD_LENGTH..], count, ids) {
+        Reach::Refused(f, p) => NameMappingRead::Refused(f, NAMES_HEAD_LENGTH + p),
+        Reach::End(n) => NameMappingRead::Rows(timestamp, count, NAMES_HEAD_LENGTH + n),
     }
 }

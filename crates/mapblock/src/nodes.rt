@@ -11,8 +11,8 @@ ghost use Prim.Native.Nat.{_+_, _*_, _<_, _≤_};
 ghost use lib.ListN.{length};
 ghost use Rattle.mapblock.specs.Layout.{nodes, params, width};
 ghost use Rattle.mapblock.specs.Block.{contentId};
-ghost use Rattle.mapblock.specs.Params.{idIn, strayIn, holdsLists, strayOf, idOf, MarkedUpto};
-ghost use Rattle.mapblock.specs.Told.{toldReach, ended, toldStray};
+ghost use Rattle.mapblock.specs.Params.{idIn, firstUnmappedIn, holdsLists, firstUnmappedOf, idOf, MarkedUpto};
+ghost use Rattle.mapblock.specs.Told.{toldReach, ended, toldUnmapped};
 
 // How many nodes a block has.
 pub const NODES: usize = 4096;
@@ -88,24 +88,24 @@ fn id_in(version: u8, s: &[u8], i: usize) -> usize
     content_id(version, s[i] as u16, s[2 * NODES + i])
 }
 
-pub enum Stray {
+pub enum FirstUnmapped {
     None,
     At(usize),
 }
 
 // The first node whose content id is not marked as mapped, in bytes that hold the lists.
-fn stray_in(version: u8, s: &[u8], ids: &[u8; IDS]) -> Stray
+fn first_unmapped_in(version: u8, s: &[u8], ids: &[u8; IDS]) -> FirstUnmapped
     requires { ⌜ 4096 * width version + 8192 ≤ length (now s) ⌝ }
-    ensures { λ r. ⌜ toldStray r ≡ strayIn version (now (s .entry)) (now (ids .entry)) ⌝ }
+    ensures { λ r. ⌜ toldUnmapped r ≡ firstUnmappedIn version (now (s .entry)) (now (ids .entry)) ⌝ }
 {
     let mut i: usize = 0;
     while i < NODES {
         if ids[id_in(version, s, i)] == 0 {
-            return Stray::At(i);
+            return FirstUnmapped::At(i);
         }
         i += 1;
     }
-    Stray::None
+    FirstUnmapped::None
 }
 
 // Whether every id up to a bound is marked as mapped.
@@ -127,7 +127,7 @@ fn marked_upto(ids: &[u8; IDS], bound: usize) -> bool
 // False says nothing.
 fn all_mapped(version: u8, s: &[u8], ids: &[u8; IDS]) -> bool
     requires { ⌜ 4096 * width version + 8192 ≤ length (now s) ⌝ }
-    ensures { λ r. ⌜ (r ≡ true → strayIn version (now (s .entry)) (now (ids .entry)) ≡ none) ⌝ }
+    ensures { λ r. ⌜ (r ≡ true → firstUnmappedIn version (now (s .entry)) (now (ids .entry)) ≡ none) ⌝ }
 {
     if version < 24 {
         return false;
@@ -143,16 +143,16 @@ fn holds_lists(version: u8, s: &[u8]) -> bool
 }
 
 // The first node whose content id is not marked as mapped, in any bytes: none where they do not hold the lists.
-pub(crate) fn first_stray(version: u8, s: &[u8], ids: &[u8; IDS]) -> Stray
-    ensures { λ r. ⌜ toldStray r ≡ strayOf version (now (s .entry)) (now (ids .entry)) ⌝ }
+pub(crate) fn first_unmapped(version: u8, s: &[u8], ids: &[u8; IDS]) -> FirstUnmapped
+    ensures { λ r. ⌜ toldUnmapped r ≡ firstUnmappedOf version (now (s .entry)) (now (ids .entry)) ⌝ }
 {
     if holds_lists(version, s) {
         if all_mapped(version, s, ids) {
-            return Stray::None;
+            return FirstUnmapped::None;
         }
-        stray_in(version, s, ids)
+        first_unmapped_in(version, s, ids)
     } else {
-        Stray::None
+        FirstUnmapped::None
     }
 }
 

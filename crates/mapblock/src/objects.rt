@@ -1,12 +1,12 @@
 // Rows of static objects.
 use crate::fault::Fault;
-use crate::head::Part;
-use wire::fields::Counted;
+use wire::fields::Run;
 use wire::fields::S32;
 use wire::fields::U8;
-use wire::fields::counted16_at;
+use wire::fields::run16_at;
 use wire::fields::s32_at;
 use wire::fields::u8_at;
+use wire::ranges::Range;
 ghost use mathlib.Core.Path.{_≡_};
 ghost use Rattle.wire.specs.Read.{mapRead};
 ghost use Rattle.mapblock.specs.Layout.{objectRow};
@@ -19,7 +19,7 @@ pub struct ObjectFields {
     pub x: i32,
     pub y: i32,
     pub z: i32,
-    pub content: Part,
+    pub content: Range,
 }
 
 // The front row with its length, or the fault and its place.
@@ -44,10 +44,10 @@ pub fn object_row(s: &[u8]) -> ObjectRead
     let S32::Value(z) = s32_at(s, 9) else {
         return ObjectRead::Refused(Fault::Ends, 9);
     };
-    match counted16_at(s, 13) {
-        Counted::Ends(p) => ObjectRead::Refused(Fault::Ends, 13 + p),
-        Counted::Bytes(n) => {
-            let content = Part {
+    match run16_at(s, 13) {
+        Run::Ends(p) => ObjectRead::Refused(Fault::Ends, 13 + p),
+        Run::Bytes(n) => {
+            let content = Range {
                 start: 15,
                 length: n,
             };

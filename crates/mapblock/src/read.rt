@@ -3,12 +3,12 @@ use crate::fault::Fault;
 use crate::head::Head;
 use crate::head::NO_SECTIONS;
 use crate::head::Sections;
-use crate::head::cut;
 use crate::nodes::IDS;
 use crate::nodes::NODES;
 use crate::nodes::width;
-use crate::scan::Judged;
+use crate::scan::ScanRead;
 use crate::scan::scan;
+use wire::ranges::slice_of;
 use wire::store::put_bytes;
 ghost use mathlib.Core.Path.{_≡_};
 ghost use Prim.Native.Nat.{_+_, _*_, _≤_};
@@ -19,13 +19,14 @@ ghost use Rattle.mapblock.specs.Data.{Block};
 ghost use Rattle.mapblock.specs.Layout.{all, width};
 ghost use Rattle.mapblock.specs.Block.{verdict};
 ghost use Rattle.mapblock.specs.Params.{entries};
-ghost use Rattle.mapblock.specs.Sections.{found, IsPart};
+ghost use Rattle.mapblock.specs.Sections.{scannedOf};
+ghost use Rattle.wire.specs.Ranges.{IsSlice};
 ghost use Rattle.mapblock.specs.Scan.{toldScan};
 ghost use Rattle.mapblock.specs.Questions.{shown, areWhole, sectionsOf, readOf, partsOf, toldRead, toldSections};
 
 // Judges a block by itself: all ids are free.
-pub(crate) fn judge(block: &[u8]) -> Judged
-    ensures { λ r. ⌜ toldScan r ≡ mapRead found (verdict all (now (block .entry))) ⌝ }
+pub(crate) fn judge(block: &[u8]) -> ScanRead
+    ensures { λ r. ⌜ toldScan r ≡ mapRead scannedOf (verdict all (now (block .entry))) ⌝ }
 {
     let mut ids = [0u8; IDS];
     scan(block, &mut ids)
@@ -105,8 +106,8 @@ pub fn read(block: &[u8], param0: &mut [u16], param1: &mut [u8], param2: &mut [u
         return ReadAnswer::Misfit;
     }
     match judge(block) {
-        Judged::Refused(f, p) => ReadAnswer::Refused(f, p),
-        Judged::Taken(found, _) => {
+        ScanRead::Refused(f, p) => ReadAnswer::Refused(f, p),
+        ScanRead::Taken(found, _) => {
             let head = found.head;
             let lists = found.lists;
             let sections = found.sections;
@@ -127,8 +128,8 @@ pub fn sections(block: &[u8]) -> SectionsAnswer
     ensures { λ r. ⌜ toldSections r ≡ sectionsOf (now (block .entry)) ⌝ }
 {
     match judge(block) {
-        Judged::Refused(f, p) => SectionsAnswer::Refused(f, p),
-        Judged::Taken(found, _) => {
+        ScanRead::Refused(f, p) => SectionsAnswer::Refused(f, p),
+        ScanRead::Taken(found, _) => {
             let head = found.head;
             let sections = found.sections;
             SectionsAnswer::Block(head, sections)
@@ -148,33 +149,33 @@ fn parts(block: &[u8]) -> Sections
 
 // Each section as a part of the block, empty when refused.
 pub fn names_section(block: &[u8]) -> &[u8]
-    ensures { λ r. ⌜ IsPart (block .entry) (partsOf (sectionsOf (now (block .entry))) .names) r ⌝ }
+    ensures { λ r. ⌜ IsSlice (block .entry) (partsOf (sectionsOf (now (block .entry))) .names) r ⌝ }
 {
     let found = parts(block);
     let names = found.names;
-    cut(block, names)
+    slice_of(block, names)
 }
 
 pub fn metadata_section(block: &[u8]) -> &[u8]
-    ensures { λ r. ⌜ IsPart (block .entry) (partsOf (sectionsOf (now (block .entry))) .metadata) r ⌝ }
+    ensures { λ r. ⌜ IsSlice (block .entry) (partsOf (sectionsOf (now (block .entry))) .metadata) r ⌝ }
 {
     let found = parts(block);
     let metadata = found.metadata;
-    cut(block, metadata)
+    slice_of(block, metadata)
 }
 
 pub fn objects_section(block: &[u8]) -> &[u8]
-    ensures { λ r. ⌜ IsPart (block .entry) (partsOf (sectionsOf (now (block .entry))) .objects) r ⌝ }
+    ensures { λ r. ⌜ IsSlice (block .entry) (partsOf (sectionsOf (now (block .entry))) .objects) r ⌝ }
 {
     let found = parts(block);
     let objects = found.objects;
-    cut(block, objects)
+    slice_of(block, objects)
 }
 
 pub fn timers_section(block: &[u8]) -> &[u8]
-    ensures { λ r. ⌜ IsPart (block .entry) (partsOf (sectionsOf (now (block .entry))) .timers) r ⌝ }
+    ensures { λ r. ⌜ IsSlice (block .entry) (partsOf (sectionsOf (now (block .entry))) .timers) r ⌝ }
 {
     let found = parts(block);
     let timers = found.timers;
-    cut(block, timers)
+    slice_of(block, timers)
 }

@@ -2,7 +2,6 @@
 // rows behind it handed on as what remains. A call that hands back a part hands back an empty one when refused; its number and offset are
 // asked by the row's own question.
 use crate::fault::Fault;
-use crate::head::cut;
 use crate::head::is_version;
 use crate::metadata::MetadataFields;
 use crate::metadata::MetadataRead;
@@ -13,16 +12,16 @@ use crate::names::name_row;
 use crate::objects::ObjectFields;
 use crate::objects::ObjectRead;
 use crate::objects::object_row;
-use crate::timers::TIMER_ROW;
+use crate::timers::TIMER_ROW_LENGTH;
 use crate::timers::TimerFields;
 use crate::timers::TimerRead;
 use crate::timers::timer_row;
+use wire::ranges::slice_of;
 ghost use mathlib.Core.Path.{_≡_};
 ghost use Prim.Native.Nat.{ℕ};
 ghost use denote.Ref.{ptr};
 ghost use Rattle.wire.specs.Places.{placeIn, startTold};
-ghost use Rattle.mapblock.specs.Rows.{partTold};
-ghost use Rattle.mapblock.specs.Sections.{IsPart};
+ghost use Rattle.wire.specs.Ranges.{rangeTold, IsSlice};
 ghost use Rattle.wire.specs.Walk.{rowsBehind};
 ghost use Rattle.mapblock.specs.RowQuestions.{nameRowOf, metadataRowOf, objectRowOf, timerRowOf};
 ghost use Rattle.mapblock.specs.AskedRows.{toldNameRow, toldMetadataRow, toldObjectRow, toldTimerRow};
@@ -50,10 +49,10 @@ pub fn name_row_of(part: &[u8]) -> NameRowAnswer
 
 // The name in the front row.
 pub fn name_of(part: &[u8]) -> &[u8]
-    ensures { λ r. ⌜ IsPart (part .entry) (partTold (λ (x : NameFields × ℕ). x .0 .name) (nameRowOf (now (part .entry)))) r ⌝ }
+    ensures { λ r. ⌜ IsSlice (part .entry) (rangeTold (λ (x : NameFields × ℕ). x .0 .name) (nameRowOf (now (part .entry)))) r ⌝ }
 {
     match name_row_of(part) {
-        NameRowAnswer::Row(row, _) => cut(part, row.name),
+        NameRowAnswer::Row(row, _) => slice_of(part, row.name),
         _ => &part[..0],
     }
 }
@@ -94,30 +93,30 @@ pub fn metadata_row_of(version: u8, part: &[u8]) -> MetadataRowAnswer
 
 // The content in the front row; from version 23 on it is empty.
 pub fn metadata_content_of(version: u8, part: &[u8]) -> &[u8]
-    ensures { λ r. ⌜ IsPart (part .entry) (partTold (λ (x : MetadataFields × ℕ). x .0 .content) (metadataRowOf version (now (part .entry)))) r ⌝ }
+    ensures { λ r. ⌜ IsSlice (part .entry) (rangeTold (λ (x : MetadataFields × ℕ). x .0 .content) (metadataRowOf version (now (part .entry)))) r ⌝ }
 {
     match metadata_row_of(version, part) {
-        MetadataRowAnswer::Row(row, _) => cut(part, row.content),
+        MetadataRowAnswer::Row(row, _) => slice_of(part, row.content),
         _ => &part[..0],
     }
 }
 
 // The variables in the front row; in version 22 they are empty.
 pub fn metadata_variables_of(version: u8, part: &[u8]) -> &[u8]
-    ensures { λ r. ⌜ IsPart (part .entry) (partTold (λ (x : MetadataFields × ℕ). x .0 .rows) (metadataRowOf version (now (part .entry)))) r ⌝ }
+    ensures { λ r. ⌜ IsSlice (part .entry) (rangeTold (λ (x : MetadataFields × ℕ). x .0 .rows) (metadataRowOf version (now (part .entry)))) r ⌝ }
 {
     match metadata_row_of(version, part) {
-        MetadataRowAnswer::Row(row, _) => cut(part, row.rows),
+        MetadataRowAnswer::Row(row, _) => slice_of(part, row.rows),
         _ => &part[..0],
     }
 }
 
 // The inventory in the front row; in version 22 it is empty.
 pub fn metadata_inventory_of(version: u8, part: &[u8]) -> &[u8]
-    ensures { λ r. ⌜ IsPart (part .entry) (partTold (λ (x : MetadataFields × ℕ). x .0 .inventory) (metadataRowOf version (now (part .entry)))) r ⌝ }
+    ensures { λ r. ⌜ IsSlice (part .entry) (rangeTold (λ (x : MetadataFields × ℕ). x .0 .inventory) (metadataRowOf version (now (part .entry)))) r ⌝ }
 {
     match metadata_row_of(version, part) {
-        MetadataRowAnswer::Row(row, _) => cut(part, row.inventory),
+        MetadataRowAnswer::Row(row, _) => slice_of(part, row.inventory),
         _ => &part[..0],
     }
 }
@@ -155,10 +154,10 @@ pub fn object_row_of(part: &[u8]) -> ObjectRowAnswer
 
 // The content in the front row.
 pub fn object_content_of(part: &[u8]) -> &[u8]
-    ensures { λ r. ⌜ IsPart (part .entry) (partTold (λ (x : ObjectFields × ℕ). x .0 .content) (objectRowOf (now (part .entry)))) r ⌝ }
+    ensures { λ r. ⌜ IsSlice (part .entry) (rangeTold (λ (x : ObjectFields × ℕ). x .0 .content) (objectRowOf (now (part .entry)))) r ⌝ }
 {
     match object_row_of(part) {
-        ObjectRowAnswer::Row(row, _) => cut(part, row.content),
+        ObjectRowAnswer::Row(row, _) => slice_of(part, row.content),
         _ => &part[..0],
     }
 }
@@ -189,7 +188,7 @@ pub fn timer_row_of(part: &[u8]) -> TimerRowAnswer
         return TimerRowAnswer::NoSuchRow;
     }
     match timer_row(part) {
-        TimerRead::Row(row) => TimerRowAnswer::Row(row, TIMER_ROW),
+        TimerRead::Row(row) => TimerRowAnswer::Row(row, TIMER_ROW_LENGTH),
         TimerRead::Refused(f, p) => TimerRowAnswer::Refused(f, p),
     }
 }

@@ -8,7 +8,7 @@ use crate::objects::ObjectRead;
 use crate::objects::object_row;
 use crate::positions::PositionRead;
 use crate::positions::new_position;
-use crate::timers::TIMER_ROW;
+use crate::timers::TIMER_ROW_LENGTH;
 use crate::timers::TimerRead;
 use crate::timers::timer_row;
 use wire::fields::U16;
@@ -17,41 +17,41 @@ ghost use mathlib.Core.Path.{_≡_};
 ghost use mathlib.Core.List.{[]};
 ghost use Rattle.wire.specs.Format.{items};
 ghost use Rattle.wire.specs.Formats.{listed};
-ghost use Rattle.mapblock.specs.Kinds.{rowAfter, RowMarked};
+ghost use Rattle.mapblock.specs.ListKinds.{rowAfter, RowMarked};
 ghost use Rattle.mapblock.specs.Told.{toldReach, ended};
 
-pub enum Kind {
+pub enum ListKind {
     Metadata,
     Objects,
     Timers,
 }
 
 // The length of the front row, judged alone.
-fn row_alone(kind: Kind, version: u8, s: &[u8]) -> Reach
+fn row_alone(kind: ListKind, version: u8, s: &[u8]) -> Reach
     ensures { λ r. ⌜ toldReach r ≡ ended (rowAfter kind version [] .read (now (s .entry))) ⌝ }
 {
     match kind {
-        Kind::Metadata => match metadata_row(version, s) {
+        ListKind::Metadata => match metadata_row(version, s) {
             MetadataRead::Row(_, n) => Reach::End(n),
             MetadataRead::Refused(f, p) => Reach::Refused(f, p),
         },
-        Kind::Objects => match object_row(s) {
+        ListKind::Objects => match object_row(s) {
             ObjectRead::Row(_, n) => Reach::End(n),
             ObjectRead::Refused(f, p) => Reach::Refused(f, p),
         },
-        Kind::Timers => match timer_row(s) {
-            TimerRead::Row(_) => Reach::End(TIMER_ROW),
+        ListKind::Timers => match timer_row(s) {
+            TimerRead::Row(_) => Reach::End(TIMER_ROW_LENGTH),
             TimerRead::Refused(f, p) => Reach::Refused(f, p),
         },
     }
 }
 
 // The same after rows whose positions are marked; its own position is marked too.
-fn row_after(kind: Kind, version: u8, s: &[u8], marks: &mut [u8; NODES]) -> Reach
+fn row_after(kind: ListKind, version: u8, s: &[u8], marks: &mut [u8; NODES]) -> Reach
     ensures { λ r. ⌜ RowMarked kind version (now (s .entry)) (now (marks .entry)) (now (marks .exit)) r ⌝ }
 {
     match kind {
-        Kind::Objects => row_alone(Kind::Objects, version, s),
+        ListKind::Objects => row_alone(ListKind::Objects, version, s),
         _ => match new_position(s, marks) {
             PositionRead::Refused(f) => Reach::Refused(f, 0),
             PositionRead::At(_) => row_alone(kind, version, s),
@@ -60,7 +60,7 @@ fn row_after(kind: Kind, version: u8, s: &[u8], marks: &mut [u8; NODES]) -> Reac
 }
 
 // So many rows.
-pub fn rows(kind: Kind, version: u8, s: &[u8], count: u16) -> Reach
+pub fn rows(kind: ListKind, version: u8, s: &[u8], count: u16) -> Reach
     ensures { λ r. ⌜ toldReach r ≡ ended (items (rowAfter kind version) count .read (now (s .entry))) ⌝ }
 {
     let mut marks = [0u8; NODES];
@@ -83,7 +83,7 @@ pub fn rows(kind: Kind, version: u8, s: &[u8], count: u16) -> Reach
 }
 
 // A count and so many rows.
-pub(crate) fn listed(kind: Kind, version: u8, s: &[u8]) -> Reach
+pub(crate) fn listed(kind: ListKind, version: u8, s: &[u8]) -> Reach
     ensures { λ r. ⌜ toldReach r ≡ ended (listed 2 (rowAfter kind version) .read (now (s .entry))) ⌝ }
 {
     let U16::Value(count) = u16_at(s, 0) else {

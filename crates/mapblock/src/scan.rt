@@ -3,41 +3,41 @@ use crate::fault::Fault;
 use crate::fault::Reach;
 use crate::head::Head;
 use crate::head::NO_LIGHTING;
-use crate::head::Part;
 use crate::head::Sections;
 use crate::head::is_version;
 use crate::lists::EarlyRead;
-use crate::lists::LIST_HEAD;
+use crate::lists::LIST_HEAD_LENGTH;
 use crate::lists::early_timers;
 use crate::lists::late_timers;
 use crate::lists::metadata_list;
 use crate::lists::object_list;
-use crate::names::NAMES_HEAD;
-use crate::names::SavedRead;
-use crate::names::saved;
+use crate::names::NAMES_HEAD_LENGTH;
+use crate::names::NameMappingRead;
+use crate::names::name_mapping;
 use crate::names::sized;
 use crate::names::unmark;
+use crate::nodes::FirstUnmapped;
 use crate::nodes::IDS;
-use crate::nodes::Stray;
-use crate::nodes::first_stray;
+use crate::nodes::first_unmapped;
 use crate::nodes::node_data;
 use crate::nodes::width;
 use wire::fields::U8;
 use wire::fields::U16;
 use wire::fields::u8_at;
 use wire::fields::u16_at;
+use wire::ranges::Range;
 ghost use mathlib.Core.Path.{_≡_};
 ghost use mathlib.Core.List.{List};
 ghost use mathlib.Core.Bool.{Bool};
 ghost use Prim.Native.Nat.{ℕ, _+_, _-_, _<_, _≤_};
-ghost use lib.ListN.{length, drop};
+ghost use lib.ListN.{drop};
 ghost use Rattle.wire.specs.Read.{done, mapRead};
 ghost use Rattle.mapblock.specs.Layout.{opening};
 ghost use Rattle.mapblock.specs.Block.{verdict};
-ghost use Rattle.mapblock.specs.Rows.{part};
-ghost use Rattle.mapblock.specs.Sections.{InReach, found};
+ghost use Rattle.wire.specs.Ranges.{rangeAt, InReach};
+ghost use Rattle.mapblock.specs.Sections.{scannedOf};
 ghost use Rattle.mapblock.specs.Table.{freeIn};
-ghost use Rattle.mapblock.specs.Scan.{openingOn, openingIs, toldOpening, FrontTold, FrontIs, MiddleTold, MiddleIs, metadataHead, earlyHead, Sized, soFar, withLate, Upto, toldScan};
+ghost use Rattle.mapblock.specs.Scan.{openingOn, openingIs, toldOpening, FrontTold, FrontIs, MiddleTold, MiddleIs, metadataHead, earlyHead, Sized, withoutLateTimers, withLateTimersAt, ReadUpTo, toldScan};
 
 // ---- the front: head, the names of version 29, node data
 pub struct OpeningFields {
@@ -125,11 +125,11 @@ fn named_front(s: &[u8], o: OpeningFields, at: usize, ids: &mut [u8; IDS]) -> Fr
     requires { ⌜ (29 ≤ o .version) × (opening .read (now s) ≡ done (openingIs o) at) ⌝ }
     ensures { λ r. ⌜ FrontTold (now (ids .entry)) (now (ids .exit)) (now (s .entry)) r ⌝ }
 {
-    match saved(&s[at..], ids) {
-        SavedRead::Refused(f, p) => FrontRead::Refused(f, at + p),
-        SavedRead::Rows(timestamp, count, n) => match node_data(o.version, &s[at + n..]) {
+    match name_mapping(&s[at..], ids) {
+        NameMappingRead::Refused(f, p) => FrontRead::Refused(f, at + p),
+        NameMappingRead::Rows(timestamp, count, n) => match node_data(o.version, &s[at + n..]) {
             Reach::Refused(f, p) => {
-                unmark(&s[at + NAMES_HEAD..], count, ids);
+                unmark(&s[at + NAMES_HEAD_LENGTH..], count, ids);
                 FrontRead::Refused(f, at + n + p)
             }
             Reach::End(m) => FrontRead::Fields(FrontFields {
@@ -195,24 +195,24 @@ fn middle(version: u8, s: &[u8]) -> MiddleRead
 }
 
 // What a block's scan finds: the head, where the param lists start, and the sections.
-pub struct Found {
+pub struct Scanned {
     pub head: Head,
     pub lists: usize,
     pub sections: Sections,
 }
 
 // A block that is taken, with its length, or the fault and its place.
-pub enum Judged {
-    Taken(Found, usize),
+pub enum ScanRead {
+    Taken(Scanned, usize),
     Refused(Fault, usize),
 }
 
 // The rows of a list: they stand behind its head.
-fn rows_of(at: usize, head: usize, size: usize) -> Part
+fn rows_of(at: usize, head: usize, size: usize) -> Range
     requires { ⌜ (head ≤ size) × InReach (at + size) ⌝ }
-    ensures { λ r. ⌜ r ≡ part (at + head) (size - head) ⌝ }
+    ensures { λ r. ⌜ r ≡ rangeAt (at + head) (size - head) ⌝ }
 {
-    Part {
+    Range {
         start: at + head,
         length: size - head,
     }
@@ -222,23 +222,27 @@ fn rows_of(at: usize, head: usize, size: usize) -> Part
 pub fn metadata_head(version: u8) -> usize
     ensures { λ r. ⌜ r ≡ metadataHead version ⌝ }
 {
-    if version < 23 { 4 } else { LIST_HEAD }
+    if version < 23 { 4 } else { LIST_HEAD_LENGTH }
 }
 
 // What stands before version 24's timers: all of it where there are none.
 fn early_head(m: MiddleFields) -> usize
     ensures { λ r. ⌜ r ≡ earlyHead m ⌝ }
 {
-    if m.timer == 1 { LIST_HEAD } else { m.early }
+    if m.timer == 1 {
+        LIST_HEAD_LENGTH
+    } else {
+        m.early
+    }
 }
 
 // What is found before the late timers.
-fn so_far(w: FrontFields, m: MiddleFields, timestamp: u32, names: Part) -> Found
+fn without_late_timers(w: FrontFields, m: MiddleFields, timestamp: u32, names: Range) -> Scanned
     requires { ⌜ Sized w m ⌝ }
-    ensures { λ r. ⌜ r ≡ soFar w m timestamp names ⌝ }
+    ensures { λ r. ⌜ r ≡ withoutLateTimers w m timestamp names ⌝ }
 {
     let early = w.end + m.metadata;
-    Found {
+    Scanned {
         head: Head {
             version: w.version,
             flags: w.flags,
@@ -250,16 +254,16 @@ fn so_far(w: FrontFields, m: MiddleFields, timestamp: u32, names: Part) -> Found
         sections: Sections {
             names,
             metadata: rows_of(w.end, metadata_head(w.version), m.metadata),
-            objects: rows_of(early + m.early, LIST_HEAD, m.objects),
+            objects: rows_of(early + m.early, LIST_HEAD_LENGTH, m.objects),
             timers: rows_of(early, early_head(m), m.early),
         },
     }
 }
 
 // The same with the late timers, which are the n bytes from a place on.
-fn with_late(w: Found, at: usize, n: usize) -> Found
+fn with_late_timers(w: Scanned, at: usize, n: usize) -> Scanned
     requires { ⌜ (25 ≤ w .head .version → 3 ≤ n) × InReach (at + n) ⌝ }
-    ensures { λ r. ⌜ r ≡ withLate w at n ⌝ }
+    ensures { λ r. ⌜ r ≡ withLateTimersAt w at n ⌝ }
 {
     let head = w.head;
     if head.version < 25 {
@@ -269,8 +273,8 @@ fn with_late(w: Found, at: usize, n: usize) -> Found
     let names = before.names;
     let metadata = before.metadata;
     let objects = before.objects;
-    let timers = rows_of(at, LIST_HEAD, n);
-    Found {
+    let timers = rows_of(at, LIST_HEAD_LENGTH, n);
+    Scanned {
         head,
         lists: w.lists,
         sections: Sections {
@@ -283,73 +287,76 @@ fn with_late(w: Found, at: usize, n: usize) -> Found
 }
 
 // The late timers, the end of the bytes, and that every id is mapped.
-fn ending(s: &[u8], w: Found, at: usize, ids: &[u8; IDS]) -> Judged
-    requires { ⌜ ((free : ℕ → Bool) × Upto free (now s) w at (now ids)) ⌝ }
-    ensures { λ r. ⌜ ((free : ℕ → Bool) → Upto free (now (s .entry)) w at (now (ids .entry)) → toldScan r ≡ mapRead found (verdict free (now (s .entry)))) ⌝ }
+fn ending(s: &[u8], w: Scanned, at: usize, ids: &[u8; IDS]) -> ScanRead
+    requires { ⌜ ((free : ℕ → Bool) × ReadUpTo free (now s) w at (now ids)) ⌝ }
+    ensures { λ r. ⌜ ((free : ℕ → Bool) → ReadUpTo free (now (s .entry)) w at (now (ids .entry)) → toldScan r ≡ mapRead scannedOf (verdict free (now (s .entry)))) ⌝ }
 {
     let head = w.head;
     let version = head.version;
     let lists = w.lists;
     match late_timers(version, &s[at..]) {
-        Reach::Refused(f, p) => Judged::Refused(f, at + p),
+        Reach::Refused(f, p) => ScanRead::Refused(f, at + p),
         Reach::End(n) => {
             if at + n < s.len() {
-                return Judged::Refused(Fault::BytesAfter, at + n);
+                return ScanRead::Refused(Fault::BytesAfter, at + n);
             }
-            match first_stray(version, &s[lists..], ids) {
-                Stray::At(i) => Judged::Refused(Fault::IdUnmapped, lists + width(version) * i),
-                Stray::None => Judged::Taken(with_late(w, at, n), at + n),
+            match first_unmapped(version, &s[lists..], ids) {
+                FirstUnmapped::At(i) => ScanRead::Refused(
+                    Fault::IdUnmapped,
+                    lists + width(version) * i,
+                ),
+                FirstUnmapped::None => ScanRead::Taken(with_late_timers(w, at, n), at + n),
             }
         }
     }
 }
 
 // Before version 29: timestamp and names behind the static objects, then the end.
-fn names_behind(s: &[u8], w: FrontFields, m: MiddleFields, ids: &mut [u8; IDS]) -> Judged
+fn names_behind(s: &[u8], w: FrontFields, m: MiddleFields, ids: &mut [u8; IDS]) -> ScanRead
     requires { ⌜ (w .version < 29) × ((t : List ℕ) × FrontIs t (now ids) (now s) w) × MiddleIs (w .version) (drop (w .end) (now s)) m ⌝ }
-    ensures { λ r. ⌜ ((t : List ℕ) → FrontIs t (now (ids .entry)) (now (s .entry)) w → toldScan r ≡ mapRead found (verdict (freeIn t) (now (s .entry)))) ⌝ }
+    ensures { λ r. ⌜ ((t : List ℕ) → FrontIs t (now (ids .entry)) (now (s .entry)) w → toldScan r ≡ mapRead scannedOf (verdict (freeIn t) (now (s .entry)))) ⌝ }
     ensures { λ _. ⌜ now (ids .exit) ≡ now (ids .entry) ⌝ }
 {
     let at = w.end + m.metadata + m.early + m.objects;
-    match saved(&s[at..], ids) {
-        SavedRead::Refused(f, p) => Judged::Refused(f, at + p),
-        SavedRead::Rows(timestamp, count, n) => {
-            let found = so_far(w, m, timestamp, rows_of(at, NAMES_HEAD, n));
+    match name_mapping(&s[at..], ids) {
+        NameMappingRead::Refused(f, p) => ScanRead::Refused(f, at + p),
+        NameMappingRead::Rows(timestamp, count, n) => {
+            let found = without_late_timers(w, m, timestamp, rows_of(at, NAMES_HEAD_LENGTH, n));
             let r = ending(s, found, at + n, ids);
-            unmark(&s[at + NAMES_HEAD..], count, ids);
+            unmark(&s[at + NAMES_HEAD_LENGTH..], count, ids);
             r
         }
     }
 }
 
 // What follows the node data.
-fn behind_front(s: &[u8], w: FrontFields, ids: &mut [u8; IDS]) -> Judged
+fn behind_front(s: &[u8], w: FrontFields, ids: &mut [u8; IDS]) -> ScanRead
     requires { ⌜ ((t : List ℕ) × FrontIs t (now ids) (now s) w) ⌝ }
-    ensures { λ r. ⌜ ((t : List ℕ) → FrontIs t (now (ids .entry)) (now (s .entry)) w → toldScan r ≡ mapRead found (verdict (freeIn t) (now (s .entry)))) ⌝ }
+    ensures { λ r. ⌜ ((t : List ℕ) → FrontIs t (now (ids .entry)) (now (s .entry)) w → toldScan r ≡ mapRead scannedOf (verdict (freeIn t) (now (s .entry)))) ⌝ }
     ensures { λ _. ⌜ now (ids .exit) ≡ now (ids .entry) ⌝ }
 {
     let end = w.end;
     match middle(w.version, &s[end..]) {
-        MiddleRead::Refused(f, p) => Judged::Refused(f, end + p),
+        MiddleRead::Refused(f, p) => ScanRead::Refused(f, end + p),
         MiddleRead::Lists(m) => {
             if w.version < 29 {
                 return names_behind(s, w, m, ids);
             }
             // Timestamp and names stand between the four bytes of step 1 and the two widths.
-            let names = rows_of(4, NAMES_HEAD, w.lists - 6);
-            let found = so_far(w, m, w.timestamp, names);
+            let names = rows_of(4, NAMES_HEAD_LENGTH, w.lists - 6);
+            let found = without_late_timers(w, m, w.timestamp, names);
             ending(s, found, end + m.metadata + m.early + m.objects, ids)
         }
     }
 }
 
 // Judges a block. The table tells which ids are free, all of them where it is clear, and comes back as it was; so one table serves many blocks.
-pub fn scan(s: &[u8], ids: &mut [u8; IDS]) -> Judged
-    ensures { λ r. ⌜ toldScan r ≡ mapRead found (verdict (freeIn (now (ids .entry))) (now (s .entry))) ⌝ }
+pub fn scan(s: &[u8], ids: &mut [u8; IDS]) -> ScanRead
+    ensures { λ r. ⌜ toldScan r ≡ mapRead scannedOf (verdict (freeIn (now (ids .entry))) (now (s .entry))) ⌝ }
     ensures { λ _. ⌜ now (ids .exit) ≡ now (ids .entry) ⌝ }
 {
     match front(s, ids) {
-        FrontRead::Refused(f, p) => Judged::Refused(f, p),
+        FrontRead::Refused(f, p) => ScanRead::Refused(f, p),
         FrontRead::Fields(w) => {
             let r = behind_front(s, w, ids);
             // Version 29's names: their rows stand behind step 1 and the list's head. Before it there are none here.

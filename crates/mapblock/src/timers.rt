@@ -18,10 +18,10 @@ pub struct TimerFields {
 }
 
 // How many bytes a row has.
-pub const TIMER_ROW: usize = 10;
+pub const TIMER_ROW_LENGTH: usize = 10;
 
 // From version 25 on a list of timers begins with that number.
-pub const TIMER_ROW_BYTE: u8 = TIMER_ROW as u8;
+pub const TIMER_ROW_LENGTH_BYTE: u8 = TIMER_ROW_LENGTH as u8;
 
 // The front row, or the fault and its place.
 pub enum TimerRead {

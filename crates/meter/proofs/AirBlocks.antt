@@ -9,10 +9,11 @@ use lib.IntN.{ℤ}
 use lib.Signed.{mag}
 use lib.ListN.{length}
 use Rattle.wire.specs.Bytes.{Bytes}
-use Rattle.wire.specs.Choice.{yes-and}
-use Rattle.wire.specs.Order.{order, order-refl, choose}
-use Rattle.wire.specs.Format.{run, nothing, such, _⨾_, along, items}
-use Rattle.wire.specs.Formats.{number, signed, half64, listed, counted as runs, behind}
+use Rattle.wire.proofs.Tests.{yes-and}
+use Rattle.wire.specs.Order.{order, choose}
+use Rattle.wire.proofs.TotalOrder.{order-refl}
+use Rattle.wire.specs.Format.{run, nothing, refine, _⨾_, iso, items}
+use Rattle.wire.specs.Formats.{number, signed, half64, listed, prefixed as runs, behind}
 use Rattle.wire.specs.Answer.{good}
 use Rattle.position.specs.Keys.{isKey, splitOf}
 use Rattle.position.specs.Nodes.{isBlock}
@@ -20,17 +21,18 @@ use Rattle.position.specs.Lots.{world}
 use Rattle.position.specs.Spans.{allTime}
 use Rattle.position.specs.declared.key.Coordinates.{Coordinates}
 use Rattle.position.proofs.Theorems.{keys-have-triples, node-in-the-world}
-use Rattle.mapblock.specs.Layout.{all, unused, nameRow, saved, params, nodes, metadata, objects, earlyTimers, lateTimers, opening, front, rest, steps}
+use Rattle.mapblock.specs.Layout.{all, unused, nameRow, nameMapping, params, nodes, metadata, objects, earlyTimers, lateTimers, opening, front, rest, steps}
 use Rattle.mapblock.specs.Block.{block}
 use Rattle.mapblock.specs.Questions.{nameAt}
 use Rattle.mapblock.specs.Valid.{Valid}
 use Rattle.mapblock.proofs.ValidOk.{valid-is-ok}
 use Rattle.mapblock.proofs.Taken.{airAt, air-valid}
-use Rattle.meter.specs.Standing.{Part, Placed, Node, inPart, nodeOf, nodesFrom, those, nodesIn}
+use Rattle.position.specs.declared.part.Part.{Part}
+use Rattle.sheet.specs.Placed.{Placed, placed, placedAt}
+use Rattle.meter.specs.Standing.{Node, inPart, nodeIn, nodesFrom, filterNodes, nodesIn}
 use Rattle.meter.specs.Counting.{amountOf, byOne}
-use Rattle.meter.specs.Tallying.{placed, placedAt}
-use Rattle.meter.specs.Sheet.{SheetRecord, frame}
-use Rattle.meter.proofs.Blocks.{valid-block}
+use Rattle.sheet.specs.Sheet.{SheetRecord, frame}
+use Rattle.sheet.proofs.TakenBlocks.{valid-block}
 use Rattle.meter.proofs.NamesAlone.{standing-one}
 
 abbrev pub bytes : List ℕ
@@ -44,14 +46,14 @@ are-bytes = block all .bytes (airAt 29 0) (valid-is-ok (airAt 29 0) .0 valid .0)
 
 -- they fit a record
 short : length bytes < 256 ^ 4
-unfolding block along steps front rest opening saved nodes params metadata earlyTimers objects lateTimers nameRow unused _⨾_ number run listed items runs behind such nothing
+unfolding block iso steps front rest opening nameMapping nodes params metadata earlyTimers objects lateTimers nameRow unused _⨾_ number run listed items runs behind refine nothing
 short = lit< tt
 
 abbrev pub recordOf : ℤ → SheetRecord
 recordOf k = record { key = k; block = bytes }
 
 pub framed : (k : ℤ) → mag k < half64 → frame .Ok (recordOf k)
-unfolding frame along _⨾_ signed number runs
+unfolding frame iso _⨾_ signed number runs
 framed k h = (h, (short, are-bytes))
 
 abbrev pub everywhere : Part
@@ -61,8 +63,8 @@ abbrev pub air : List ℕ
 air = nameAt (airAt 29 0) 0
 
 -- a node that lies in a part counts there
-some-there : (l : List Node) (x : Node) (p : Part) → inPart p x ≡ true → 1 ≤ amountOf byOne (x .name) (those (inPart p) (x ∷ l))
-unfolding those
+some-there : (l : List Node) (x : Node) (p : Part) → inPart p x ≡ true → 1 ≤ amountOf byOne (x .name) (filterNodes (inPart p) (x ∷ l))
+unfolding filterNodes
 some-there l x p h = rw h (rw (itself (x .name)) (omega arith))
   where
     itself : (n : List ℕ) → choose (order n n) false true false ≡ true
@@ -90,4 +92,4 @@ module _ (k : ℤ) (is-key : isKey k ≡ true) where
   -- its first node is counted
   pub counted : 1 ≤ amountOf byOne air (nodesIn everywhere (here ∷ []))
   unfolding nodesFrom
-  counted = rw (standing-one here) (some-there (nodesFrom here 4095 1) (nodeOf here 0) everywhere (yes-and (node-in-the-world at 0 at-block (lit< tt)) refl))
+  counted = rw (standing-one here) (some-there (nodesFrom here 4095 1) (nodeIn here 0) everywhere (yes-and (node-in-the-world at 0 at-block (lit< tt)) refl))

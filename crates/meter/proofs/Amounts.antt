@@ -6,34 +6,35 @@ use mathlib.Core.List.{List, [], _∷_, _++_}
 use native.Mathlib.Omega.{arith}
 use lib.ListN.{length}
 use Rattle.wire.specs.Bytes.{Bytes}
-use Rattle.wire.specs.Choice.{yes-and}
-use Rattle.wire.specs.Order.{order, order-same, choose}
+use Rattle.wire.proofs.Tests.{yes-and}
+use Rattle.wire.specs.Order.{order, choose}
+use Rattle.wire.proofs.TotalOrder.{order-same}
 use Rattle.wire.specs.declared.order.Order.{Order}
 use Rattle.wire.specs.declared.order.Order.the-variants.{Before, Same, After}
 use Rattle.tally.specs.Rows.{isName, joined, addRow, plus, countIn, Canonical}
-use Rattle.tally.specs.Tally.{KindRow, limited}
+use Rattle.tally.specs.Tally.{TallyRow, limited}
 use Rattle.tally.proofs.Canon.{count-plus, canonical-add, canonical-plus, determined, count-head, count-above, count-past}
-use Rattle.meter.specs.Standing.{Node, those}
+use Rattle.meter.specs.Standing.{Node, filterNodes}
 use Rattle.meter.specs.Counting.{bears, bearing, Measure, MeasureRows, rowOf, tallyOf, amountOf}
 
 -- ---- nodes that pass a test
 module _ (test : Node → Bool) where
-  pub those-append : (l k : List Node) → those test (l ++ k) ≡ those test l ++ those test k
-  unfolding those
-  those-append [] k = refl
-  those-append (x ∷ l) k = go (test x) (those-append l k)
+  pub filterNodes-append : (l k : List Node) → filterNodes test (l ++ k) ≡ filterNodes test l ++ filterNodes test k
+  unfolding filterNodes
+  filterNodes-append [] k = refl
+  filterNodes-append (x ∷ l) k = go (test x) (filterNodes-append l k)
     where
-      go : (b : Bool) → those test (l ++ k) ≡ those test l ++ those test k
-          → cond b (x ∷ those test (l ++ k)) (those test (l ++ k)) ≡ cond b (x ∷ those test l) (those test l) ++ those test k
+      go : (b : Bool) → filterNodes test (l ++ k) ≡ filterNodes test l ++ filterNodes test k
+          → cond b (x ∷ filterNodes test (l ++ k)) (filterNodes test (l ++ k)) ≡ cond b (x ∷ filterNodes test l) (filterNodes test l) ++ filterNodes test k
       go true e = ap (λ (t : List Node). x ∷ t) e
       go false e = e
 
-  pub those-fewer : (l : List Node) → length (those test l) ≤ length l
-  unfolding those
-  those-fewer [] = omega arith
-  those-fewer (x ∷ l) = go (test x) (those-fewer l)
+  pub filterNodes-fewer : (l : List Node) → length (filterNodes test l) ≤ length l
+  unfolding filterNodes
+  filterNodes-fewer [] = omega arith
+  filterNodes-fewer (x ∷ l) = go (test x) (filterNodes-fewer l)
     where
-      go : (b : Bool) → length (those test l) ≤ length l → length (cond b (x ∷ those test l) (those test l)) ≤ suc (length l)
+      go : (b : Bool) → length (filterNodes test l) ≤ length l → length (cond b (x ∷ filterNodes test l) (filterNodes test l)) ≤ suc (length l)
       go true h = omega arith
       go false h = omega arith
 
@@ -45,12 +46,12 @@ abbrev pub AllNamed : List Node → Type 0
 AllNamed [] = Unit {0}
 AllNamed (x ∷ l) = Named x × AllNamed l
 
-pub named-those : (test : Node → Bool) (l : List Node) → AllNamed l → AllNamed (those test l)
-unfolding those
-named-those test [] h = tt
-named-those test (x ∷ l) h = go (test x) (named-those test l (h .1))
+pub named-filterNodes : (test : Node → Bool) (l : List Node) → AllNamed l → AllNamed (filterNodes test l)
+unfolding filterNodes
+named-filterNodes test [] h = tt
+named-filterNodes test (x ∷ l) h = go (test x) (named-filterNodes test l (h .1))
   where
-    go : (b : Bool) → AllNamed (those test l) → AllNamed (cond b (x ∷ those test l) (those test l))
+    go : (b : Bool) → AllNamed (filterNodes test l) → AllNamed (cond b (x ∷ filterNodes test l) (filterNodes test l))
     go true k = (h .0, k)
     go false k = k
 
@@ -77,7 +78,7 @@ module _ (m : Measure) where
 
   pub first-amount : (x : Node) (l : List Node) (n : List ℕ)
       → amountOf m n (x ∷ l) ≡ m .kind .counts .add (choose (order (x .name) n) (m .kind .counts .none) (m .of x) (m .kind .counts .none)) (amountOf m n l)
-  unfolding those
+  unfolding filterNodes
   first-amount x l n = go (order (x .name) n)
     where
       go : (o : Order) → m .total (cond (choose o false true false) (x ∷ bearing n l) (bearing n l)) ≡ m .kind .counts .add (choose o (m .kind .counts .none) (m .of x) (m .kind .counts .none)) (amountOf m n l)
@@ -86,7 +87,7 @@ module _ (m : Measure) where
       go After = sym (m .kind .counts .add-none _)
 
   no-count : (n : List ℕ) → countIn (m .kind .counts) (tallyOf m []) n ≡ amountOf m n []
-  unfolding tallyOf those
+  unfolding tallyOf filterNodes
   no-count n = sym (m .total-none)
 
   pub count-tally : (l : List Node) (n : List ℕ) → countIn (m .kind .counts) (tallyOf m l) n ≡ amountOf m n l
@@ -116,10 +117,10 @@ module _ (m : Measure) where
   pub tally-limited : (l : List Node) → AllNamed l → length l < 9223372036854775808 → limited (m .kind) (tallyOf m l) ≡ true
   tally-limited l h f =
       limited-by (tallyOf m l) (tally-canonical l h)
-      (λ n. rw (count-tally l n) (m .light (bearing n l) (omega (arith, those-fewer (bears n) l))))
+      (λ n. rw (count-tally l n) (m .totalFits (bearing n l) (omega (arith, filterNodes-fewer (bears n) l))))
 
   -- ---- no more rows than nodes
-  pub add-fewer : (r : KindRow (m .kind)) (l : MeasureRows m) → length (addRow (m .kind .counts) r l) ≤ suc (length l)
+  pub add-fewer : (r : TallyRow (m .kind)) (l : MeasureRows m) → length (addRow (m .kind .counts) r l) ≤ suc (length l)
   add-fewer r [] = omega arith
   add-fewer r (s ∷ l) = go (order (r .name) (s .name)) (add-fewer r l)
     where
@@ -136,7 +137,7 @@ module _ (m : Measure) where
 
   -- ---- two lists of nodes
   pub amount-append : (n : List ℕ) (l k : List Node) → amountOf m n (l ++ k) ≡ m .kind .counts .add (amountOf m n l) (amountOf m n k)
-  amount-append n l k = ap (m .total) (those-append (bears n) l k) ∙ total-append (bearing n l) (bearing n k)
+  amount-append n l k = ap (m .total) (filterNodes-append (bears n) l k) ∙ total-append (bearing n l) (bearing n k)
     where
       total-append : (a b : List Node) → m .total (a ++ b) ≡ m .kind .counts .add (m .total a) (m .total b)
       total-append [] b = sym (ap (λ (c : m .kind .counts .C). m .kind .counts .add c (m .total b)) (m .total-none) ∙ m .kind .counts .add-none _)

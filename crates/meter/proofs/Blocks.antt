@@ -5,49 +5,21 @@ use mathlib.Core.Bool.{Bool, true, false, cond}
 use mathlib.Core.List.{List, [], _∷_}
 use native.Mathlib.Omega.{arith}
 use lib.Dec.{eqb}
-use lib.IntN.{ℤ}
 use lib.ListN.{length, length-append}
 use borrow.Author.Tests.{le-leb}
 use Rattle.wire.specs.Bytes.{Bytes, bytes-nil}
-use Rattle.wire.specs.Read.{Read, done, refused}
-use Rattle.wire.specs.Answer.{good, mapAnswer, no-good, then-good, map-good}
-use Rattle.position.specs.Keys.{splitOf}
-use Rattle.mapblock.specs.Data.{NameRow, Block}
-use Rattle.mapblock.specs.Layout.{all}
-use Rattle.mapblock.specs.Block.{block, verdict, idAt}
-use Rattle.mapblock.specs.Questions.{blockAnswer, blockOf, nameOf}
+use Rattle.mapblock.specs.Data.{NameRow}
+use Rattle.mapblock.specs.Block.{block, idAt}
+use Rattle.mapblock.specs.Questions.{nameOf}
 use Rattle.mapblock.specs.Valid.{Each, NameGood, Valid}
-use Rattle.mapblock.specs.declared.fault.Fault.{Fault}
 use Rattle.mapblock.proofs.Taken.{taken}
 use Rattle.tally.specs.Rows.{isName, Canonical}
-use Rattle.meter.specs.Standing.{Part, Placed, inPart, nodesFrom, standing, nodesIn}
+use Rattle.position.specs.declared.part.Part.{Part}
+use Rattle.sheet.specs.Placed.{Placed}
+use Rattle.meter.specs.Standing.{inPart, nodesFrom, standing, nodesIn}
 use Rattle.meter.specs.Counting.{Measure, MeasureRows, tallyOf}
-use Rattle.meter.specs.Tallying.{placed, placedAt}
-use Rattle.meter.proofs.Amounts.{AllNamed, named-append, named-those, tally-canonical}
-
--- ---- a block that is taken is well formed, and its bytes are the block's
-pub block-by : (x : Read Fault Block) (b : Block) → blockAnswer x ≡ good b → (n : ℕ) × (x ≡ done b n)
-block-by (done c n) b h = let e : c ≡ b = cc in (n, rw e)
-block-by (refused f p) b h = no-good h
-
-pub block-valid : (s : List ℕ) (b : Block) → Bytes s → blockOf s ≡ good b → Valid b × (s ≡ block all .encode b)
-unfolding blockOf
-block-valid s b w h =
-    let x = block-by (verdict all s) b h in
-    let y = taken s b (x .0) w .0 (x .1) in
-    (y .0, y .1)
-
-pub valid-block : (s : List ℕ) (b : Block) → Bytes s → Valid b → s ≡ block all .encode b → blockOf s ≡ good b
-unfolding blockOf
-valid-block s b w v e = rw (taken s b (length s) w .1 (v, e, refl))
-
--- at a key
-pub placed-taken : (key : ℤ) (s : List ℕ) (x : Placed) → placedAt key s ≡ good x → (splitOf key ≡ good (x .at)) × (blockOf s ≡ good (x .block))
-unfolding placedAt
-placed-taken key s x h =
-    let y = then-good (splitOf key) (λ c. mapAnswer (placed c) (blockOf s)) x h in
-    let z = map-good (placed (y .0)) (blockOf s) x (y .2) in
-    (y .1 ∙ ap (λ (p : Placed). good (p .at)) (z .2), z .1 ∙ ap (λ (p : Placed). good (p .block)) (z .2))
+use Rattle.meter.proofs.Amounts.{AllNamed, named-append, named-filterNodes, tally-canonical}
+use Rattle.sheet.proofs.TakenBlocks.{AllValid}
 
 -- ---- names
 name-named : (l : List NameRow) → Each NameGood l → (id : ℕ) → (isName (nameOf l id) ≡ true) × Bytes (nameOf l id)
@@ -68,11 +40,6 @@ unfolding nodesFrom
 nodes-number x zero i = refl
 nodes-number x (suc n) i = ap suc (nodes-number x n (suc i))
 
--- ---- several blocks
-abbrev pub AllValid : List Placed → Type 0
-AllValid [] = Unit {0}
-AllValid (x ∷ l) = Valid (x .block) × AllValid l
-
 pub standing-named : (l : List Placed) → AllValid l → AllNamed (standing l)
 unfolding standing
 standing-named [] h = tt
@@ -89,7 +56,7 @@ module _ (m : Measure) (p : Part) where
   held l = tallyOf m (nodesIn p l)
 
   pub rows-named : (l : List Placed) → AllValid l → AllNamed (nodesIn p l)
-  rows-named l h = named-those (inPart p) (standing l) (standing-named l h)
+  rows-named l h = named-filterNodes (inPart p) (standing l) (standing-named l h)
 
   pub rows-canonical : (l : List Placed) → AllValid l → Canonical (m .kind .counts) (held l)
   rows-canonical l h = tally-canonical m (nodesIn p l) (rows-named l h)

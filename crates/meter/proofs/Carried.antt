@@ -10,40 +10,43 @@ use lib.IntN.{ℤ}
 use lib.ListN.{length, take, drop}
 use borrow.Author.Tests.{le-leb, lt-leb}
 use Rattle.wire.specs.Answer.{Answer, good, refusal, plain, badPart, partsMisfit, noRoom, tooMany, mapAnswer, Answered, Matches}
-use Rattle.wire.specs.Store.{stored, laid}
-use Rattle.wire.proofs.Laid.{stored-fits, laid-length}
+use Rattle.wire.specs.Store.{stored, overwrite}
+use Rattle.wire.proofs.Overwrites.{stored-fits, overwrite-length}
 use Rattle.position.specs.declared.key.Coordinates.{Coordinates}
-use Rattle.mapblock.specs.declared.scan.Found.{Found}
+use Rattle.mapblock.specs.declared.scan.Scanned.{Scanned}
 use Rattle.tally.specs.Rows.{Rows, plus}
-use Rattle.tally.specs.Tally.{tally, headBytes, mostRows, ones, one}
+use Rattle.tally.specs.Tally.{tally, headBytes, maxRows, ones, one}
 use Rattle.tally.specs.Walks.{rowsBytes}
 use Rattle.tally.proofs.Held.{tally-size, head-size}
-use Rattle.names.specs.Used.{heavy}
-use Rattle.running.specs.Running.{Held, Runs, none}
-use Rattle.running.specs.declared.running.Running.{Running}
-use Rattle.running.proofs.Counts.{heavy-add, heavy-plus}
-use Rattle.running.proofs.Absorbing.{runs-empty}
-use Rattle.meter.specs.Standing.{Part, goodPart, Placed, Node, inPart, standing, nodesIn}
+use Rattle.census.specs.UsedNames.{totalCount}
+use Rattle.running_tally.specs.RunningTally.{Held, Runs, none}
+use Rattle.running_tally.specs.declared.state.RunningTally.{RunningTally}
+use Rattle.running_tally.proofs.Counts.{totalCount-add, totalCount-plus}
+use Rattle.running_tally.proofs.Absorbing.{runs-empty}
+use Rattle.position.specs.declared.part.Part.{Part}
+use Rattle.position.specs.Parts.{goodPart}
+use Rattle.sheet.specs.Placed.{Placed, placed}
+use Rattle.meter.specs.Standing.{Node, inPart, standing, nodesIn}
 use Rattle.meter.specs.Counting.{rowOf, tallyOf, byOne}
-use Rattle.meter.specs.Tallying.{placed}
-use Rattle.meter.specs.Sheet.{judgeRecord}
+use Rattle.sheet.specs.Sheet.{judgeRecord}
 use Rattle.meter.specs.Streaming.{State, noRecords, startOf, taking, stepOf, finishOf}
-use Rattle.meter.specs.Records.{lastOf, recordOf, faultNumber, faultOffset, faulty, clearTable}
+use Rattle.sheet.specs.Records.{lastOf, recordOf, faultNumber, faultOffset, faulty}
+use Rattle.mapblock.specs.Table.{clearTable}
 use Rattle.meter.specs.Adding.{Adds, Added, withBlock}
 use Rattle.meter.specs.Progress.{Carries, begun, Steps}
-use Rattle.meter.specs.declared.records.RecordFault.{RecordFault}
-use Rattle.meter.specs.declared.records.LastKey.the-variants as lasts
+use Rattle.sheet.specs.declared.records.RecordFault.{RecordFault}
+use Rattle.sheet.specs.declared.records.LastKey.the-variants as lasts
 use Rattle.meter.specs.declared.stream.Progress.{Progress}
-use Rattle.meter.proofs.Amounts.{those-fewer, add-fewer, tally-fewer}
+use Rattle.meter.proofs.Amounts.{filterNodes-fewer, add-fewer, tally-fewer}
 use Rattle.meter.proofs.Blocks.{standing-number}
-use Rattle.meter.proofs.Judging.{KeptOf}
+use Rattle.sheet.proofs.Judging.{KeptOf}
 use Rattle.meter.proofs.Streaming.{step-refused, step-good}
-use Rattle.meter.proofs.Putting.{sheet-short, sheet-many, sheet-all, tally-laid}
+use Rattle.meter.proofs.Putting.{sheet-short, sheet-many, sheet-all, tally-overwrite}
 
 -- ---- start
 -- every spare carries it
 pub begun-carried : (t : List ℕ) → Carries t begun (noRecords byOne)
-begun-carried t = record { last = refl; records = refl; runs = runs-empty t; light = zero-le; few = zero-le }
+begun-carried t = record { last = refl; records = refl; runs = runs-empty t; totalFits = zero-le; rowsFit = zero-le }
 
 module _ (p : Part) (room spare : ℕ) where
   abbrev starting : Answer Progress
@@ -58,7 +61,7 @@ module _ (p : Part) (room spare : ℕ) where
     unfolding startOf
     start-misfit k = rw (h, lt-leb room spare k)
 
-    pub start-good : room ≤ spare → {u : Running} → u ≡ none → good (record { last = lasts.Nothing; records = 0; tally = u }) ≡ starting
+    pub start-good : room ≤ spare → {u : RunningTally} → u ≡ none → good (record { last = lasts.Nothing; records = 0; tally = u }) ≡ starting
     unfolding startOf
     start-good k e = rw (e, h, le-leb room spare k)
 
@@ -73,17 +76,17 @@ module _ (p : Part) (room spare : ℕ) where
       go false b = refl
 
 -- ---- a step
-heavy-tally : (l : List Node) → heavy (tallyOf byOne l) ≡ length l
+totalCount-tally : (l : List Node) → totalCount (tallyOf byOne l) ≡ length l
 unfolding tallyOf
-heavy-tally [] = refl
-heavy-tally (x ∷ l) = heavy-add (rowOf byOne x) (tallyOf byOne l) ∙ omega (arith, heavy-tally l)
+totalCount-tally [] = refl
+totalCount-tally (x ∷ l) = totalCount-add (rowOf byOne x) (tallyOf byOne l) ∙ omega (arith, totalCount-tally l)
 
 plus-fewer : (a b : Rows ones) → length (plus ones a b) ≤ length a + length b
 plus-fewer [] b = omega arith
 plus-fewer (r ∷ a) b = omega (arith, add-fewer byOne r (plus ones a b), plus-fewer a b)
 
 block-nodes : (p : Part) (x : Placed) → length (nodesIn p (x ∷ [])) ≤ 4096
-block-nodes p x = omega (arith, those-fewer (inPart p) (standing (x ∷ [])), standing-number (x ∷ []))
+block-nodes p x = omega (arith, filterNodes-fewer (inPart p) (standing (x ∷ [])), standing-number (x ∷ []))
 
 -- the same block at the same place
 placed-same : (x : Placed) {at : Coordinates} → x .at ≡ at → x ≡ placed at (x .block)
@@ -96,7 +99,7 @@ module _ {ids counts t : List ℕ} {q : Progress} {w : State byOne} (s : Steps i
   pub stepped-refused : (f : RecordFault) → judgeRecord (lastOf (q .last)) (recordOf key block) ≡ faulty f 0 → stepOf byOne p w (recordOf key block) ≡ faulty f (q .records)
   stepped-refused f h = step-refused byOne p w (recordOf key block) (judged h) ∙ ap (λ (i : ℕ). refusal (faultNumber f) i (faultOffset f)) (sym (s .carries .records))
 
-  module _ {at : Coordinates} {f : Found} (h : Matches (KeptOf block) (good (at, f)) (judgeRecord (lastOf (q .last)) (recordOf key block))) where
+  module _ {at : Coordinates} {f : Scanned} (h : Matches (KeptOf block) (good (at, f)) (judgeRecord (lastOf (q .last)) (recordOf key block))) where
     abbrev taken : Placed
     taken = h .0
 
@@ -105,11 +108,11 @@ module _ {ids counts t : List ℕ} {q : Progress} {w : State byOne} (s : Steps i
       found = h .2 .1;
       clear = s .counts-clear;
       runs = s .carries .runs;
-      light = omega (arith, s .carries .light, s .number);
-      few = omega (arith, s .carries .few, s .number);
+      totalFits = omega (arith, s .carries .totalFits, s .number);
+      rowsFit = omega (arith, s .carries .rowsFit, s .number);
     }
 
-    pub stepped-taken : {counts′ t′ : List ℕ} {r : Running} {k : ℤ} {n : ℕ} → k ≡ key → n ≡ (q .records + 1) % 4294967296
+    pub stepped-taken : {counts′ t′ : List ℕ} {r : RunningTally} {k : ℤ} {n : ℕ} → k ≡ key → n ≡ (q .records + 1) % 4294967296
         → Added counts′ t t′ r (w .rows) (withBlock p at (taken .block) (w .rows))
         → Matches (Carries t′) (good (record { last = lasts.Key k; records = n; tally = r })) (stepOf byOne p w (recordOf key block)) × (counts′ ≡ clearTable)
     stepped-taken {counts′} {t′} {r} {k} {n} e g a =
@@ -122,8 +125,8 @@ module _ {ids counts t : List ℕ} {q : Progress} {w : State byOne} (s : Steps i
               last = ap some e;
               records = omega (arith, g, s .carries .records, s .number);
               runs = subst (Runs t′ r) same (a .absorbed .runs);
-              light = omega (arith, heavy-plus (tallyOf byOne (nodesIn p (taken ∷ []))) (w .rows), heavy-tally (nodesIn p (taken ∷ [])), s .carries .light);
-              few = omega (arith, plus-fewer (tallyOf byOne (nodesIn p (taken ∷ []))) (w .rows), tally-fewer byOne (nodesIn p (taken ∷ [])), s .carries .few);
+              totalFits = omega (arith, totalCount-plus (tallyOf byOne (nodesIn p (taken ∷ []))) (w .rows), totalCount-tally (nodesIn p (taken ∷ [])), s .carries .totalFits);
+              rowsFit = omega (arith, plus-fewer (tallyOf byOne (nodesIn p (taken ∷ []))) (w .rows), tally-fewer byOne (nodesIn p (taken ∷ [])), s .carries .rowsFit);
             },
           ),
           a .clear,
@@ -158,14 +161,14 @@ module _ {t : List ℕ} {q : Progress} {w : State byOne} (c : Carries t q w) (d 
       long : length (tally one .encode (w .rows)) ≡ q .tally .size + 9
       long = omega (arith, tally-size one (w .rows), held .size)
 
-      pub finished-many : mostRows < q .tally .rows → Finished (refusal tooMany (q .records) 0) d
+      pub finished-many : maxRows < q .tally .rows → Finished (refusal tooMany (q .records) 0) d
       finished-many m = subst (λ (i : ℕ). Finished (refusal tooMany i 0) d) (sym (c .records)) (sheet-many d (w .rows) (w .records) (omega (arith, long)) (omega (arith, held .rows)))
 
-      pub finished-all : {a e : List ℕ} → q .tally .rows ≤ mostRows → a ≡ stored 0 (headBytes one (q .tally .rows)) d → e ≡ stored 9 (take (q .tally .size) t) a → Finished (good (q .tally .size + 9)) e
+      pub finished-all : {a e : List ℕ} → q .tally .rows ≤ maxRows → a ≡ stored 0 (headBytes one (q .tally .rows)) d → e ≡ stored 9 (take (q .tally .size) t) a → Finished (good (q .tally .size + 9)) e
       finished-all {a} {e} m x y =
           let H = headBytes one (q .tally .rows) in
-          let front : a ≡ laid 0 H d = x ∙ stored-fits 0 H d (omega (arith, head-size one (q .tally .rows))) in
-          let size : length a ≡ length d = ap length front ∙ laid-length 0 H d (omega (arith, head-size one (q .tally .rows))) in
-          let put : e ≡ laid 9 (rowsBytes one (w .rows)) a = y ∙ ap (λ (l : List ℕ). stored 9 l a) (held .bytes) ∙ stored-fits 9 (rowsBytes one (w .rows)) a (omega (arith, held .size)) in
-          let all : e ≡ tally one .encode (w .rows) ++ drop (length (tally one .encode (w .rows))) d = put ∙ ap (laid 9 (rowsBytes one (w .rows))) x ∙ tally-laid (q .tally .rows) (w .rows) d (held .rows) (omega (arith, long)) in
+          let front : a ≡ overwrite 0 H d = x ∙ stored-fits 0 H d (omega (arith, head-size one (q .tally .rows))) in
+          let size : length a ≡ length d = ap length front ∙ overwrite-length 0 H d (omega (arith, head-size one (q .tally .rows))) in
+          let put : e ≡ overwrite 9 (rowsBytes one (w .rows)) a = y ∙ ap (λ (l : List ℕ). stored 9 l a) (held .bytes) ∙ stored-fits 9 (rowsBytes one (w .rows)) a (omega (arith, held .size)) in
+          let all : e ≡ tally one .encode (w .rows) ++ drop (length (tally one .encode (w .rows))) d = put ∙ ap (overwrite 9 (rowsBytes one (w .rows))) x ∙ tally-overwrite (q .tally .rows) (w .rows) d (held .rows) (omega (arith, long)) in
           sheet-all d (w .rows) (w .records) long (omega arith) (omega (arith, held .rows)) (all ∙ ap (λ (i : ℕ). tally one .encode (w .rows) ++ drop i d) long)

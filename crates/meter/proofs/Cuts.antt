@@ -8,14 +8,17 @@ use lib.Dec.{leb, ltb}
 use lib.IntN.{ℤ, pos, _+ℤ_}
 use lib.Signed.{leZ}
 use borrow.Author.Tests.{leb-true, ltb-true, ltb-false, le-leb, lt-leb, lt-ltb}
-use Rattle.wire.specs.Choice.{and-yes, yes-and, bit}
-use Rattle.wire.specs.Ints.{up, down, plus-is, le-yes, le-no, yes-le, no-le}
+use Rattle.wire.proofs.Tests.{and-yes, yes-and}
+use Rattle.wire.specs.Choice.{bit}
+use Rattle.wire.proofs.Ints.{up, down, plus-is, le-yes, le-no, yes-le, no-le}
 use Rattle.position.specs.Keys.{between}
 use Rattle.position.specs.Lots.{axis, inLot, goodLot}
 use Rattle.position.specs.Spans.{goodSpan}
 use Rattle.position.proofs.Ranges.{between-yes}
 use Rattle.position.proofs.Lots.{axis-yes, yes-axis}
-use Rattle.meter.specs.Standing.{Part, goodPart, Node, inPart}
+use Rattle.position.specs.declared.part.Part.{Part}
+use Rattle.position.specs.Parts.{goodPart}
+use Rattle.meter.specs.Standing.{Node, inPart}
 use Rattle.meter.specs.Cuts.{Cut, on-x, on-y, on-z, at-second, bothIn, allowed, lower, upper, Cuts, uncut, cut, shares, allGood, Partition}
 
 -- ---- one test in the place of two: exactly one of them holds where it does

@@ -11,20 +11,26 @@ use lib.ListN.{length, take, drop}
 use lib.Seq.{take-append-seam}
 use borrow.Author.Tests.{leb-true, le-leb}
 use Rattle.wire.specs.Bytes.{Bytes}
-use Rattle.wire.specs.Choice.{and-yes, yes-and}
-use Rattle.wire.specs.Answer.{Answer, good, refusal, plain, mapAnswer, lent, badPart, partsMisfit, noRoom, tooMany, thenAnswer, test-good, then-good, map-good, room-good}
+use Rattle.wire.proofs.Tests.{and-yes, yes-and}
+use Rattle.wire.specs.Answer.{Answer, good, refusal, plain, mapAnswer, lent, badPart, partsMisfit, noRoom, tooMany, thenAnswer}
+use Rattle.wire.proofs.Answers.{test-good, then-good, map-good, room-good}
 use Rattle.tally.specs.Rows.{Canonical}
-use Rattle.tally.specs.Tally.{tally, rowsOf, limited, mostRows}
+use Rattle.tally.specs.Tally.{tally, rowsOf, limited, maxRows}
 use Rattle.tally.specs.Theorems.{IsTally, rowsIn, Fits}
 use Rattle.tally.proofs.Held.{rows-of-tally, tally-bytewise}
-use Rattle.meter.specs.Standing.{Part, goodPart, Placed, inPart, standing, nodesIn}
+use Rattle.position.specs.declared.part.Part.{Part}
+use Rattle.position.specs.Parts.{goodPart}
+use Rattle.sheet.specs.Placed.{Placed, placedAt}
+use Rattle.meter.specs.Standing.{inPart, standing, nodesIn}
 use Rattle.meter.specs.Counting.{Measure, MeasureRows}
-use Rattle.meter.specs.Tallying.{placedAt, fitted, tallyBlockOf}
-use Rattle.meter.specs.Sheet.{sheetOf, fittedSheet, tallySheetOf}
+use Rattle.meter.specs.Tallying.{fitted, tallyBlockOf}
+use Rattle.sheet.specs.Sheet.{sheetOf}
+use Rattle.meter.specs.SheetTally.{fittedSheet, tallySheetOf}
 use Rattle.meter.specs.Theorems.{Source, one-block, whole-sheet, blocksOf, IsBytes, Gives, tallyFrom, tallied, Talliable, Exact}
-use Rattle.meter.proofs.Amounts.{those-fewer, count-tally, tally-limited, tally-fewer}
-use Rattle.meter.proofs.Blocks.{block-valid, placed-taken, AllValid, standing-number, held, rows-named, rows-canonical}
-use Rattle.meter.proofs.SheetTaken.{sheet-valid}
+use Rattle.meter.proofs.Amounts.{filterNodes-fewer, count-tally, tally-limited, tally-fewer}
+use Rattle.sheet.proofs.TakenBlocks.{block-valid, placed-taken, AllValid}
+use Rattle.meter.proofs.Blocks.{standing-number, held, rows-named, rows-canonical}
+use Rattle.sheet.proofs.SheetTaken.{sheet-valid}
 
 -- ---- blocks that are taken
 pub blocks-valid : (x : Source) → IsBytes x → (l : List Placed) → blocksOf x ≡ good l → AllValid l × (length l < 4294967296)
@@ -38,18 +44,18 @@ blocks-valid (whole-sheet s spare) b l h = sheet-valid s l b h
 module _ (m : Measure) where
   -- ---- what stands in a part of the blocks
   few-nodes : (l : List Placed) (p : Part) → length (nodesIn p l) ≤ 4096 * length l
-  few-nodes l p = omega (arith, those-fewer (inPart p) (standing l), standing-number l)
+  few-nodes l p = omega (arith, filterNodes-fewer (inPart p) (standing l), standing-number l)
 
   pub rows-limited : (l : List Placed) (p : Part) → AllValid l → length l < 4294967296 → limited (m .kind) (held m p l) ≡ true
   rows-limited l p h k = tally-limited m (nodesIn p l) (rows-named m p l h) (omega (arith, few-nodes l p))
 
   -- rows that fit a room
-  fit-of : (room : ℕ) (l : List Placed) (p : Part) → AllValid l → length l < 4294967296 → length (held m p l) ≤ mostRows → length (tally (m .kind) .encode (held m p l)) ≤ room → Fits (m .kind) room (held m p l)
-  fit-of room l p h k few fits = (yes-and (rows-limited l p h k) (le-leb (length (held m p l)) mostRows few), fits)
+  fit-of : (room : ℕ) (l : List Placed) (p : Part) → AllValid l → length l < 4294967296 → length (held m p l) ≤ maxRows → length (tally (m .kind) .encode (held m p l)) ≤ room → Fits (m .kind) room (held m p l)
+  fit-of room l p h k rowsFit fits = (yes-and (rows-limited l p h k) (le-leb (length (held m p l)) maxRows rowsFit), fits)
 
   -- rows of few blocks fit the room that their tally takes
-  pub fits-in-own : (l : List Placed) (p : Part) → AllValid l → length l < 4294967296 → 4096 * length l ≤ mostRows → Fits (m .kind) (length (tally (m .kind) .encode (held m p l))) (held m p l)
-  fits-in-own l p h k few = fit-of (length (tally (m .kind) .encode (held m p l))) l p h k (omega (arith, tally-fewer m (nodesIn p l), few-nodes l p)) (le-refl _)
+  pub fits-in-own : (l : List Placed) (p : Part) → AllValid l → length l < 4294967296 → 4096 * length l ≤ maxRows → Fits (m .kind) (length (tally (m .kind) .encode (held m p l))) (held m p l)
+  fits-in-own l p h k rowsFit = fit-of (length (tally (m .kind) .encode (held m p l))) l p h k (omega (arith, tally-fewer m (nodesIn p l), few-nodes l p)) (le-refl _)
 
   -- ---- a part is tallied where it can be, with the bytes of its rows
   pub record TalliedAs (room : ℕ) (x : Source) (p : Part) (t : List ℕ) : Type 0 where
@@ -57,11 +63,11 @@ module _ (m : Measure) where
     pub bytes : t ≡ tally (m .kind) .encode (held m p (can .blocks))
 
   sheet-good : (room n : ℕ) (r : MeasureRows m) (t : List ℕ) → fittedSheet m room r n ≡ good t
-      → (length (tally (m .kind) .encode r) ≤ room) × (length r ≤ mostRows) × (t ≡ tally (m .kind) .encode r)
+      → (length (tally (m .kind) .encode r) ≤ room) × (length r ≤ maxRows) × (t ≡ tally (m .kind) .encode r)
   unfolding fittedSheet
   sheet-good room n r t h =
-      let x = test-good (leb (length (tally (m .kind) .encode r)) room) noRoom n 0 (cond (leb (length r) mostRows) (good (tally (m .kind) .encode r)) (refusal tooMany n 0)) t h in
-      let y = test-good (leb (length r) mostRows) tooMany n 0 (good (tally (m .kind) .encode r)) t (x .1) in
+      let x = test-good (leb (length (tally (m .kind) .encode r)) room) noRoom n 0 (cond (leb (length r) maxRows) (good (tally (m .kind) .encode r)) (refusal tooMany n 0)) t h in
+      let y = test-good (leb (length r) maxRows) tooMany n 0 (good (tally (m .kind) .encode r)) t (x .1) in
       (leb-true _ _ (x .0), leb-true _ _ (y .0), (cc (y .1)))
 
   pub told-tallied : (x : Source) (p : Part) (room : ℕ) (t : List ℕ) → IsBytes x → tallyFrom m x p room ≡ good t → TalliedAs room x p t
@@ -105,8 +111,8 @@ module _ (m : Measure) where
       let y = map-good (λ (x : Placed). x ∷ []) (placedAt key s) (c .blocks) (c .taken) in
       rw (c .good-part, y .1, y .2, le-leb _ _ (c .fits .1))
   tallied-told (whole-sheet s spare) p room c =
-      let few = and-yes (limited (m .kind) (held m p (c .blocks))) (leb (length (held m p (c .blocks))) mostRows) (c .fits .0) in
-      rw (c .good-part, le-leb _ _ (c .spare), c .taken, le-leb _ _ (c .fits .1), few .1)
+      let rowsFit = and-yes (limited (m .kind) (held m p (c .blocks))) (leb (length (held m p (c .blocks))) maxRows) (c .fits .0) in
+      rw (c .good-part, le-leb _ _ (c .spare), c .taken, le-leb _ _ (c .fits .1), rowsFit .1)
 
   -- ---- in an output
   pub gives-told : (x : Source) (p : Part) (room : ℕ) (out t : List ℕ) → Gives (tallied m) room x p out t → tallyFrom m x p room ≡ good t

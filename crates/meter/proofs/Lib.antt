@@ -1,15 +1,12 @@
 -- The tally of nodes.
 pub mod Amounts
 pub mod Blocks
--- Sheets, whole and a record at a time.
-pub mod Steps
-pub mod Judging
 -- Counting a block.
-pub mod Counted
+pub mod CountedBlock
 pub mod AddedBlock
 pub mod Putting
 pub mod Tallied
-pub mod SheetTaken
+-- Sheets, whole and a record at a time.
 pub mod Streaming
 pub mod Carried
 pub mod Taking
@@ -21,9 +18,6 @@ pub mod Positions
 pub mod NamesAlone
 pub mod AirBlocks
 pub mod ShutOut
--- The program.
-pub mod Sheetcount
-pub mod Nexts
 -- Cuts, and demand 3.
 pub mod Cuts
 pub mod Partitions

@@ -6,7 +6,7 @@ use mathlib.Core.List.{List, [], _∷_, append-nil}
 use native.Mathlib.Omega.{arith}
 use Rattle.wire.specs.Answer.{Answer, good, refusal, plain, badPart, thenAnswer}
 use Rattle.position.specs.Keys.{splitOf}
-use Rattle.position.specs.Nodes.{nodeAt}
+use Rattle.position.specs.Nodes.{nodeCoordinates}
 use Rattle.position.specs.Lots.{inLot}
 use Rattle.position.specs.Spans.{inSpan}
 use Rattle.position.specs.declared.key.Coordinates.{Coordinates}
@@ -14,9 +14,12 @@ use Rattle.mapblock.specs.Data.{Block}
 use Rattle.mapblock.specs.Questions.{nameAt}
 use Rattle.tally.specs.Rows.{Rows, addRow}
 use Rattle.tally.specs.Tally.{ones}
-use Rattle.meter.specs.Standing.{Part, goodPart, Placed, inPart, nodeOf, nodesFrom, standing, those, nodesIn}
+use Rattle.position.specs.declared.part.Part.{Part}
+use Rattle.position.specs.Parts.{goodPart}
+use Rattle.sheet.specs.Placed.{Placed, placed, placedAt}
+use Rattle.meter.specs.Standing.{inPart, nodeIn, nodesFrom, standing, filterNodes, nodesIn}
 use Rattle.meter.specs.Counting.{tallyOf, byOne}
-use Rattle.meter.specs.Tallying.{placed, placedAt, fitted, tallyBlockOf}
+use Rattle.meter.specs.Tallying.{fitted, tallyBlockOf}
 use Rattle.meter.specs.Theorems.{NamesAlone}
 
 -- one block's nodes, with nothing behind them
@@ -32,25 +35,25 @@ module _ (c : Coordinates) (a b : Block) (p : Part) (time : inSpan (p .span) (a 
   y = placed c b
 
   -- the node at an index lies in the part in one block where it does in the other
-  in-same : (i : ℕ) → inPart p (nodeOf x i) ≡ inPart p (nodeOf y i)
-  in-same i = let n = nodeAt c i in ap (λ (t : Bool). inLot (p .lot) (n .x) (n .y) (n .z) && t) time
+  in-same : (i : ℕ) → inPart p (nodeIn x i) ≡ inPart p (nodeIn y i)
+  in-same i = let n = nodeCoordinates c i in ap (λ (t : Bool). inLot (p .lot) (n .x) (n .y) (n .z) && t) time
 
   -- a node of a name in front of others
   abbrev with-name : List ℕ → Rows ones → Rows ones
   with-name n l = addRow ones (record { name = n; count = 1 }) l
 
   same-rows : (n i : ℕ) → ((j : ℕ) → i ≤ j → j < i + n → nameAt a j ≡ nameAt b j)
-      → tallyOf byOne (those (inPart p) (nodesFrom x n i)) ≡ tallyOf byOne (those (inPart p) (nodesFrom y n i))
-  unfolding tallyOf those nodesFrom
+      → tallyOf byOne (filterNodes (inPart p) (nodesFrom x n i)) ≡ tallyOf byOne (filterNodes (inPart p) (nodesFrom y n i))
+  unfolding tallyOf filterNodes nodesFrom
   same-rows zero i h = refl
   same-rows (suc n) i h =
-      rw (in-same i) (go (inPart p (nodeOf y i)) (h i (omega arith) (omega arith)) (same-rows n (suc i) (λ j k l. h j (omega arith) (omega arith))))
+      rw (in-same i) (go (inPart p (nodeIn y i)) (h i (omega arith) (omega arith)) (same-rows n (suc i) (λ j k l. h j (omega arith) (omega arith))))
     where
       go : (t : Bool) → nameAt a i ≡ nameAt b i
-          → tallyOf byOne (those (inPart p) (nodesFrom x n (suc i))) ≡ tallyOf byOne (those (inPart p) (nodesFrom y n (suc i)))
-          → tallyOf byOne (cond t (nodeOf x i ∷ those (inPart p) (nodesFrom x n (suc i))) (those (inPart p) (nodesFrom x n (suc i))))
-          ≡ tallyOf byOne (cond t (nodeOf y i ∷ those (inPart p) (nodesFrom y n (suc i))) (those (inPart p) (nodesFrom y n (suc i))))
-      go true e r = ap (λ (m : List ℕ). with-name m (tallyOf byOne (those (inPart p) (nodesFrom x n (suc i))))) e ∙ ap (with-name (nameAt b i)) r
+          → tallyOf byOne (filterNodes (inPart p) (nodesFrom x n (suc i))) ≡ tallyOf byOne (filterNodes (inPart p) (nodesFrom y n (suc i)))
+          → tallyOf byOne (cond t (nodeIn x i ∷ filterNodes (inPart p) (nodesFrom x n (suc i))) (filterNodes (inPart p) (nodesFrom x n (suc i))))
+          ≡ tallyOf byOne (cond t (nodeIn y i ∷ filterNodes (inPart p) (nodesFrom y n (suc i))) (filterNodes (inPart p) (nodesFrom y n (suc i))))
+      go true e r = ap (λ (m : List ℕ). with-name m (tallyOf byOne (filterNodes (inPart p) (nodesFrom x n (suc i))))) e ∙ ap (with-name (nameAt b i)) r
       go false e r = r
 
   same-tally : ((i : ℕ) → i < 4096 → nameAt a i ≡ nameAt b i) → tallyOf byOne (nodesIn p (x ∷ [])) ≡ tallyOf byOne (nodesIn p (y ∷ []))

@@ -5,7 +5,8 @@ use mathlib.Core.Bool.{Bool, true, false, cond}
 use mathlib.Core.List.{List, [], _∷_, _++_}
 use native.Mathlib.Omega.{arith}
 use lib.ListN.{length}
-use Rattle.wire.specs.Choice.{and-yes, yes-and, bit}
+use Rattle.wire.proofs.Tests.{and-yes, yes-and}
+use Rattle.wire.specs.Choice.{bit}
 use Rattle.wire.specs.Order.{order, choose}
 use Rattle.wire.specs.Answer.{good}
 use Rattle.tally.specs.Rows.{plus, countIn, Canonical}
@@ -14,12 +15,16 @@ use Rattle.tally.specs.Theorems.{merged, Merges, AllTallies, sumOf, Fits}
 use Rattle.tally.proofs.Canon.{count-plus, canonical-plus, determined, plus-unit}
 use Rattle.tally.proofs.Fitting.{fits-left, fits-right}
 use Rattle.tally.proofs.MergeLaw.{merge-law, leaves-one, empty-changes-nothing}
-use Rattle.meter.specs.Standing.{Part, goodPart, Placed, Node, inPart, those, standing, nodesIn}
+use Rattle.position.specs.declared.part.Part.{Part}
+use Rattle.position.specs.Parts.{goodPart}
+use Rattle.sheet.specs.Placed.{Placed}
+use Rattle.meter.specs.Standing.{Node, inPart, filterNodes, standing, nodesIn}
 use Rattle.meter.specs.Counting.{Measure, MeasureRows, amountOf}
 use Rattle.meter.specs.Cuts.{Cuts, uncut, cut, lower, upper, shares, allGood, Partition}
 use Rattle.meter.specs.Theorems.{Source, blocksOf, SpareFits, IsBytes, Gives, GivesWhole, tallied, Talliable, AllGive, Outputs, EveryCut, PartitionLaw, Demand3}
 use Rattle.meter.proofs.Amounts.{first-amount, count-tally}
-use Rattle.meter.proofs.Blocks.{AllValid, held, rows-canonical}
+use Rattle.sheet.proofs.TakenBlocks.{AllValid}
+use Rattle.meter.proofs.Blocks.{held, rows-canonical}
 use Rattle.meter.proofs.Cuts.{partition}
 use Rattle.meter.proofs.Exactness.{blocks-valid, tallied-told, told-gives, gives-tallied, rows-read, is-tally, exact}
 
@@ -37,7 +42,7 @@ module _ (m : Measure) where
   -- what the nodes of a name count in each part, together
   abbrev amounts : List ℕ → List Node → List Part → C
   amounts n l [] = none
-  amounts n l (p ∷ ps) = add (amountOf m n (those (inPart p) l)) (amounts n l ps)
+  amounts n l (p ∷ ps) = add (amountOf m n (filterNodes (inPart p) l)) (amounts n l ps)
 
   -- what a node counts of a name, and the same in the parts where it lies
   abbrev own : List ℕ → Node → C
@@ -69,12 +74,12 @@ module _ (m : Measure) where
   owns-as c x ps false h = owns-none c x ps h
 
   -- the first node of a list, where it passes the test and bears the name
-  amount-first : (n : List ℕ) (test : Node → Bool) (x : Node) (l : List Node) → amountOf m n (those test (x ∷ l)) ≡ add (cond (test x) (own n x) none) (amountOf m n (those test l))
-  unfolding those
+  amount-first : (n : List ℕ) (test : Node → Bool) (x : Node) (l : List Node) → amountOf m n (filterNodes test (x ∷ l)) ≡ add (cond (test x) (own n x) none) (amountOf m n (filterNodes test l))
+  unfolding filterNodes
   amount-first n test x l = go (test x)
     where
-      go : (b : Bool) → amountOf m n (cond b (x ∷ those test l) (those test l)) ≡ add (cond b (own n x) none) (amountOf m n (those test l))
-      go true = first-amount m x (those test l) n
+      go : (b : Bool) → amountOf m n (cond b (x ∷ filterNodes test l) (filterNodes test l)) ≡ add (cond b (own n x) none) (amountOf m n (filterNodes test l))
+      go true = first-amount m x (filterNodes test l) n
       go false = sym (m .kind .counts .add-none _)
 
   -- two sums change their middle terms
@@ -86,20 +91,20 @@ module _ (m : Measure) where
   amounts-first : (n : List ℕ) (x : Node) (l : List Node) (ps : List Part) → amounts n (x ∷ l) ps ≡ add (owns (own n x) x ps) (amounts n l ps)
   amounts-first n x l [] = sym (m .kind .counts .add-none none)
   amounts-first n x l (p ∷ ps) =
-      ap (λ (y : C). add y (amounts n (x ∷ l) ps)) (amount-first n (inPart p) x l) ∙ ap (add (add (cond (inPart p x) (own n x) none) (amountOf m n (those (inPart p) l)))) (amounts-first n x l ps)
+      ap (λ (y : C). add y (amounts n (x ∷ l) ps)) (amount-first n (inPart p) x l) ∙ ap (add (add (cond (inPart p x) (own n x) none) (amountOf m n (filterNodes (inPart p) l)))) (amounts-first n x l ps)
       ∙ swap _ _ _ _
 
   amounts-nothing : (n : List ℕ) (ps : List Part) → amounts n [] ps ≡ none
-  unfolding those
+  unfolding filterNodes
   amounts-nothing n [] = refl
   amounts-nothing n (p ∷ ps) = ap (λ (y : C). add y (amounts n [] ps)) (m .total-none) ∙ m .kind .counts .add-none _ ∙ amounts-nothing n ps
 
-  nothing-there : (n : List ℕ) (p : Part) → amountOf m n (those (inPart p) []) ≡ none
-  unfolding those
+  nothing-there : (n : List ℕ) (p : Part) → amountOf m n (filterNodes (inPart p) []) ≡ none
+  unfolding filterNodes
   nothing-there n p = m .total-none
 
   amounts-whole : (n : List ℕ) (whole : Part) (ps : List Part) → ((x : Node) → shares ps x ≡ bit (inPart whole x)) → (l : List Node)
-      → amounts n l ps ≡ amountOf m n (those (inPart whole) l)
+      → amounts n l ps ≡ amountOf m n (filterNodes (inPart whole) l)
   amounts-whole n whole ps h [] = amounts-nothing n ps ∙ sym (nothing-there n whole)
   amounts-whole n whole ps h (x ∷ l) =
       amounts-first n x l ps ∙ ap (λ (y : C). add y (amounts n l ps)) (owns-as (own n x) x ps (inPart whole x) (h x)) ∙ ap (add (cond (inPart whole x) (own n x) none)) (amounts-whole n whole ps h l)

@@ -9,40 +9,41 @@ use native.Mathlib.Omega.{arith}
 use lib.IntN.{ℤ}
 use lib.Signed.{leZ}
 use lib.ListN.{drop}
-use Rattle.wire.specs.Ints.{ints}
-use Rattle.wire.specs.Answer.{good, map-good}
+use Rattle.wire.proofs.Ints.{ints}
+use Rattle.wire.specs.Answer.{good}
+use Rattle.wire.proofs.Answers.{map-good}
 use Rattle.position.specs.Keys.{splitOf}
 use Rattle.position.specs.declared.key.Coordinates.{Coordinates}
 use Rattle.position.proofs.Theorems.{inverse, nodes-apart}
 use Rattle.mapblock.specs.Valid.{Has, Distinct}
-use Rattle.meter.specs.Standing.{Placed, Node, inPart, nodeOf, nodesFrom, standing, those}
-use Rattle.meter.specs.Sheet.{rises, recordsFrom}
-use Rattle.meter.specs.Tallying.{placedAt}
+use Rattle.sheet.specs.Placed.{Placed, placedAt}
+use Rattle.meter.specs.Standing.{Node, inPart, nodeIn, nodesFrom, standing, filterNodes}
+use Rattle.sheet.specs.Sheet.{rises, recordsFrom}
 use Rattle.meter.specs.Theorems.{one-block, whole-sheet, placeOf, PositionsApart}
-use Rattle.meter.proofs.Steps.{judge-taken, first-taken, none-taken}
-use Rattle.meter.proofs.SheetTaken.{sheet-opened}
+use Rattle.sheet.proofs.RecordSteps.{judge-taken, first-taken, none-taken}
+use Rattle.sheet.proofs.SheetTaken.{sheet-opened}
 
 -- ---- some of the nodes
-has-those : (test : Node → Bool) (c : Coordinates) (l : List Node) → Has placeOf c (those test l) → Has placeOf c l
-unfolding those
-has-those test c [] h = h
-has-those test c (x ∷ l) h = go (test x) h (has-those test c l)
+has-filterNodes : (test : Node → Bool) (c : Coordinates) (l : List Node) → Has placeOf c (filterNodes test l) → Has placeOf c l
+unfolding filterNodes
+has-filterNodes test c [] h = h
+has-filterNodes test c (x ∷ l) h = go (test x) h (has-filterNodes test c l)
   where
-    on : (x .place ≡ c) ⊎ Has placeOf c (those test l) → (Has placeOf c (those test l) → Has placeOf c l) → (x .place ≡ c) ⊎ Has placeOf c l
+    on : (x .place ≡ c) ⊎ Has placeOf c (filterNodes test l) → (Has placeOf c (filterNodes test l) → Has placeOf c l) → (x .place ≡ c) ⊎ Has placeOf c l
     on (inl e) ih = inl e
     on (inr k) ih = inr (ih k)
 
-    go : (b : Bool) → Has placeOf c (cond b (x ∷ those test l) (those test l)) → (Has placeOf c (those test l) → Has placeOf c l) → (x .place ≡ c) ⊎ Has placeOf c l
+    go : (b : Bool) → Has placeOf c (cond b (x ∷ filterNodes test l) (filterNodes test l)) → (Has placeOf c (filterNodes test l) → Has placeOf c l) → (x .place ≡ c) ⊎ Has placeOf c l
     go true k ih = on k ih
     go false k ih = inr (ih k)
 
-apart-those : (test : Node → Bool) (l : List Node) → Distinct placeOf l → Distinct placeOf (those test l)
-unfolding those
-apart-those test [] h = tt
-apart-those test (x ∷ l) h = go (test x) (apart-those test l (h .1))
+apart-filterNodes : (test : Node → Bool) (l : List Node) → Distinct placeOf l → Distinct placeOf (filterNodes test l)
+unfolding filterNodes
+apart-filterNodes test [] h = tt
+apart-filterNodes test (x ∷ l) h = go (test x) (apart-filterNodes test l (h .1))
   where
-    go : (b : Bool) → Distinct placeOf (those test l) → Distinct placeOf (cond b (x ∷ those test l) (those test l))
-    go true k = (λ z. h .0 (has-those test (x .place) l z), k)
+    go : (b : Bool) → Distinct placeOf (filterNodes test l) → Distinct placeOf (cond b (x ∷ filterNodes test l) (filterNodes test l))
+    go true k = (λ z. h .0 (has-filterNodes test (x .place) l z), k)
     go false k = k
 
 -- in neither of two lists, in neither behind the other
@@ -56,21 +57,21 @@ has-append c (x ∷ a) b h k z = go z (has-append c a b (λ y. h (inr y)) k)
 
 -- ---- the nodes of a block, before others
 -- a place that is none of a block's from an index on
-has-block : (y : Placed) (c : Coordinates) (n i : ℕ) → i + n ≤ 4096 → ((m : ℕ) → i ≤ m → m < 4096 → nodeOf y m .place ≡ c → ⊥) → Has placeOf c (nodesFrom y n i) → ⊥
+has-block : (y : Placed) (c : Coordinates) (n i : ℕ) → i + n ≤ 4096 → ((m : ℕ) → i ≤ m → m < 4096 → nodeIn y m .place ≡ c → ⊥) → Has placeOf c (nodesFrom y n i) → ⊥
 unfolding nodesFrom
 has-block y c zero i k d z = z
 has-block y c (suc n) i k d z = go z (has-block y c n (suc i) (omega arith) (λ m g. d m (omega arith)))
   where
-    go : (nodeOf y i .place ≡ c) ⊎ Has placeOf c (nodesFrom y n (suc i)) → (Has placeOf c (nodesFrom y n (suc i)) → ⊥) → ⊥
+    go : (nodeIn y i .place ≡ c) ⊎ Has placeOf c (nodesFrom y n (suc i)) → (Has placeOf c (nodesFrom y n (suc i)) → ⊥) → ⊥
     go (inl e) ih = d i (omega arith) (omega arith) e
     go (inr w) ih = ih w
 
-apart-before : (x : Placed) (n i : ℕ) (l : List Node) → i + n ≤ 4096 → ((j : ℕ) → j < 4096 → Has placeOf (nodeOf x j .place) l → ⊥) → Distinct placeOf l → Distinct placeOf (nodesFrom x n i ++ l)
+apart-before : (x : Placed) (n i : ℕ) (l : List Node) → i + n ≤ 4096 → ((j : ℕ) → j < 4096 → Has placeOf (nodeIn x j .place) l → ⊥) → Distinct placeOf l → Distinct placeOf (nodesFrom x n i ++ l)
 unfolding nodesFrom
 apart-before x zero i l h d k = k
 apart-before x (suc n) i l h d k = (
-  has-append (nodeOf x i .place) (nodesFrom x n (suc i)) l
-      (has-block x (nodeOf x i .place) n (suc i) (omega arith) (λ m g f e. let q = nodes-apart (x .at) (x .at) m i f (omega arith) e .1 in omega arith))
+  has-append (nodeIn x i .place) (nodesFrom x n (suc i)) l
+      (has-block x (nodeIn x i .place) n (suc i) (omega arith) (λ m g f e. let q = nodes-apart (x .at) (x .at) m i f (omega arith) e .1 in omega arith))
       (d i (omega arith)),
   apart-before x n (suc i) l (omega arith) d k,
 )
@@ -79,12 +80,12 @@ apart-before x (suc n) i l h d k = (
 abbrev blockPlace : Placed → Coordinates
 blockPlace x = x .at
 
-away-elsewhere : (x : Placed) (j : ℕ) (l : List Placed) → (Has blockPlace (x .at) l → ⊥) → j < 4096 → Has placeOf (nodeOf x j .place) (standing l) → ⊥
+away-elsewhere : (x : Placed) (j : ℕ) (l : List Placed) → (Has blockPlace (x .at) l → ⊥) → j < 4096 → Has placeOf (nodeIn x j .place) (standing l) → ⊥
 unfolding standing
 away-elsewhere x j [] d h z = z
 away-elsewhere x j (y ∷ l) d h z =
-    has-append (nodeOf x j .place) (nodesFrom y 4096 0) (standing l)
-    (has-block y (nodeOf x j .place) 4096 0 (omega arith) (λ m g f e. d (inl (nodes-apart (y .at) (x .at) m j f h e .0))))
+    has-append (nodeIn x j .place) (nodesFrom y 4096 0) (standing l)
+    (has-block y (nodeIn x j .place) 4096 0 (omega arith) (λ m g f e. d (inl (nodes-apart (y .at) (x .at) m j f h e .0))))
     (away-elsewhere x j l (λ w. d (inr w)) h)
     z
 
@@ -131,7 +132,7 @@ all-away last (x ∷ l) (k, at, up, more) = (risen-away k k (x .at) l at (omega 
 pub positions-apart : PositionsApart
 positions-apart (one-block key s) p l h =
     let x = map-good (λ (x : Placed). x ∷ []) (placedAt key s) l h in
-    apart-those (inPart p) (standing l) (standing-apart l (subst⁻¹ (Distinct blockPlace) (sym (x .2)) (λ z. z, tt)))
+    apart-filterNodes (inPart p) (standing l) (standing-apart l (subst⁻¹ (Distinct blockPlace) (sym (x .2)) (λ z. z, tt)))
 positions-apart (whole-sheet s spare) p l h =
     let x = sheet-opened s l h in
-    apart-those (inPart p) (standing l) (standing-apart l (all-away none l (records-risen (x .0) 0 none (drop (x .1) s) l (x .3))))
+    apart-filterNodes (inPart p) (standing l) (standing-apart l (all-away none l (records-risen (x .0) 0 none (drop (x .1) s) l (x .3))))

@@ -9,30 +9,34 @@ use lib.ListN.{length, take, drop, length-append, length-drop, take-append-drop}
 use lib.Seq.{drop-drop, drop-at, length-take-le}
 use borrow.Author.Tests.{le-leb, lt-leb}
 use borrow.Rule.Slice.PartMut.{putMid}
-use Rattle.wire.specs.Lists.{rest-is}
+use Rattle.wire.proofs.Lists.{rest-is}
 use Rattle.wire.specs.Bytes.{Bytes}
 use Rattle.position.specs.declared.key.Coordinates.{Coordinates}
 use Rattle.mapblock.specs.Data.{Block}
-use Rattle.mapblock.specs.declared.scan.Found.{Found}
+use Rattle.mapblock.specs.declared.scan.Scanned.{Scanned}
 use Rattle.tally.proofs.Canon.{plus-unit}
 use lib.Dec.{lit<}
-use Rattle.wire.specs.Answer.{good, refusal, plain, noRoom, tooMany, Answered, room-short, room-put}
-use Rattle.wire.specs.Store.{laid, stored}
-use Rattle.wire.proofs.Laid.{stored-fits, laid-two, part-back}
+use Rattle.wire.specs.Answer.{good, refusal, plain, noRoom, tooMany, Answered}
+use Rattle.wire.proofs.Answers.{room-short, room-put}
+use Rattle.wire.specs.Store.{overwrite, stored}
+use Rattle.wire.proofs.Overwrites.{stored-fits, overwrite-two, part-back}
 use Rattle.tally.specs.Rows.{Rows}
-use Rattle.tally.specs.Tally.{tally, headBytes, mostRows, ones, one}
+use Rattle.tally.specs.Tally.{tally, headBytes, maxRows, ones, one}
 use Rattle.tally.specs.Walks.{rowsBytes}
 use Rattle.tally.proofs.Held.{tally-bytes, tally-size, head-size}
-use Rattle.running.specs.Running.{Held, Runs, Absorbed, none}
-use Rattle.running.specs.declared.running.Running.{Running}
-use Rattle.running.proofs.Absorbing.{runs-empty}
-use Rattle.meter.specs.Standing.{Part, inPart, standing, nodesIn}
+use Rattle.running_tally.specs.RunningTally.{Held, Runs, Absorbed, none}
+use Rattle.running_tally.specs.declared.state.RunningTally.{RunningTally}
+use Rattle.running_tally.proofs.Absorbing.{runs-empty}
+use Rattle.position.specs.declared.part.Part.{Part}
+use Rattle.meter.specs.Standing.{inPart, standing, nodesIn}
 use Rattle.meter.specs.Counting.{tallyOf, byOne}
-use Rattle.meter.specs.Tallying.{placed, fitted}
-use Rattle.meter.specs.Sheet.{fittedSheet}
-use Rattle.meter.specs.Records.{clearTable, FoundAs}
+use Rattle.sheet.specs.Placed.{placed}
+use Rattle.meter.specs.Tallying.{fitted}
+use Rattle.meter.specs.SheetTally.{fittedSheet}
+use Rattle.mapblock.specs.Table.{clearTable}
+use Rattle.sheet.specs.Records.{ScannedAs}
 use Rattle.meter.specs.Adding.{Adds, Added, withBlock}
-use Rattle.meter.proofs.Amounts.{those-fewer, tally-fewer}
+use Rattle.meter.proofs.Amounts.{filterNodes-fewer, tally-fewer}
 use Rattle.meter.proofs.Blocks.{standing-number, rows-canonical}
 use Rattle.meter.proofs.AddedBlock.{found-valid}
 
@@ -43,11 +47,11 @@ module _ (d : List ℕ) (l : Rows ones) where
     unfolding fittedSheet
     sheet-short h = rw (lt-leb _ _ h) (refl, refl)
 
-    pub sheet-many : length (tally one .encode l) ≤ length d → mostRows < length l → Answered (refusal tooMany n 0) d d (fittedSheet byOne (length d) l n)
+    pub sheet-many : length (tally one .encode l) ≤ length d → maxRows < length l → Answered (refusal tooMany n 0) d d (fittedSheet byOne (length d) l n)
     unfolding fittedSheet
     sheet-many h k = rw (le-leb _ _ h, lt-leb _ _ k) (refl, refl)
 
-    pub sheet-all : {m : ℕ} {a : List ℕ} → length (tally one .encode l) ≡ m → m ≤ length d → length l ≤ mostRows → a ≡ tally one .encode l ++ drop m d
+    pub sheet-all : {m : ℕ} {a : List ℕ} → length (tally one .encode l) ≡ m → m ≤ length d → length l ≤ maxRows → a ≡ tally one .encode l ++ drop m d
         → Answered (good m) d a (fittedSheet byOne (length d) l n)
     unfolding fittedSheet
     sheet-all e h k q = rw (le-leb (length (tally one .encode l)) (length d) (rw e h), le-leb _ _ k, e) (refl, q)
@@ -57,16 +61,16 @@ head-and-rows : (n : ℕ) (l : Rows ones) → n ≡ length l → headBytes one n
 head-and-rows n l e = ap (λ (i : ℕ). headBytes one i ++ rowsBytes one l) e ∙ sym (tally-bytes one l)
 
 -- a tally laid over the front of a buffer
-pub tally-laid : (n : ℕ) (l : Rows ones) (d : List ℕ) → n ≡ length l → length (tally one .encode l) ≤ length d
-    → laid 9 (rowsBytes one l) (stored 0 (headBytes one n) d) ≡ tally one .encode l ++ drop (length (tally one .encode l)) d
-tally-laid n l d e h =
+pub tally-overwrite : (n : ℕ) (l : Rows ones) (d : List ℕ) → n ≡ length l → length (tally one .encode l) ≤ length d
+    → overwrite 9 (rowsBytes one l) (stored 0 (headBytes one n) d) ≡ tally one .encode l ++ drop (length (tally one .encode l)) d
+tally-overwrite n l d e h =
     let H = headBytes one n in
     let w = rowsBytes one l in
     let size = tally-size one l in
-    ap (laid 9 w) (stored-fits 0 H d (omega (arith, head-size one n))) ∙ laid-two 0 H w d (omega (arith, head-size one n)) ∙ ap (λ (u : List ℕ). laid 0 u d) (head-and-rows n l e) ∙ rw zero-add
+    ap (overwrite 9 w) (stored-fits 0 H d (omega (arith, head-size one n))) ∙ overwrite-two 0 H w d (omega (arith, head-size one n)) ∙ ap (λ (u : List ℕ). overwrite 0 u d) (head-and-rows n l e) ∙ rw zero-add
 
 -- ---- a block's rows, which were absorbed into the output behind the head
-module _ (d t′ : List ℕ) (w : Running) (l : Rows ones) (k : 9 ≤ length d) (long : length t′ ≡ length (take (length d - 9) (drop 9 d))) (a : Absorbed (take (length d - 9) (drop 9 d)) t′ w [] l) where
+module _ (d t′ : List ℕ) (w : RunningTally) (l : Rows ones) (k : 9 ≤ length d) (long : length t′ ≡ length (take (length d - 9) (drop 9 d))) (a : Absorbed (take (length d - 9) (drop 9 d)) t′ w [] l) where
   behind : take (length d - 9) (drop 9 d) ≡ drop 9 d
   behind = rest-is 9 d
 
@@ -106,17 +110,17 @@ module _ (d t′ : List ℕ) (w : Running) (l : Rows ones) (k : 9 ≤ length d) 
         room-put d (tally one .encode l) size absorbed-size all
 
 -- ---- a block put into an empty tally
-module _ {s : List ℕ} {w : Found} {b : Block} (p : Part) (at : Coordinates) (y : Bytes s) (f : FoundAs s w b) where
+module _ {s : List ℕ} {w : Scanned} {b : Block} (p : Part) (at : Coordinates) (y : Bytes s) (f : ScannedAs s w b) where
   abbrev rows : Rows ones
   rows = tallyOf byOne (nodesIn p (placed at b ∷ []))
 
-  pub put-absorbed : (t : List ℕ) {t′ c₂ : List ℕ} {u r : Running} → u ≡ none → ((R : Rows ones) → Adds s w clearTable t u b R → Added c₂ t t′ r R (withBlock p at b R)) → Absorbed t t′ r [] rows
+  pub put-absorbed : (t : List ℕ) {t′ c₂ : List ℕ} {u r : RunningTally} → u ≡ none → ((R : Rows ones) → Adds s w clearTable t u b R → Added c₂ t t′ r R (withBlock p at b R)) → Absorbed t t′ r [] rows
   put-absorbed t {t′} {u = u} {r = r} e g =
-      let start : Adds s w clearTable t u b [] = record { found = f; clear = refl; runs = subst (λ (v : Running). Runs t v []) (sym e) (runs-empty t); light = lit< tt; few = lit< tt } in
+      let start : Adds s w clearTable t u b [] = record { found = f; clear = refl; runs = subst (λ (v : RunningTally). Runs t v []) (sym e) (runs-empty t); totalFits = lit< tt; rowsFit = lit< tt } in
       subst (Absorbed t t′ r []) (plus-unit ones rows (rows-canonical byOne p (placed at b ∷ []) (found-valid s w b y f, tt))) (g [] start .absorbed)
 
   pub put-few : length rows ≤ 4096
-  put-few = omega (arith, tally-fewer byOne (nodesIn p (placed at b ∷ [])), those-fewer (inPart p) (standing (placed at b ∷ [])), standing-number (placed at b ∷ []))
+  put-few = omega (arith, tally-fewer byOne (nodesIn p (placed at b ∷ [])), filterNodes-fewer (inPart p) (standing (placed at b ∷ [])), standing-number (placed at b ∷ []))
 
   -- the output does not even hold the head
   pub put-headless : (d : List ℕ) → length d < 9 → Answered (plain noRoom) d d (fitted byOne (length d) rows)

@@ -10,19 +10,23 @@ use lib.ListN.{length, drop}
 use borrow.Author.Tests.{leb-true}
 use Rattle.wire.specs.Bytes.{Bytes, bytes-drop}
 use Rattle.wire.specs.Read.{done, Misread, at-place}
-use Rattle.wire.specs.Answer.{Answer, good, refusal, plain, no-good, badPart, partsMisfit, thenAnswer, Answered, Matches}
-use Rattle.meter.specs.Standing.{Part, goodPart, nodesIn}
+use Rattle.wire.specs.Answer.{Answer, good, refusal, plain, badPart, partsMisfit, thenAnswer, Answered, Matches}
+use Rattle.wire.proofs.Answers.{no-good}
+use Rattle.position.specs.declared.part.Part.{Part}
+use Rattle.position.specs.Parts.{goodPart}
+use Rattle.meter.specs.Standing.{nodesIn}
 use Rattle.meter.specs.Counting.{tallyOf, byOne}
-use Rattle.meter.specs.Sheet.{sheetHead, recordsFrom, sheetOf, fittedSheet, tallySheetOf}
+use Rattle.sheet.specs.Sheet.{sheetHead, recordsFrom, sheetOf}
+use Rattle.meter.specs.SheetTally.{fittedSheet, tallySheetOf}
 use Rattle.meter.specs.Streaming.{State, noRecords, startOf, finishOf}
 use Rattle.meter.specs.Progress.{Carries, toldFinish}
 use Rattle.meter.specs.SheetTold.{answerFrom, Numbered, toldSheet, SheetPut}
 use Rattle.meter.specs.declared.stream.Progress.{Progress}
 use Rattle.meter.specs.declared.stream.FinishAnswer.{FinishAnswer}
-use Rattle.meter.specs.declared.sheet.SheetAnswer.{SheetAnswer}
-use Rattle.meter.specs.declared.sheet.SheetAnswer.the-variants as sheets
-use Rattle.meter.proofs.Steps.{sheet-misframed, sheet-on}
-use Rattle.meter.proofs.SheetTaken.{head-ok, records-valid}
+use Rattle.meter.specs.declared.sheet_tally.SheetAnswer.{SheetAnswer}
+use Rattle.meter.specs.declared.sheet_tally.SheetAnswer.the-variants as sheets
+use Rattle.sheet.proofs.RecordSteps.{sheet-misframed, sheet-on}
+use Rattle.sheet.proofs.SheetTaken.{head-ok, records-valid}
 use Rattle.meter.proofs.Streaming.{then-same, finishing, finishing-first}
 use Rattle.meter.proofs.Taking.{refusal-as}
 

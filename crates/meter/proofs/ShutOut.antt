@@ -20,16 +20,19 @@ use Rattle.tally.specs.Theorems.{Merger, here as front, stop, done, refused}
 use Rattle.tally.specs.Theorems as merging
 use Rattle.tally.proofs.Held.{rows-of-tally}
 use Rattle.tally.proofs.MergeLaw.{zeros, zeros-none}
-use Rattle.meter.specs.Standing.{Part, Placed, Node, inPart, nodesFrom, standing, those, nodesIn}
+use Rattle.position.specs.declared.part.Part.{Part}
+use Rattle.sheet.specs.Placed.{Placed}
+use Rattle.meter.specs.Standing.{Node, inPart, nodesFrom, standing, filterNodes, nodesIn}
 use Rattle.meter.specs.Counting.{MeasureRows, amountOf, byOne}
-use Rattle.meter.specs.Sheet.{SheetRecord, sheet, sheetOf}
+use Rattle.sheet.specs.Sheet.{SheetRecord, sheet, sheetOf}
 use Rattle.meter.specs.Cuts.{at-second, lower, upper, Cuts, uncut, cut}
-use Rattle.meter.specs.Theorems.{RecordsAre, Source, one-block, whole-sheet, blocksOf, Tallier, Gives, Talliable, CountsOf, Exact, AllGive, CutLaw, EveryCut, FirstAlone, ShutOut, MergeShutOut}
-use Rattle.meter.proofs.Amounts.{those-append, amount-append}
+use Rattle.sheet.specs.Theorems.{RecordsAre}
+use Rattle.meter.specs.Theorems.{Source, one-block, whole-sheet, blocksOf, Tallier, Gives, Talliable, CountsOf, Exact, AllGive, CutLaw, EveryCut, FirstAlone, ShutOut, MergeShutOut}
+use Rattle.meter.proofs.Amounts.{filterNodes-append, amount-append}
 use Rattle.meter.proofs.Blocks.{held}
 use Rattle.meter.proofs.Exactness.{fits-in-own}
 use Rattle.meter.proofs.NamesAlone.{standing-one}
-use Rattle.meter.proofs.SheetTaken.{ok-item, ok-sheet, sheet-taken}
+use Rattle.sheet.proofs.SheetTaken.{ok-item, ok-sheet, sheet-taken}
 use Rattle.meter.proofs.AirBlocks.{everywhere}
 use Rattle.meter.proofs.AirBlocks as air
 
@@ -118,8 +121,8 @@ can-two = record {
 amount-two : (n : List ℕ) (p : Part) (x y : Placed) → amountOf byOne n (nodesIn p (x ∷ y ∷ [])) ≡ amountOf byOne n (nodesIn p (x ∷ [])) + amountOf byOne n (nodesIn p (y ∷ []))
 unfolding standing
 amount-two n p x y =
-    ap (amountOf byOne n) (those-append (inPart p) (nodesFrom x 4096 0) (standing (y ∷ []))) ∙ amount-append byOne n (those (inPart p) (nodesFrom x 4096 0)) (nodesIn p (y ∷ []))
-    ∙ ap (λ (l : List Node). amountOf byOne n (those (inPart p) l) + amountOf byOne n (nodesIn p (y ∷ []))) (sym (standing-one x))
+    ap (amountOf byOne n) (filterNodes-append (inPart p) (nodesFrom x 4096 0) (standing (y ∷ []))) ∙ amount-append byOne n (filterNodes (inPart p) (nodesFrom x 4096 0)) (nodesIn p (y ∷ []))
+    ∙ ap (λ (l : List Node). amountOf byOne n (filterNodes (inPart p) l) + amountOf byOne n (nodesIn p (y ∷ []))) (sym (standing-one x))
 
 not-first-alone : (f : Tallier) → Exact byOne f → FirstAlone byOne f → ⊥
 not-first-alone f e h =

@@ -12,19 +12,26 @@ use lib.ListN.{length, drop}
 use Rattle.wire.specs.Bytes.{Bytes, bytes-drop}
 use Rattle.wire.specs.Read.{done, refused}
 use Rattle.wire.specs.Format.{encodeItems}
-use Rattle.wire.specs.Answer.{Answer, good, refusal, plain, mapAnswer, no-good, badPart, partsMisfit, thenAnswer, map-good}
+use Rattle.wire.specs.Answer.{Answer, good, refusal, plain, mapAnswer, badPart, partsMisfit, thenAnswer}
+use Rattle.wire.proofs.Answers.{no-good, map-good}
 use Rattle.mapblock.specs.Valid.{Valid}
 use Rattle.tally.specs.Rows.{plus, Canonical}
 use Rattle.tally.proofs.Canon.{canonical-plus, plus-comm, plus-assoc, plus-unit}
-use Rattle.meter.specs.Standing.{Part, goodPart, Placed, inPart, nodesFrom, standing, those, nodesIn}
+use Rattle.position.specs.declared.part.Part.{Part}
+use Rattle.position.specs.Parts.{goodPart}
+use Rattle.sheet.specs.Placed.{Placed}
+use Rattle.meter.specs.Standing.{inPart, nodesFrom, standing, filterNodes, nodesIn}
 use Rattle.meter.specs.Counting.{Measure, MeasureRows, tallyOf}
-use Rattle.meter.specs.Sheet.{Misframed, SheetRecord, frame, judgeRecord, recordsFrom, sheetOf, fittedSheet, tallySheetOf}
+use Rattle.sheet.specs.Sheet.{Misframed, SheetRecord, frame, judgeRecord, recordsFrom, sheetOf}
+use Rattle.meter.specs.SheetTally.{fittedSheet, tallySheetOf}
 use Rattle.meter.specs.Streaming.{State, noRecords, startOf, taking, stepOf, stepsOf, finishOf}
-use Rattle.meter.specs.Theorems.{sheetBytes, Framed, streamed, broken, Streams}
-use Rattle.meter.proofs.Amounts.{those-append, named-those, tally-append}
-use Rattle.meter.proofs.Blocks.{AllValid, standing-named, held, rows-canonical}
-use Rattle.meter.proofs.Steps.{records-end, records-more, records-misframed, records-on, written-refused, written-on, none-taken}
-use Rattle.meter.proofs.SheetTaken.{sheet-behind, record-valid, records-valid}
+use Rattle.sheet.specs.Theorems.{sheetBytes, Framed}
+use Rattle.meter.specs.Theorems.{streamed, broken, Streams}
+use Rattle.meter.proofs.Amounts.{filterNodes-append, named-filterNodes, tally-append}
+use Rattle.sheet.proofs.TakenBlocks.{AllValid}
+use Rattle.meter.proofs.Blocks.{standing-named, held, rows-canonical}
+use Rattle.sheet.proofs.RecordSteps.{records-end, records-more, records-misframed, records-on, written-refused, written-on, none-taken}
+use Rattle.sheet.proofs.SheetTaken.{sheet-behind, record-valid, records-valid}
 
 -- ---- one answer after another
 pub then-same : {A B : Type 0} (a : Answer A) (f g : A → Answer B) → ((x : A) → a ≡ good x → f x ≡ g x) → thenAnswer a f ≡ thenAnswer a g
@@ -78,12 +85,12 @@ clean-all k seen (r ∷ rs) rest f c =
 module _ (m : Measure) (p : Part) where
   nodes-first : (x : Placed) (l : List Placed) → nodesIn p (x ∷ l) ≡ nodesIn p (x ∷ []) ++ nodesIn p l
   unfolding standing
-  nodes-first x l = rw (append-nil (nodesFrom x 4096 0)) (those-append (inPart p) (nodesFrom x 4096 0) (standing l))
+  nodes-first x l = rw (append-nil (nodesFrom x 4096 0)) (filterNodes-append (inPart p) (nodesFrom x 4096 0) (standing l))
 
   rows-first : (x : Placed) (l : List Placed) → Valid (x .block) → AllValid l → held m p (x ∷ l) ≡ plus (m .kind .counts) (held m p (x ∷ [])) (held m p l)
   rows-first x l v h =
       ap (tallyOf m) (nodes-first x l)
-      ∙ tally-append m (nodesIn p (x ∷ [])) (nodesIn p l) (named-those (inPart p) (standing (x ∷ [])) (standing-named (x ∷ []) (v, tt))) (named-those (inPart p) (standing l) (standing-named l h))
+      ∙ tally-append m (nodesIn p (x ∷ [])) (nodesIn p l) (named-filterNodes (inPart p) (standing (x ∷ [])) (standing-named (x ∷ []) (v, tt))) (named-filterNodes (inPart p) (standing l) (standing-named l h))
 
   -- the first block's rows may be added before the others
   rows-on : (x : Placed) (l : List Placed) (R : MeasureRows m) → Valid (x .block) → AllValid l → Canonical (m .kind .counts) R
@@ -95,7 +102,7 @@ module _ (m : Measure) (p : Part) where
       ap (λ (q : MeasureRows m). plus S q R) (rows-first x l v h ∙ plus-comm S (held m p (x ∷ [])) (held m p l) a b) ∙ plus-assoc S (held m p l) (held m p (x ∷ [])) R b a c
 
   no-rows : held m p [] ≡ []
-  unfolding standing those tallyOf
+  unfolding standing filterNodes tallyOf
   no-rows = refl
 
   pub taking-canonical : (w : State m) (key : ℤ) (x : Placed) → Valid (x .block) → Canonical (m .kind .counts) (w .rows) → Canonical (m .kind .counts) (taking m p w key x .rows)

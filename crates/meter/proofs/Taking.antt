@@ -6,26 +6,29 @@ use native.Mathlib.Omega.{arith}
 use lib.IntN.{ℤ}
 use lib.ListN.{length, take, drop}
 use Rattle.wire.specs.Bytes.{Bytes}
-use Rattle.wire.specs.Read.{Read, done, refused, found, found-done, found-none, Misread, at-place}
+use Rattle.wire.specs.Read.{Read, done, refused, toOption, toOption-done, toOption-none, Misread, at-place}
 use Rattle.wire.specs.Format.{ends-in}
-use Rattle.wire.specs.Answer.{Answer, good, refusal, sheetMalformed, no-good, thenAnswer, Matches}
+use Rattle.wire.specs.Answer.{Answer, good, refusal, sheetMalformed, thenAnswer, Matches}
+use Rattle.wire.proofs.Answers.{no-good}
 use Rattle.tally.specs.Rows.{Canonical}
 use Rattle.tally.specs.Tally.{ones}
-use Rattle.meter.specs.Standing.{Part, Placed}
+use Rattle.position.specs.declared.part.Part.{Part}
+use Rattle.sheet.specs.Placed.{Placed}
 use Rattle.meter.specs.Counting.{byOne}
-use Rattle.meter.specs.Sheet.{Misframed, SheetRecord, frame, judgeRecord}
+use Rattle.sheet.specs.Sheet.{Misframed, SheetRecord, frame, judgeRecord}
 use Rattle.meter.specs.Streaming.{State, taking, stepOf, takeOf}
-use Rattle.meter.specs.Records.{clearTable, recordOf, toldFrame}
+use Rattle.mapblock.specs.Table.{clearTable}
+use Rattle.sheet.specs.Records.{recordOf, toldFrame}
 use Rattle.meter.specs.Progress.{Carries, CarriesTo, Steps, toldStep, toldTake}
 use Rattle.meter.specs.SheetTold.{answerFrom}
-use Rattle.meter.specs.declared.records.FrameRead.the-variants as frames
-use Rattle.meter.specs.declared.records.RecordFault.{RecordFault}
+use Rattle.sheet.specs.declared.records.FrameRead.the-variants as frames
+use Rattle.sheet.specs.declared.records.RecordFault.{RecordFault}
 use Rattle.meter.specs.declared.stream.Progress.{Progress}
 use Rattle.meter.specs.declared.stream.StepAnswer.{StepAnswer}
 use Rattle.meter.specs.declared.stream.StepAnswer.the-variants as steps
 use Rattle.meter.specs.declared.stream.TakeAnswer.{TakeAnswer}
 use Rattle.meter.specs.declared.stream.TakeAnswer.the-variants as takes
-use Rattle.meter.proofs.Steps.{records-misframed, records-refused}
+use Rattle.sheet.proofs.RecordSteps.{records-misframed, records-refused}
 use Rattle.meter.proofs.Streaming.{finishing, step-refused, step-good, record-on}
 
 -- a refusal is the same whatever was asked
@@ -53,14 +56,14 @@ module _ (p : Part) (w : State byOne) (r : SheetRecord) where
 abbrev pub blockIn : List ℕ → ℕ → List ℕ
 blockIn s n = take ((n + 12) - 12) (drop 12 s)
 
-pub framed-as : (s : List ℕ) (key : ℤ) (n : ℕ) → toldFrame s (frames.Record key n) ≡ found (frame .read s) → frame .read s ≡ done (recordOf key (blockIn s n)) (n + 12)
+pub framed-as : (s : List ℕ) (key : ℤ) (n : ℕ) → toldFrame s (frames.Record key n) ≡ toOption (frame .read s) → frame .read s ≡ done (recordOf key (blockIn s n)) (n + 12)
 framed-as s key n f =
     let size : n ≡ (n + 12) - 12 = omega arith in
     let end : 12 + n ≡ n + 12 = omega arith in
-    found-done (frame .read s) f ∙ ap (λ (i : ℕ). done (recordOf key (take i (drop 12 s))) (12 + n)) size ∙ ap (done (recordOf key (blockIn s n))) end
+    toOption-done (frame .read s) f ∙ ap (λ (i : ℕ). done (recordOf key (take i (drop 12 s))) (12 + n)) size ∙ ap (done (recordOf key (blockIn s n))) end
 
-pub framed-inside : (s : List ℕ) (key : ℤ) (n : ℕ) → toldFrame s (frames.Record key n) ≡ found (frame .read s) → n + 12 ≤ length s
-framed-inside s key n f = omega (arith, ends-in frame (found-done (frame .read s) f))
+pub framed-inside : (s : List ℕ) (key : ℤ) (n : ℕ) → toldFrame s (frames.Record key n) ≡ toOption (frame .read s) → n + 12 ≤ length s
+framed-inside s key n f = omega (arith, ends-in frame (toOption-done (frame .read s) f))
 
 -- ---- the record at the front
 module _ (p : Part) (w : State byOne) (s : List ℕ) where
@@ -90,17 +93,17 @@ module _ (p : Part) (w : State byOne) (s : List ℕ) where
       framed (done r n) f = stepped r n f (stepOf byOne p w r) refl
 
   -- one that is taken
-  pub record Took (v : State byOne) (n : ℕ) : Type 0 where
+  pub record Parsed (v : State byOne) (n : ℕ) : Type 0 where
     pub taken : SheetRecord
     pub reads : frame .read s ≡ done taken n
     pub block : Placed
     pub judged : judgeRecord (w .last) taken ≡ good block
     pub state : taking byOne p w (taken .key) block ≡ v
 
-  pub took : {v : State byOne} {n : ℕ} → takeOf byOne p w s ≡ good (v, n) → Took v n
+  pub took : {v : State byOne} {n : ℕ} → takeOf byOne p w s ≡ good (v, n) → Parsed v n
   took {v} {n} h = framed (frame .read s) refl
     where
-      stepped : (r : SheetRecord) (m : ℕ) → frame .read s ≡ done r m → (b : Answer (State byOne)) → stepOf byOne p w r ≡ b → Took v n
+      stepped : (r : SheetRecord) (m : ℕ) → frame .read s ≡ done r m → (b : Answer (State byOne)) → stepOf byOne p w r ≡ b → Parsed v n
       stepped r m f (refusal x y z) e = no-good (sym (take-refused f e) ∙ h)
       stepped r m f (good u) e =
           let z : _≡_ {A = Answer (State byOne × ℕ)} (good (u, m)) (good (v, n)) = sym (take-good f e) ∙ h in
@@ -110,7 +113,7 @@ module _ (p : Part) (w : State byOne) (s : List ℕ) where
           let x = step-took p w r v (e ∙ ap good same) in
           record { taken = r; reads = f ∙ ap (done r) end; block = x .0; judged = x .1; state = x .2 }
 
-      framed : (x : Read Misframed SheetRecord) → frame .read s ≡ x → Took v n
+      framed : (x : Read Misframed SheetRecord) → frame .read s ≡ x → Parsed v n
       framed (refused e q) f = no-good (sym (take-misframed f) ∙ h)
       framed (done r m) f = stepped r m f (stepOf byOne p w r) refl
 
@@ -133,8 +136,8 @@ pub taken-to : {t : List ℕ} {q : Progress} {n : ℕ} {a : Answer (State byOne 
 taken-to (x, e, c) = (x .0, e ∙ ap (λ (m : ℕ). good (x .0, m)) (sym (c .1)), c .0)
 
 module _ (p : Part) (w : State byOne) (s : List ℕ) where
-  pub told-misframed : {ids counts t : List ℕ} {q : Progress} → toldFrame s frames.Misframed ≡ found (frame .read s) → Steps ids counts t q w → TakeTold counts t (takes.Misframed (q .records)) (takeOf byOne p w s)
-  told-misframed {q = q} f k = (go (found-none (frame .read s) f) ∙ ap (λ (i : ℕ). refusal sheetMalformed i 0) (sym (k .carries .records)), k .counts-clear)
+  pub told-misframed : {ids counts t : List ℕ} {q : Progress} → toldFrame s frames.Misframed ≡ toOption (frame .read s) → Steps ids counts t q w → TakeTold counts t (takes.Misframed (q .records)) (takeOf byOne p w s)
+  told-misframed {q = q} f k = (go (toOption-none (frame .read s) f) ∙ ap (λ (i : ℕ). refusal sheetMalformed i 0) (sym (k .carries .records)), k .counts-clear)
     where
       go : Misread (frame .read s) → takeOf byOne p w s ≡ refusal sheetMalformed (w .records) 0
       go (at-place x e) = take-misframed p w s e

@@ -13,17 +13,19 @@ use Rattle.position.specs.declared.key.Coordinates.{Coordinates}
 use Rattle.mapblock.specs.Data.{Block}
 use Rattle.mapblock.specs.Block.{verdict}
 use Rattle.mapblock.specs.Numbers.{refusalNumber}
-use Rattle.mapblock.specs.Sections.{found}
+use Rattle.mapblock.specs.Sections.{scannedOf}
 use Rattle.mapblock.specs.Table.{freeIn}
 use Rattle.mapblock.specs.declared.fault.Fault.{Fault}
-use Rattle.mapblock.specs.declared.scan.Found.{Found}
+use Rattle.mapblock.specs.declared.scan.Scanned.{Scanned}
 use Rattle.mapblock.proofs.BlockAnswers.{clear-table, block-refused, TakenAs, taken-as}
-use Rattle.meter.specs.Standing.{Part, goodPart}
+use Rattle.position.specs.declared.part.Part.{Part}
+use Rattle.position.specs.Parts.{goodPart}
 use Rattle.meter.specs.Counting.{byOne}
-use Rattle.meter.specs.Tallying.{placedAt, tallyBlockOf}
-use Rattle.meter.specs.Records.{FoundAs}
+use Rattle.sheet.specs.Placed.{placedAt}
+use Rattle.meter.specs.Tallying.{tallyBlockOf}
+use Rattle.sheet.specs.Records.{ScannedAs}
 use Rattle.meter.specs.Told.{toldBlock, PutAs}
-use Rattle.meter.specs.declared.block.BlockAnswer.{BlockAnswer}
+use Rattle.meter.specs.declared.block_tally.BlockAnswer.{BlockAnswer}
 
 module _ (key : ℤ) (s : List ℕ) (p : Part) (d : List ℕ) where
   pub block-bad : goodPart p ≡ false → Answered (plain badPart) d d (tallyBlockOf byOne key s p (length d))
@@ -36,17 +38,17 @@ module _ (key : ℤ) (s : List ℕ) (p : Part) (d : List ℕ) where
     block-astray k = rw (h, ← k) (refl, refl)
 
     module _ {c : Coordinates} (k : good c ≡ splitOf key) where
-      pub block-refuses : {f : Fault} {o : ℕ} → refused f o ≡ mapRead found (verdict (freeIn (replicate 65536 0)) s) → Answered (refusal (refusalNumber f) 0 o) d d (tallyBlockOf byOne key s p (length d))
+      pub block-refuses : {f : Fault} {o : ℕ} → refused f o ≡ mapRead scannedOf (verdict (freeIn (replicate 65536 0)) s) → Answered (refusal (refusalNumber f) 0 o) d d (tallyBlockOf byOne key s p (length d))
       unfolding tallyBlockOf placedAt
       block-refuses r = rw (h, ← k, block-refused s (clear-table 65536 s r)) (refl, refl)
 
-      module _ {w : Found} {n : ℕ} (y : Bytes s) (r : done w n ≡ mapRead found (verdict (freeIn (replicate 65536 0)) s)) where
+      module _ {w : Scanned} {n : ℕ} (y : Bytes s) (r : done w n ≡ mapRead scannedOf (verdict (freeIn (replicate 65536 0)) s)) where
         taken-block : TakenAs s w
         taken-block = taken-as s y (clear-table 65536 s r)
 
-        pub block-found : (b : Block) × FoundAs s w b
+        pub block-found : (b : Block) × ScannedAs s w b
         block-found = let x = taken-block in (x .b, record { end = x .n; taken = x .reads; shows = x .shows })
 
-        pub block-put : (e : List ℕ) (a : BlockAnswer) → ((b : Block) → FoundAs s w b → PutAs p c b d e a) → Answered (toldBlock a) d e (tallyBlockOf byOne key s p (length d))
+        pub block-put : (e : List ℕ) (a : BlockAnswer) → ((b : Block) → ScannedAs s w b → PutAs p c b d e a) → Answered (toldBlock a) d e (tallyBlockOf byOne key s p (length d))
         unfolding tallyBlockOf placedAt
         block-put e a f = rw (h, ← k, taken-block .answer) (f (taken-block .b) record { end = taken-block .n; taken = taken-block .reads; shows = taken-block .shows })

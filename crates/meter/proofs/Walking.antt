@@ -6,24 +6,24 @@ use native.Mathlib.Nat.{le-refl}
 use native.Mathlib.Numerals.{sub-one}
 use native.Mathlib.Omega.{arith}
 use lib.ListN.{length, take, drop, length-drop}
-use Rattle.wire.specs.Lists.{rest-is}
+use Rattle.wire.proofs.Lists.{rest-is}
 use Rattle.wire.specs.Bytes.{Bytes, bytes-drop}
 use Rattle.wire.specs.Answer.{good, refusal, sheetMalformed, thenAnswer}
 use Rattle.tally.specs.Rows.{Canonical}
 use Rattle.tally.specs.Tally.{ones}
-use Rattle.meter.specs.Standing.{Part}
+use Rattle.position.specs.declared.part.Part.{Part}
 use Rattle.meter.specs.Counting.{byOne}
 use Rattle.meter.specs.Streaming.{State, takeOf, finishOf}
-use Rattle.meter.specs.Records.{clearTable}
+use Rattle.mapblock.specs.Table.{clearTable}
 use Rattle.meter.specs.Progress.{Carries, Steps}
 use Rattle.meter.specs.SheetTold.{answerFrom, Numbered, toldRecords, AnswersFrom}
-use Rattle.meter.specs.declared.records.RecordFault.{RecordFault}
-use Rattle.meter.specs.declared.sheet.Records.{Records}
-use Rattle.meter.specs.declared.sheet.Records.the-variants as records
+use Rattle.sheet.specs.declared.records.RecordFault.{RecordFault}
+use Rattle.meter.specs.declared.sheet_tally.Records.{Records}
+use Rattle.meter.specs.declared.sheet_tally.Records.the-variants as records
 use Rattle.meter.specs.declared.stream.Progress.{Progress}
 use Rattle.meter.specs.declared.stream.TakeAnswer.{TakeAnswer}
 use Rattle.meter.specs.declared.stream.TakeAnswer.the-variants as takes
-use Rattle.meter.proofs.Steps.{records-end, records-more}
+use Rattle.sheet.proofs.RecordSteps.{records-end, records-more}
 use Rattle.meter.proofs.Streaming.{finishing, finishing-none}
 use Rattle.meter.proofs.Taking.{take-number, from-refused, from-good, TakeTold, taken-to}
 

@@ -8,32 +8,32 @@ use native.Mathlib.Omega.{arith}
 use lib.ListN.{length}
 use borrow.Author.Tests.{le-leb}
 use Rattle.tally.specs.Rows.{addRow, isNamed}
-use Rattle.tally.specs.Tally.{Kind, KindRow, KindRows, most, one}
-use Rattle.meter.specs.Standing.{Node, those}
+use Rattle.tally.specs.Tally.{TallyKind, TallyRow, TallyRows, maxCount, one}
+use Rattle.meter.specs.Standing.{Node, filterNodes}
 
 -- the nodes that bear a name
 abbrev pub bears : List ℕ → Node → Bool
 bears n x = isNamed n (x .name)
 
 abbrev pub bearing : List ℕ → List Node → List Node
-bearing n l = those (bears n) l
+bearing n l = filterNodes (bears n) l
 
 -- What is counted: a kind of tally, what a node counts in it, and that no sum over fewer than 2^63 nodes is above its limit.
 pub record Measure : Type 1 where
-  pub kind : Kind
+  pub kind : TallyKind
   pub of : Node → kind .counts .C
   pub total : List Node → kind .counts .C
   pub total-none : total [] ≡ kind .counts .none
   pub total-more : (x : Node) (l : List Node) → total (x ∷ l) ≡ kind .counts .add (of x) (total l)
   pub stands : (x : Node) → kind .counts .stands (of x) ≡ true
-  pub light : (l : List Node) → length l < 9223372036854775808 → kind .limit (total l) ≡ true
+  pub totalFits : (l : List Node) → length l < 9223372036854775808 → kind .limit (total l) ≡ true
 
 module _ (m : Measure) where
   abbrev pub MeasureRows : Type 0
-  MeasureRows = KindRows (m .kind)
+  MeasureRows = TallyRows (m .kind)
 
   -- a node's own row
-  abbrev pub rowOf : Node → KindRow (m .kind)
+  abbrev pub rowOf : Node → TallyRow (m .kind)
   rowOf x = record { name = x .name; count = m .of x }
 
   -- each node counts for its name
@@ -46,8 +46,8 @@ module _ (m : Measure) where
   amountOf n l = m .total (bearing n l)
 
 -- ---- version 1: every node counts one, so that an amount is a number of positions
-pub light-one : (n : ℕ) → n < 9223372036854775808 → one .limit n ≡ true
-light-one n h = le-leb n most (omega arith)
+pub totalFits-one : (n : ℕ) → n < 9223372036854775808 → one .limit n ≡ true
+totalFits-one n h = le-leb n maxCount (omega arith)
 
 abbrev pub byOne : Measure
 byOne = record {
@@ -57,5 +57,5 @@ byOne = record {
   total-none = refl;
   total-more = λ x l. omega arith;
   stands = λ x. refl;
-  light = λ l h. light-one (length l) h;
+  totalFits = λ l h. totalFits-one (length l) h;
 }

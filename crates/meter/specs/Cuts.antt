@@ -10,7 +10,9 @@ use Rattle.position.specs.Keys.{between}
 use Rattle.position.specs.Lots.{lotAt}
 use Rattle.position.specs.Spans.{spanAt}
 use Rattle.position.specs.declared.lot.Lot.{Lot}
-use Rattle.meter.specs.Standing.{Part, goodPart, Node, inPart}
+use Rattle.position.specs.declared.part.Part.{Part}
+use Rattle.position.specs.Parts.{goodPart}
+use Rattle.meter.specs.Standing.{Node, inPart}
 
 -- between c and c + 1 on an axis, or at a second
 pub data Cut : Type 0 where

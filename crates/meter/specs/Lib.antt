@@ -3,10 +3,9 @@ pub mod Standing
 pub mod Counting
 -- What the operations answer.
 pub mod Tallying
-pub mod Sheet
+pub mod SheetTally
 pub mod Streaming
 -- What the functions of this crate promise each other.
-pub mod Records
 pub mod Adding
 pub mod Told
 pub mod Progress
@@ -14,5 +13,3 @@ pub mod SheetTold
 -- What holds of them.
 pub mod Cuts
 pub mod Theorems
--- The program.
-pub mod Program

@@ -4,12 +4,13 @@ use mathlib.Core.Path.{_≡_}
 use mathlib.Core.List.{List}
 use lib.ListN.{length}
 use Rattle.wire.specs.Answer.{Answer, good, refusal, plain, badPart, partsMisfit, sheetMalformed, noRoom, tooMany}
-use Rattle.names.specs.Used.{heavy}
-use Rattle.running.specs.Running.{Runs, none}
+use Rattle.census.specs.UsedNames.{totalCount}
+use Rattle.running_tally.specs.RunningTally.{Runs, none}
 use Rattle.meter.specs.Counting.{byOne}
 use Rattle.meter.specs.Streaming.{State}
-use Rattle.meter.specs.Records.{clearTable, lastOf, faulty}
-use Rattle.meter.specs.declared.records.LastKey.the-variants as lasts
+use Rattle.mapblock.specs.Table.{clearTable}
+use Rattle.sheet.specs.Records.{lastOf, faulty}
+use Rattle.sheet.specs.declared.records.LastKey.the-variants as lasts
 use Rattle.meter.specs.declared.stream.Progress.{Progress}
 use Rattle.meter.specs.declared.stream.StartAnswer.{StartAnswer}
 use Rattle.meter.specs.declared.stream.StartAnswer.the-variants as starts
@@ -26,8 +27,8 @@ pub record Carries (t : List ℕ) (p : Progress) (w : State byOne) : Type 0 wher
   pub last : lastOf (p .last) ≡ w .last
   pub records : p .records ≡ w .records
   pub runs : Runs t (p .tally) (w .rows)
-  pub light : heavy (w .rows) ≤ 4096 * w .records
-  pub few : length (w .rows) ≤ 4096 * w .records
+  pub totalFits : totalCount (w .rows) ≤ 4096 * w .records
+  pub rowsFit : length (w .rows) ≤ 4096 * w .records
 
 -- the same with where a record ends
 abbrev pub CarriesTo : List ℕ → Progress × ℕ → State byOne × ℕ → Type 0

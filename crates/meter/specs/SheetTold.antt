@@ -6,17 +6,19 @@ use lib.ListN.{length}
 use Rattle.wire.specs.Answer.{Answer, good, refusal, plain, badPart, partsMisfit, sheetMalformed, noRoom, tooMany, thenAnswer, Answered}
 use Rattle.tally.specs.Rows.{plus}
 use Rattle.tally.specs.Tally.{ones}
-use Rattle.meter.specs.Standing.{Part, nodesIn}
+use Rattle.position.specs.declared.part.Part.{Part}
+use Rattle.meter.specs.Standing.{nodesIn}
 use Rattle.meter.specs.Counting.{tallyOf, byOne}
-use Rattle.meter.specs.Sheet.{recordsFrom, sheetOf, fittedSheet}
+use Rattle.sheet.specs.Sheet.{recordsFrom, sheetOf}
+use Rattle.meter.specs.SheetTally.{fittedSheet}
 use Rattle.meter.specs.Streaming.{State, finishOf}
-use Rattle.meter.specs.Records.{faulty}
+use Rattle.sheet.specs.Records.{faulty}
 use Rattle.meter.specs.Progress.{Carries}
 use Rattle.meter.specs.declared.stream.Progress.{Progress}
-use Rattle.meter.specs.declared.sheet.Records.{Records}
-use Rattle.meter.specs.declared.sheet.Records.the-variants as records
-use Rattle.meter.specs.declared.sheet.SheetAnswer.{SheetAnswer}
-use Rattle.meter.specs.declared.sheet.SheetAnswer.the-variants as sheets
+use Rattle.meter.specs.declared.sheet_tally.Records.{Records}
+use Rattle.meter.specs.declared.sheet_tally.Records.the-variants as records
+use Rattle.meter.specs.declared.sheet_tally.SheetAnswer.{SheetAnswer}
+use Rattle.meter.specs.declared.sheet_tally.SheetAnswer.the-variants as sheets
 
 -- ---- from one record to the next
 -- what a sheet's tally answers from a state on, with so many records to come in these bytes

@@ -3,23 +3,14 @@ use Prim.Native.Nat.{ℕ, zero, suc}
 use mathlib.Core.Bool.{Bool, true, false, cond, _&&_}
 use mathlib.Core.List.{List, [], _∷_, _++_}
 use lib.Dec.{eqb}
-use Rattle.position.specs.Nodes.{nodeAt}
-use Rattle.position.specs.Lots.{inLot, goodLot}
-use Rattle.position.specs.Spans.{inSpan, goodSpan}
+use Rattle.position.specs.Nodes.{nodeCoordinates}
+use Rattle.position.specs.Lots.{inLot}
+use Rattle.position.specs.Spans.{inSpan}
 use Rattle.position.specs.declared.key.Coordinates.{Coordinates}
-use Rattle.position.specs.declared.lot.Lot.{Lot}
-use Rattle.position.specs.declared.span.Span.{Span}
-use Rattle.mapblock.specs.Data.{Block, MetadataRow}
+use Rattle.mapblock.specs.Data.{MetadataRow}
 use Rattle.mapblock.specs.Questions.{nameAt}
-
--- document 01's part: a lot with a span
-pub record Part : Type 0 where
-  pub lot : Lot
-  pub span : Span
-
--- neither is bad
-abbrev pub goodPart : Part → Bool
-goodPart p = goodLot (p .lot) && goodSpan (p .span)
+use Rattle.sheet.specs.Placed.{Placed}
+use Rattle.position.specs.declared.part.Part.{Part}
 
 -- a node: its name, where it stands, when its block was saved, and whether a metadata row has its index
 pub record Node : Type 0 where
@@ -33,20 +24,15 @@ abbrev pub inPart : Part → Node → Bool
 inPart p n = inLot (p .lot) (n .place .x) (n .place .y) (n .place .z) && inSpan (p .span) (n .time)
 
 -- ---- the nodes of blocks
--- a block where it stands
-pub record Placed : Type 0 where
-  pub at : Coordinates
-  pub block : Block
-
 abbrev pub hasMetadata : List MetadataRow → ℕ → Bool
 hasMetadata [] i = false
 hasMetadata (r ∷ l) i = cond (eqb i (r .position)) true (hasMetadata l i)
 
 -- the node at an index
-abbrev pub nodeOf : Placed → ℕ → Node
-nodeOf x i = record {
+abbrev pub nodeIn : Placed → ℕ → Node
+nodeIn x i = record {
   name = nameAt (x .block) i;
-  place = nodeAt (x .at) i;
+  place = nodeCoordinates (x .at) i;
   time = x .block .head .timestamp;
   metadata = hasMetadata (x .block .metadata) i;
 }
@@ -54,7 +40,7 @@ nodeOf x i = record {
 -- so many nodes from an index on
 unfoldable pub nodesFrom : Placed → ℕ → ℕ → List Node
 nodesFrom x zero i = []
-nodesFrom x (suc n) i = nodeOf x i ∷ nodesFrom x n (suc i)
+nodesFrom x (suc n) i = nodeIn x i ∷ nodesFrom x n (suc i)
 
 -- of each block all 4,096
 unfoldable pub standing : List Placed → List Node
@@ -63,9 +49,9 @@ standing (x ∷ l) = nodesFrom x 4096 0 ++ standing l
 
 -- ---- those that lie in a part
 -- the nodes that pass a test
-unfoldable pub those : (Node → Bool) → List Node → List Node
-those test [] = []
-those test (n ∷ l) = cond (test n) (n ∷ those test l) (those test l)
+unfoldable pub filterNodes : (Node → Bool) → List Node → List Node
+filterNodes test [] = []
+filterNodes test (n ∷ l) = cond (test n) (n ∷ filterNodes test l) (filterNodes test l)
 
 abbrev pub nodesIn : Part → List Placed → List Node
-nodesIn p l = those (inPart p) (standing l)
+nodesIn p l = filterNodes (inPart p) (standing l)

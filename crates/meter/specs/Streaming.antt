@@ -7,9 +7,13 @@ use lib.Dec.{leb}
 use lib.IntN.{ℤ}
 use Rattle.wire.specs.Answer.{Answer, good, plain, badPart, partsMisfit, thenAnswer}
 use Rattle.tally.specs.Rows.{plus}
-use Rattle.meter.specs.Standing.{Part, goodPart, Placed, nodesIn}
+use Rattle.position.specs.declared.part.Part.{Part}
+use Rattle.position.specs.Parts.{goodPart}
+use Rattle.sheet.specs.Placed.{Placed}
+use Rattle.meter.specs.Standing.{nodesIn}
 use Rattle.meter.specs.Counting.{Measure, MeasureRows, tallyOf}
-use Rattle.meter.specs.Sheet.{SheetRecord, frame, inRecord, framed, judgeRecord, fittedSheet}
+use Rattle.sheet.specs.Sheet.{SheetRecord, frame, inRecord, framed, judgeRecord}
+use Rattle.meter.specs.SheetTally.{fittedSheet}
 
 module _ (m : Measure) where
   -- between two records: the last key, how many records were taken, and the rows of what they hold

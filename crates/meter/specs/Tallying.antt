@@ -3,21 +3,13 @@ use Prim.Native.Nat.{ℕ}
 use mathlib.Core.Bool.{cond}
 use mathlib.Core.List.{List, [], _∷_}
 use lib.IntN.{ℤ}
-use Rattle.wire.specs.Answer.{Answer, plain, mapAnswer, thenAnswer, badPart, inRoom}
-use Rattle.position.specs.Keys.{splitOf}
-use Rattle.position.specs.declared.key.Coordinates.{Coordinates}
-use Rattle.mapblock.specs.Data.{Block}
-use Rattle.mapblock.specs.Questions.{blockOf}
+use Rattle.wire.specs.Answer.{Answer, plain, thenAnswer, badPart, inRoom}
 use Rattle.tally.specs.Tally.{tally}
-use Rattle.meter.specs.Standing.{Part, goodPart, Placed, nodesIn}
+use Rattle.position.specs.declared.part.Part.{Part}
+use Rattle.position.specs.Parts.{goodPart}
+use Rattle.sheet.specs.Placed.{placedAt}
+use Rattle.meter.specs.Standing.{nodesIn}
 use Rattle.meter.specs.Counting.{Measure, MeasureRows, tallyOf}
-
-abbrev pub placed : Coordinates → Block → Placed
-placed c b = record { at = c; block = b }
-
--- the block at a key: 9, then 1 to 8
-unfoldable pub placedAt : ℤ → List ℕ → Answer Placed
-placedAt key s = thenAnswer (splitOf key) λ c. mapAnswer (placed c) (blockOf s)
 
 module _ (m : Measure) where
   -- the bytes of rows, where they fit

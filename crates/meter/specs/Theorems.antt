@@ -5,59 +5,37 @@ use Prim.Native.Nat.{ℕ, suc, _<_, _≤_, _^_}
 use mathlib.Core.Path.{_≡_}
 use mathlib.Core.Logic.{_↔_}
 use mathlib.Core.Bool.{true}
-use mathlib.Core.List.{List, [], _∷_, _++_}
+use mathlib.Core.List.{List, [], _∷_}
 use mathlib.Core.Option.{some}
 use lib.IntN.{ℤ}
 use lib.ListN.{length, take}
 use Rattle.wire.specs.Bytes.{Bytes}
 use Rattle.wire.specs.Read.{refused}
-use Rattle.wire.specs.Format.{encodeItems}
 use Rattle.wire.specs.Answer.{Answer, good, refusal, mapAnswer, sheetMalformed, thenAnswer}
-use Rattle.position.specs.Keys.{splitOf}
 use Rattle.position.specs.Spans.{inSpan}
 use Rattle.position.specs.declared.key.Coordinates.{Coordinates}
 use Rattle.mapblock.specs.Data.{Block}
 use Rattle.mapblock.specs.Layout.{all}
 use Rattle.mapblock.specs.Block.{block}
 use Rattle.mapblock.specs.Questions.{blockOf, nameAt}
-use Rattle.mapblock.specs.Valid.{Distinct, Valid}
+use Rattle.mapblock.specs.Valid.{Distinct}
 use Rattle.tally.specs.Rows.{countIn}
 use Rattle.tally.specs.Tally.{rowsOf}
 use Rattle.tally.specs.Theorems.{Merger, outcome, merged, Merges, MergeLaw, emptyTally, EmptyChangesNothing, sumOf, Fits}
 use Rattle.tally.specs.Theorems as merging
-use Rattle.meter.specs.Standing.{Part, goodPart, Placed, Node, nodesIn}
+use Rattle.position.specs.declared.part.Part.{Part}
+use Rattle.position.specs.Parts.{goodPart}
+use Rattle.sheet.specs.Placed.{Placed, placedAt}
+use Rattle.meter.specs.Standing.{Node, nodesIn}
 use Rattle.meter.specs.Counting.{Measure, MeasureRows, tallyOf, amountOf, byOne}
-use Rattle.meter.specs.Tallying.{placedAt, tallyBlockOf}
-use Rattle.meter.specs.Sheet.{Misframed, SheetRecord, frame, sheetHead, sheet, sheetOf, tallySheetOf}
+use Rattle.meter.specs.Tallying.{tallyBlockOf}
+use Rattle.sheet.specs.Sheet.{Misframed, SheetRecord, frame, sheet, sheetOf}
+use Rattle.meter.specs.SheetTally.{tallySheetOf}
 use Rattle.meter.specs.Streaming.{State, startOf, stepsOf, finishOf}
 use Rattle.meter.specs.Cuts.{Cuts, Partition}
-
--- ---- sheets
--- a record that is taken: its key is that of the place, and its bytes are those of the block, which is well formed
-pub record RecordIs (r : SheetRecord) (x : Placed) : Type 0 where
-  pub key : splitOf (r .key) ≡ good (x .at)
-  pub valid : Valid (x .block)
-  pub bytes : r .block ≡ block all .encode (x .block)
-
-abbrev pub RecordsAre : List SheetRecord → List Placed → Type 0
-RecordsAre [] [] = Unit {0}
-RecordsAre [] (x ∷ l) = ⊥
-RecordsAre (r ∷ rs) [] = ⊥
-RecordsAre (r ∷ rs) (x ∷ l) = RecordIs r x × RecordsAre rs l
-
--- A sheet is taken, with these blocks, exactly when it is the bytes of records whose keys are valid and rise, and which are taken.
-abbrev pub SheetTaken : Type 0
-SheetTaken = (s : List ℕ) (l : List Placed) → Bytes s → (sheetOf s ≡ good l) ↔ ((rs : List SheetRecord) × sheet .Ok rs × (s ≡ sheet .encode rs) × RecordsAre rs l)
+use Rattle.sheet.specs.Theorems.{SheetTaken, sheetBytes, Framed}
 
 -- ---- streaming
--- a sheet that states n records: these records, each framed, and then these bytes
-abbrev pub sheetBytes : ℕ → List SheetRecord → List ℕ → List ℕ
-sheetBytes n rs rest = sheetHead .encode n ++ (encodeItems (λ _. frame) [] rs ++ rest)
-
-abbrev pub Framed : List SheetRecord → Type 0
-Framed [] = Unit {0}
-Framed (r ∷ rs) = frame .Ok r × Framed rs
-
 -- a record at a time, up to the end of those framed
 abbrev pub streamed : (m : Measure) → Part → ℕ → ℕ → List SheetRecord → (State m → Answer (List ℕ)) → Answer (List ℕ)
 streamed m p room spare rs end = thenAnswer (startOf m p room spare) λ w. thenAnswer (stepsOf m p w rs) end

@@ -6,11 +6,13 @@ use Rattle.wire.specs.Answer.{Answer, good, refusal, plain, outOfRange, badPart
 use Rattle.position.specs.declared.key.Coordinates.{Coordinates}
 use Rattle.mapblock.specs.Data.{Block}
 use Rattle.mapblock.specs.Numbers.{refusalNumber}
-use Rattle.meter.specs.Standing.{Part, nodesIn}
+use Rattle.position.specs.declared.part.Part.{Part}
+use Rattle.meter.specs.Standing.{nodesIn}
 use Rattle.meter.specs.Counting.{tallyOf, byOne}
-use Rattle.meter.specs.Tallying.{placed, fitted}
-use Rattle.meter.specs.declared.block.BlockAnswer.{BlockAnswer}
-use Rattle.meter.specs.declared.block.BlockAnswer.the-variants as block
+use Rattle.sheet.specs.Placed.{placed}
+use Rattle.meter.specs.Tallying.{fitted}
+use Rattle.meter.specs.declared.block_tally.BlockAnswer.{BlockAnswer}
+use Rattle.meter.specs.declared.block_tally.BlockAnswer.the-variants as block
 
 abbrev pub toldBlock : BlockAnswer → Answer ℕ
 toldBlock (block.Tallied n) = good n

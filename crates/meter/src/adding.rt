@@ -1,26 +1,25 @@
 // What stands of one block in a part, added to a running tally.
-use counters::clear::clear;
-use counters::count::count_in;
-use mapblock::head::Part;
-use mapblock::head::cut;
+use census::clear::clear;
+use census::count::count_in;
+use census::sort::sort;
+use census::used::sized;
+use census::used::used;
 use mapblock::nodes::IDS;
 use mapblock::nodes::NODES;
-use mapblock::scan::Found;
-use names::sort::sort;
-use names::used::sized;
-use names::used::used;
+use mapblock::scan::Scanned;
 use position::key::Coordinates;
-use position::lot::Lot;
-use position::span::Span;
-use running::absorb::absorb;
-use running::running::Running;
+use position::part::Part;
+use running_tally::absorb::absorb;
+use running_tally::state::RunningTally;
+use wire::ranges::Range;
+use wire::ranges::slice_of;
 ghost use mathlib.Core.Path.{_≡_};
 ghost use Prim.Native.Nat.{_≤_};
 ghost use lib.ListN.{length, take};
 ghost use Rattle.mapblock.specs.Data.{Block};
 ghost use Rattle.tally.specs.Rows.{Rows};
 ghost use Rattle.tally.specs.Tally.{ones};
-ghost use Rattle.meter.specs.Adding.{part, MayAdd, UsedAdded, Adds, Added, withBlock};
+ghost use Rattle.meter.specs.Adding.{MayAdd, UsedAdded, Adds, Added, withBlock};
 
 // The counted names at the first n places, put in order and added.
 fn add_used(
@@ -30,8 +29,8 @@ fn add_used(
     n: usize,
     scratch: &mut [usize],
     t: &mut [u8],
-    w: Running,
-) -> Running
+    w: RunningTally,
+) -> RunningTally
     requires { ⌜ (n ≤ length (now places)) × (n ≤ length (now scratch)) ⌝ }
     ensures { λ _. ⌜ length (now (t .exit)) ≡ length (now (t .entry)) ⌝ }
     ensures { λ r. ⌜ ((R : Rows ones) → MayAdd (now (names .entry)) (now (counts .entry)) (take n (now (places .entry))) (now (t .entry)) w R
@@ -45,34 +44,34 @@ fn add_used(
 // are cleared by the names.
 pub(crate) fn add_block(
     block: &[u8],
-    found: Found,
+    found: Scanned,
     at: Coordinates,
-    lot: Lot,
-    span: Span,
+    part: Part,
     counts: &mut [u16; IDS],
     places: &mut [usize; NODES],
     scratch: &mut [usize; NODES],
     t: &mut [u8],
-    w: Running,
-) -> Running
+    w: RunningTally,
+) -> RunningTally
     ensures { λ _. ⌜ length (now (t .exit)) ≡ length (now (t .entry)) ⌝ }
     ensures { λ r. ⌜ ((b : Block) (R : Rows ones) → Adds (now (block .entry)) found (now (counts .entry)) (now (t .entry)) w b R
-        → Added (now (counts .exit)) (now (t .entry)) (now (t .exit)) r R (withBlock (part lot span) at b R)) ⌝ }
+        → Added (now (counts .exit)) (now (t .entry)) (now (t .exit)) r R (withBlock part at b R)) ⌝ }
 {
     let head = found.head;
+    let span = part.span;
     if !span.has(head.timestamp) {
         return w;
     }
     let sections = found.sections;
-    let names = cut(block, sections.names);
-    let lists = cut(
+    let names = slice_of(block, sections.names);
+    let lists = slice_of(
         block,
-        Part {
+        Range {
             start: found.lists,
             length: block.len(),
         },
     );
-    count_in(head.version, lists, at, lot, counts);
+    count_in(head.version, lists, at, part.lot, counts);
     let n = used(names, counts, places);
     sized(places);
     sized(scratch);

@@ -5,8 +5,8 @@ use mathlib.Core.Bool.{true}
 use native.Mathlib.Omega.{arith}
 use lib.IntN.{ℤ, pos, negsuc, natAbs, _+ℤ_, _*ℤ_}
 use lib.Signed.{leZ}
-use Rattle.wire.specs.Choice.{same-test, yes-three}
-use Rattle.wire.specs.Ints.{up, down, plus-is, minus-is, times-is, int-equal, natural-is, ints}
+use Rattle.wire.proofs.Tests.{same-test, yes-three}
+use Rattle.wire.proofs.Ints.{up, down, plus-is, minus-is, times-is, int-equal, natural-is, ints}
 use Rattle.position.specs.Keys.{between, inside, allInside, keyOf, moved, isKey, lowered, fields}
 use Rattle.position.specs.Nodes.{isBlock}
 use Rattle.position.specs.declared.key.Coordinates.{Coordinates}

@@ -6,7 +6,7 @@ use native.Mathlib.Omega.{arith}
 use lib.Dec.{ltb}
 use lib.IntN.{ℤ, pos, negsuc, negℤ, _+ℤ_, _-ℤ_, _*ℤ_}
 use borrow.Author.Tests.{ltb-true, ltb-false}
-use Rattle.wire.specs.Ints.{up, down, plus-is, minus-is, times-is, neg-is, int-equal}
+use Rattle.wire.proofs.Ints.{up, down, plus-is, minus-is, times-is, neg-is, int-equal}
 use Rattle.position.specs.Keys.{allInside, keyOf}
 use Rattle.position.specs.Python.{modulo, quotient, unsignedToSigned, coordinate, left, getIntegerAsBlock}
 use Rattle.position.proofs.Ranges.{InRange, all-inside}

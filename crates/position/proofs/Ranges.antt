@@ -5,8 +5,8 @@ use mathlib.Core.Bool.{true}
 use native.Mathlib.Omega.{arith}
 use lib.IntN.{ℤ, pos, negsuc}
 use lib.Signed.{leZ}
-use Rattle.wire.specs.Choice.{and-yes, yes-and, three-yes}
-use Rattle.wire.specs.Ints.{up, down, le-yes, yes-le}
+use Rattle.wire.proofs.Tests.{and-yes, yes-and, three-yes}
+use Rattle.wire.proofs.Ints.{up, down, le-yes, yes-le}
 use Rattle.position.specs.Keys.{between, inside, allInside}
 
 -- ---- ranges

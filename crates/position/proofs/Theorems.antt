@@ -8,11 +8,12 @@ use lib.Dec.{leb, ltb}
 use lib.IntN.{ℤ, natAbs}
 use lib.Signed.{ltZ}
 use borrow.Author.Tests.{le-leb, lt-ltb, le-ltb}
-use Rattle.wire.specs.Choice.{yes-and, yes-three, and-no, same-test}
-use Rattle.wire.specs.Answer.{good, outOfRange, answered}
-use Rattle.wire.specs.Ints.{ints}
+use Rattle.wire.proofs.Tests.{yes-and, yes-three, and-no, same-test}
+use Rattle.wire.specs.Answer.{good, outOfRange}
+use Rattle.wire.proofs.Answers.{answered}
+use Rattle.wire.proofs.Ints.{ints}
 use Rattle.position.specs.Keys.{between, allInside, keyOf, joinOf, moved, isKey, fields, splitOf}
-use Rattle.position.specs.Nodes.{nodeOn}
+use Rattle.position.specs.Nodes.{axisCoordinate}
 use Rattle.position.specs.Lots.{axis}
 use Rattle.position.specs.Python.{getIntegerAsBlock}
 use Rattle.position.specs.Theorems.{Inverse, TriplesHaveKeys, KeysHaveTriples, PythonAgrees, byFirst, KeyOrder, NodeIndex, NodeInWorld, NodesApart, WholeWorld, AllTime, NeverInSpan}
@@ -79,7 +80,7 @@ node-index b x y z hx hy hz =
     let m : i / 16 ≡ 16 * z + y = omega arith in
     let q : i / 16 % 16 ≡ y = rw m (omega arith) in
     let r : i / 256 ≡ z = omega arith in
-    same-place (ap (nodeOn (b .x)) p) (ap (nodeOn (b .y)) q) (ap (nodeOn (b .z)) r)
+    same-place (ap (axisCoordinate (b .x)) p) (ap (axisCoordinate (b .y)) q) (ap (axisCoordinate (b .z)) r)
 
 pub node-in-the-world : NodeInWorld
 node-in-the-world b i e h =

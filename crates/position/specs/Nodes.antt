@@ -6,26 +6,26 @@ use lib.IntN.{ℤ, pos, _+ℤ_, _*ℤ_}
 use Rattle.wire.specs.Answer.{Answer, good, plain, outOfRange, noSuch}
 use Rattle.position.specs.Keys.{allInside}
 use Rattle.position.specs.declared.key.Coordinates.{Coordinates}
-use Rattle.position.specs.declared.node.NodeAnswer.{NodeAnswer}
-use Rattle.position.specs.declared.node.NodeAnswer.the-variants as node
+use Rattle.position.specs.declared.node.NodeCoordinatesAnswer.{NodeCoordinatesAnswer}
+use Rattle.position.specs.declared.node.NodeCoordinatesAnswer.the-variants as node
 
 -- on one axis: 16·block coordinate + 0..15
-unfoldable pub nodeOn : ℤ → ℕ → ℤ
-nodeOn c n = c *ℤ pos 16 +ℤ pos n
+unfoldable pub axisCoordinate : ℤ → ℕ → ℤ
+axisCoordinate c n = c *ℤ pos 16 +ℤ pos n
 
 -- the node at an index, which is 256·z + 16·y + x
-abbrev pub nodeAt : Coordinates → ℕ → Coordinates
-nodeAt b i = record { x = nodeOn (b .x) (i % 16); y = nodeOn (b .y) (i / 16 % 16); z = nodeOn (b .z) (i / 256) }
+abbrev pub nodeCoordinates : Coordinates → ℕ → Coordinates
+nodeCoordinates b i = record { x = axisCoordinate (b .x) (i % 16); y = axisCoordinate (b .y) (i / 16 % 16); z = axisCoordinate (b .z) (i / 256) }
 
 -- a block whose coordinates are in range
 abbrev pub isBlock : Coordinates → Bool
 isBlock b = allInside (b .x) (b .y) (b .z)
 
-unfoldable pub nodeOf : Coordinates → ℕ → Answer Coordinates
-nodeOf b i = cond (isBlock b) (cond (leb i 4095) (good (nodeAt b i)) (plain noSuch)) (plain outOfRange)
+unfoldable pub nodeCoordinatesOf : Coordinates → ℕ → Answer Coordinates
+nodeCoordinatesOf b i = cond (isBlock b) (cond (leb i 4095) (good (nodeCoordinates b i)) (plain noSuch)) (plain outOfRange)
 
 -- what the code's answer says
-abbrev pub toldNode : NodeAnswer → Answer Coordinates
-toldNode (node.At c) = good c
-toldNode node.OutOfRange = plain outOfRange
-toldNode node.NoSuchNode = plain noSuch
+abbrev pub toldNodeCoordinates : NodeCoordinatesAnswer → Answer Coordinates
+toldNodeCoordinates (node.At c) = good c
+toldNodeCoordinates node.OutOfRange = plain outOfRange
+toldNodeCoordinates node.NoSuchNode = plain noSuch

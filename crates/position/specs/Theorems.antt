@@ -7,7 +7,7 @@ use lib.IntN.{ℤ, pos, negsuc}
 use lib.Signed.{leZ, ltZ}
 use Rattle.wire.specs.Answer.{good}
 use Rattle.position.specs.Keys.{allInside, keyOf, joinOf, isKey, splitOf}
-use Rattle.position.specs.Nodes.{isBlock, nodeOn, nodeAt}
+use Rattle.position.specs.Nodes.{isBlock, axisCoordinate, nodeCoordinates}
 use Rattle.position.specs.Lots.{inLot, goodLot, world}
 use Rattle.position.specs.Spans.{inSpan, goodSpan, allTime}
 use Rattle.position.specs.Python.{getIntegerAsBlock}
@@ -47,15 +47,15 @@ KeyOrder = (a b : Coordinates) → isBlock a ≡ true → isBlock b ≡ true →
 -- "Node index in a block = 256·z + 16·y + x": the node there stands x, y and z steps from the block's first.
 abbrev pub NodeIndex : Type 0
 NodeIndex = (b : Coordinates) (x y z : ℕ) → x < 16 → y < 16 → z < 16
-    → nodeAt b (256 * z + 16 * y + x) ≡ record { x = nodeOn (b .x) x; y = nodeOn (b .y) y; z = nodeOn (b .z) z }
+    → nodeCoordinates b (256 * z + 16 * y + x) ≡ record { x = axisCoordinate (b .x) x; y = axisCoordinate (b .y) y; z = axisCoordinate (b .z) z }
 
 -- A node of a block in range lies in the world.
 abbrev pub NodeInWorld : Type 0
-NodeInWorld = (b : Coordinates) (i : ℕ) → isBlock b ≡ true → i < 4096 → let n = nodeAt b i in inLot world (n .x) (n .y) (n .z) ≡ true
+NodeInWorld = (b : Coordinates) (i : ℕ) → isBlock b ≡ true → i < 4096 → let n = nodeCoordinates b i in inLot world (n .x) (n .y) (n .z) ≡ true
 
 -- Nodes with equal coordinates are the same node of the same block.
 abbrev pub NodesApart : Type 0
-NodesApart = (a b : Coordinates) (i j : ℕ) → i < 4096 → j < 4096 → nodeAt a i ≡ nodeAt b j → (a ≡ b) × (i ≡ j)
+NodesApart = (a b : Coordinates) (i j : ℕ) → i < 4096 → j < 4096 → nodeCoordinates a i ≡ nodeCoordinates b j → (a ≡ b) × (i ≡ j)
 
 -- ---- lots and spans
 abbrev pub inWorld : ℤ → Bool

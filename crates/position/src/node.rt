@@ -5,35 +5,35 @@ ghost use Prim.Native.Nat.{_<_};
 ghost use mathlib.Core.Path.{_≡_};
 ghost use mathlib.Core.Bool.{true};
 ghost use Rattle.position.specs.Keys.{inside};
-ghost use Rattle.position.specs.Nodes.{nodeOn, nodeOf, toldNode};
+ghost use Rattle.position.specs.Nodes.{axisCoordinate, nodeCoordinatesOf, toldNodeCoordinates};
 
-pub enum NodeAnswer {
+pub enum NodeCoordinatesAnswer {
     At(Coordinates),
     OutOfRange,
     NoSuchNode,
 }
 
 // One axis: the block's first node, and the step from it.
-fn on_axis(c: i32, step: usize) -> i32
+fn axis_coordinate(c: i32, step: usize) -> i32
     requires { ⌜ (inside c ≡ true) × (step < 16) ⌝ }
-    ensures { λ r. ⌜ r ≡ nodeOn c step ⌝ }
+    ensures { λ r. ⌜ r ≡ axisCoordinate c step ⌝ }
 {
     c * 16 + step as i32
 }
 
 // Where the node at an index of a block stands.
-pub fn node(block: Coordinates, index: usize) -> NodeAnswer
-    ensures { λ r. ⌜ toldNode r ≡ nodeOf block index ⌝ }
+pub fn node_coordinates(block: Coordinates, index: usize) -> NodeCoordinatesAnswer
+    ensures { λ r. ⌜ toldNodeCoordinates r ≡ nodeCoordinatesOf block index ⌝ }
 {
     if !are_inside(block.x, block.y, block.z) {
-        return NodeAnswer::OutOfRange;
+        return NodeCoordinatesAnswer::OutOfRange;
     }
     if 4095 < index {
-        return NodeAnswer::NoSuchNode;
+        return NodeCoordinatesAnswer::NoSuchNode;
     }
-    NodeAnswer::At(Coordinates {
-        x: on_axis(block.x, index % 16),
-        y: on_axis(block.y, index / 16 % 16),
-        z: on_axis(block.z, index / 256),
+    NodeCoordinatesAnswer::At(Coordinates {
+        x: axis_coordinate(block.x, index % 16),
+        y: axis_coordinate(block.y, index / 16 % 16),
+        z: axis_coordinate(block.z, index / 256),
     })
 }

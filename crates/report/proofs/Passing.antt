@@ -7,7 +7,7 @@ use native.Mathlib.Omega.{arith}
 use lib.ListN.{length, take, drop, length-append, length-drop}
 use lib.Seq.{length-take-le}
 use borrow.Author.Tests.{le-leb, lt-leb}
-use Rattle.wire.specs.Lists.{rest-is}
+use Rattle.wire.proofs.Lists.{rest-is}
 use Rattle.wire.specs.Store.{PutAt}
 use Rattle.wire.proofs.Puts.{put-nothing, put-room, put-two}
 use Rattle.tally.specs.Rows.{Row, Rows}
@@ -16,7 +16,7 @@ use Rattle.tally.specs.Walks.{Holds}
 use Rattle.tally.specs.declared.rows.RowRead.the-variants as rows
 use Rattle.tally.proofs.Held.{row-inside, first-row, no-row}
 use Rattle.tally.proofs.FrontRows.{name-part}
-use Rattle.tally.proofs.Nexts.{Front}
+use Rattle.tally.proofs.SumRows.{Front}
 use Rattle.report.specs.Text.{decimal, line, lines}
 use Rattle.report.specs.Told.{LinesFit, HasRoom, LinesPut}
 use Rattle.report.proofs.Texts.{line-size}

@@ -6,8 +6,9 @@ use mathlib.Core.List.{List, _++_}
 use native.Mathlib.Omega.{arith}
 use lib.ListN.{length, take, drop, length-append}
 use borrow.Author.Tests.{leb-true, leb-false}
-use Rattle.wire.specs.Answer.{good, plain, noRoom, tallyMalformed, inRoom, Answered, room-short}
-use Rattle.wire.specs.Lists.{rest-is}
+use Rattle.wire.specs.Answer.{good, plain, noRoom, tallyMalformed, inRoom, Answered}
+use Rattle.wire.proofs.Answers.{room-short}
+use Rattle.wire.proofs.Lists.{rest-is}
 use Rattle.wire.specs.Store.{PutAt}
 use Rattle.wire.proofs.Puts.{put-room, put-two}
 use Rattle.tally.specs.Tally.{one}

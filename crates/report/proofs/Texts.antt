@@ -5,9 +5,10 @@ use mathlib.Core.List.{List, [], _∷_, _++_}
 use native.Mathlib.Nat.{zero-add}
 use native.Mathlib.Omega.{arith}
 use lib.ListN.{length, length-append}
-use Rattle.wire.specs.Answer.{good, plain, noRoom, inRoom, Answered, room-short, room-put}
+use Rattle.wire.specs.Answer.{good, plain, noRoom, inRoom, Answered}
+use Rattle.wire.proofs.Answers.{room-short, room-put}
 use Rattle.wire.specs.Store.{stored, PutAt}
-use Rattle.wire.proofs.Laid.{stored-fits}
+use Rattle.wire.proofs.Overwrites.{stored-fits}
 use Rattle.wire.proofs.Puts.{put-run, front-room, put-two}
 use Rattle.tally.specs.Rows.{Row}
 use Rattle.report.specs.Text.{decimal, space, newline, line, rowsWords, opening, refusedWord, recordWord, refusalText, refusalTextOf}
@@ -15,12 +16,12 @@ use Rattle.report.specs.Text.{decimal, space, newline, line, rowsWords, 
 -- a store that ends at m, and what is put behind it
 put-then : (at m : ℕ) (u w : List ℕ) {n : ℕ} {d a e : List ℕ} → m ≡ at + length u → at + length (u ++ w) ≤ length d → a ≡ stored at u d
     → (m + length w ≤ length a → PutAt m w a e n) → PutAt at (u ++ w) d e n
-put-then at m u w {d = d} p room s f = put-two {u = u} room (record { ends = p; lays = s ∙ stored-fits at u d (front-room at u w room) }) f
+put-then at m u w {d = d} p room s f = put-two {u = u} room (record { ends = p; overwrites = s ∙ stored-fits at u d (front-room at u w room) }) f
 
 -- ---- what a call answers that puts a text into the buffer d
 module _ (d x : List ℕ) where
   pub text-all : {n : ℕ} {a : List ℕ} → length x ≤ length d → PutAt 0 x d a n → Answered (good n) d a (inRoom (length d) x)
-  text-all {n} h p = let e : n ≡ length x = p .ends ∙ zero-add (length x) in room-put d x (sym e) (omega arith) (p .lays ∙ rw (e, zero-add))
+  text-all {n} h p = let e : n ≡ length x = p .ends ∙ zero-add (length x) in room-put d x (sym e) (omega arith) (p .overwrites ∙ rw (e, zero-add))
 
 -- ---- a refusal, whose numbers have k and j digits
 module _ (n i k j : ℕ) (p : k ≡ length (decimal n)) (q : j ≡ length (decimal i)) (d : List ℕ) where

@@ -5,11 +5,11 @@ use crate::decimal::put_decimal;
 use crate::text::TextAnswer;
 use tally::check::CheckAnswer;
 use tally::check::check;
-use tally::rows::AROUND;
 use tally::rows::NAME_AT;
+use tally::rows::ROW_OVERHEAD;
 use tally::rows::RowRead;
 use tally::rows::front_row;
-use wire::heads::HEAD;
+use wire::heads::HEAD_LENGTH;
 use wire::store::put_bytes;
 ghost use mathlib.Core.Path.{_≡_};
 ghost use Prim.Native.Nat.{_+_, _≤_};
@@ -20,7 +20,7 @@ ghost use Rattle.report.specs.Text.{line, opening, tallyTextOf};
 ghost use Rattle.report.specs.Told.{toldText, LinesFit, HasRoom, LinesPut};
 
 // Where the number of rows stands, behind `TLY 1 rows `.
-const NUMBER_AT: usize = 11;
+const COUNT_AT: usize = 11;
 
 // What a line has beside its digits and its name: a space and a newline.
 const MARKS: usize = 2;
@@ -40,7 +40,7 @@ fn lines_fit(rows: &[u8], room: usize) -> bool
             return false;
         }
         left -= size;
-        rest = &rest[n + AROUND..];
+        rest = &rest[n + ROW_OVERHEAD..];
     }
 }
 
@@ -69,7 +69,7 @@ fn put_lines(out: &mut [u8], from: usize, rows: &[u8]) -> usize
             return at;
         };
         at = put_line(out, at, &rest[NAME_AT..n + NAME_AT], count);
-        rest = &rest[n + AROUND..];
+        rest = &rest[n + ROW_OVERHEAD..];
     }
 }
 
@@ -79,7 +79,7 @@ fn put_opening(out: &mut [u8], rows: u32) -> usize
     ensures { λ r. ⌜ PutAt 0 (opening rows) (now (out .entry)) (now (out .exit)) r ⌝ }
 {
     put_bytes(out, 0, b"TLY 1 rows ");
-    let end = NUMBER_AT + put_decimal(out, NUMBER_AT, rows as u64);
+    let end = COUNT_AT + put_decimal(out, COUNT_AT, rows as u64);
     put_bytes(out, end, b"\n");
     end + 1
 }
@@ -92,13 +92,13 @@ pub fn tally_text(t: &[u8], out: &mut [u8]) -> TextAnswer
     let CheckAnswer::Tally(rows) = check(t) else {
         return TextAnswer::Malformed;
     };
-    let head = NUMBER_AT + decimal_length(rows as u64) + 1;
+    let head = COUNT_AT + decimal_length(rows as u64) + 1;
     if out.len() < head {
         return TextAnswer::NoRoom;
     }
-    if !lines_fit(&t[HEAD..], out.len() - head) {
+    if !lines_fit(&t[HEAD_LENGTH..], out.len() - head) {
         return TextAnswer::NoRoom;
     }
     let at = put_opening(out, rows);
-    TextAnswer::Put(put_lines(out, at, &t[HEAD..]))
+    TextAnswer::Put(put_lines(out, at, &t[HEAD_LENGTH..]))
 }

@@ -5,14 +5,15 @@ use mathlib.Core.List.{List}
 use native.Mathlib.Omega.{arith}
 use lib.IntN.{ℤ}
 use lib.ListN.{length, take, length-append, length-take}
-use Rattle.wire.specs.Bytes.{Bytes, spell-length}
+use Rattle.wire.specs.Bytes.{Bytes, toBE-length}
 use Rattle.wire.specs.Read.{Read, done, refused}
-use Rattle.wire.specs.Format.{_⨾_, along, run, ends-in}
+use Rattle.wire.specs.Format.{_⨾_, iso, run, ends-in}
 use Rattle.wire.specs.Formats.{number, signed}
-use Rattle.wire.specs.Answer.{good, no-good}
-use Rattle.meter.specs.Sheet.{Misframed}
-use Rattle.meter.specs.Program.{recordHead, blockLengthOf}
-use Rattle.meter.proofs.Sheetcount.{unread}
+use Rattle.wire.specs.Answer.{good}
+use Rattle.wire.proofs.Answers.{no-good}
+use Rattle.sheet.specs.Sheet.{Misframed}
+use Rattle.sheetcount_lib.specs.Program.{recordHead, blockLengthOf}
+use Rattle.sheetcount_lib.proofs.Sheetcount.{unread}
 use Rattle.sheetcount_lib.specs.Reading.{Within, RecordWithin}
 use Rattle.sheetcount_lib.specs.declared.reading.BytesRead.{BytesRead}
 use Rattle.sheetcount_lib.specs.declared.reading.BytesRead.the-variants as bytesReads
@@ -32,8 +33,8 @@ within-more bytesReads.Failed l h = tt
 
 -- ---- a record's first twelve bytes
 head-length : (h : ℤ × ℕ) → length (recordHead .encode h) ≡ 12
-unfolding recordHead _⨾_ signed number along run
-head-length h = simp (length-append, spell-length)
+unfolding recordHead _⨾_ signed number iso run
+head-length h = simp (length-append, toBE-length)
 
 -- they are there where they tell a length
 twelve : (s : List ℕ) {n : ℕ} → Bytes s → blockLengthOf 0 s ≡ good n → 12 ≤ length s

@@ -10,15 +10,15 @@ use Rattle.wire.specs.Bytes.{Bytes, bytes-nil, bytes-append}
 use Rattle.wire.specs.Answer.{Matches}
 use Rattle.meter.specs.Counting.{byOne}
 use Rattle.meter.specs.Streaming.{State, noRecords}
-use Rattle.meter.specs.Records.{clearTable}
+use Rattle.mapblock.specs.Table.{clearTable}
 use Rattle.meter.specs.Progress.{Steps}
-use Rattle.meter.specs.Program.{nextOf, countedFrom, nextFaulty, toldNext, CarriesFirst}
+use Rattle.sheetcount_lib.specs.Program.{nextOf, countedFrom, nextFaulty, toldNext, CarriesFirst}
 use Rattle.meter.specs.declared.stream.Progress.{Progress}
-use Rattle.meter.proofs.Sheetcount.{NextBytes, next-bytes}
-use Rattle.meter.proofs.Nexts.{stopped-all}
-use Rattle.meter.specs.declared.program.Next.{Next}
-use Rattle.meter.specs.declared.program.Next.the-variants as nexts
-use Rattle.meter.specs.declared.program.NextFault.{NextFault}
+use Rattle.sheetcount_lib.proofs.Sheetcount.{NextBytes, next-bytes}
+use Rattle.sheetcount_lib.proofs.Nexts.{stopped-all}
+use Rattle.sheetcount_lib.specs.declared.program.Step.{Step}
+use Rattle.sheetcount_lib.specs.declared.program.Step.the-variants as nexts
+use Rattle.sheetcount_lib.specs.declared.program.NextFault.{NextFault}
 use Rattle.sheetcount_lib.specs.Reading.{longest, Begins, Reached, Stopped}
 
 pub record Going (count : ℕ) (t₀ bytes t ids counts : List ℕ) (left : ℕ) (q : Progress) : Type 0 where
@@ -38,15 +38,15 @@ going-start count l g = record {
 }
 
 module _ {count : ℕ} {t₀ bytes t ids counts : List ℕ} {left : ℕ} {q : Progress} (g : Going count t₀ bytes t ids counts left q) (fits : count < 4294967296) (h : 0 < left)
-    (s t′ ids′ counts′ : List ℕ) (b : Bytes s) (a : Next) (y : (w : State byOne) → Steps ids counts t q w → Matches (CarriesFirst t′) (toldNext a) (nextOf w s) × (counts′ ≡ clearTable)) where
+    (s t′ ids′ counts′ : List ℕ) (b : Bytes s) (a : Step) (y : (w : State byOne) → Steps ids counts t q w → Matches (CarriesFirst t′) (toldNext a) (nextOf w s) × (counts′ ≡ clearTable)) where
   abbrev at : State byOne
   at = g .reached .v
 
   steps : Steps ids counts t q at
   steps = record { ids-clear = g .ids-clear; counts-clear = g .counts-clear; carries = g .reached .carries; number = omega (arith, g .reached .number) }
 
-  told : {c : Next} → a ≡ c → Matches (CarriesFirst t′) (toldNext c) (nextOf at s)
-  told e = subst (λ (c : Next). Matches (CarriesFirst t′) (toldNext c) (nextOf at s)) e (y at steps .0)
+  told : {c : Step} → a ≡ c → Matches (CarriesFirst t′) (toldNext c) (nextOf at s)
+  told e = subst (λ (c : Step). Matches (CarriesFirst t′) (toldNext c) (nextOf at s)) e (y at steps .0)
 
   pub going-stop : {f : NextFault} → a ≡ nexts.Stop f → Stopped count f
   going-stop {f} e = record {

@@ -1,3 +1,6 @@
+-- What the program makes of its input, and a record at a time.
+pub mod Sheetcount
+pub mod Nexts
 -- What the functions' proofs cite.
 pub mod Counts
 pub mod Going

@@ -8,7 +8,8 @@ use native.Mathlib.Omega.{arith}
 use lib.ListN.{length, take, drop, length-append}
 use lib.Seq.{take-append-seam}
 use Rattle.wire.specs.Bytes.{Bytes}
-use Rattle.wire.specs.Answer.{Answer, good, refusal, mapAnswer, lent, no-good, map-good}
+use Rattle.wire.specs.Answer.{Answer, good, refusal, mapAnswer, lent}
+use Rattle.wire.proofs.Answers.{no-good, map-good}
 use Rattle.report.specs.Text.{refusalText, tallyTextOf, printed}
 use Rattle.report.specs.Told.{toldText, lengthPut}
 use Rattle.report.specs.declared.text.TextAnswer.{TextAnswer}
@@ -17,14 +18,14 @@ use Rattle.report.proofs.Shorts.{tally-text-fits}
 use Rattle.meter.specs.Counting.{byOne}
 use Rattle.meter.specs.SheetTold.{toldSheet}
 use Rattle.meter.specs.Theorems.{whole-sheet}
-use Rattle.meter.specs.Program.{everything, mostTally, sheetcountOf}
-use Rattle.meter.specs.declared.sheet.SheetAnswer.{SheetAnswer}
-use Rattle.meter.specs.declared.sheet.SheetAnswer.the-variants as sheets
-use Rattle.meter.proofs.sheet.SheetAnswer as answers
+use Rattle.sheetcount_lib.specs.Program.{everything, maxTallyLength, sheetcountOf}
+use Rattle.meter.specs.declared.sheet_tally.SheetAnswer.{SheetAnswer}
+use Rattle.meter.specs.declared.sheet_tally.SheetAnswer.the-variants as sheets
+use Rattle.meter.proofs.sheet_tally.SheetAnswer as answers
 use Rattle.meter.proofs.Exactness.{told-tallied, is-tally}
-use Rattle.meter.proofs.Sheetcount.{sheetcount}
+use Rattle.sheetcount_lib.proofs.Sheetcount.{sheetcount}
 use Rattle.sheetcount_lib.specs.Reading.{CountedAs}
-use Rattle.sheetcount_lib.specs.Printing.{mostText, TextIs, Shows}
+use Rattle.sheetcount_lib.specs.Printing.{maxTextLength, TextIs, Shows}
 
 length-told : (a : TextAnswer) (n : ℕ) → toldText a ≡ good n → lengthPut a ≡ n
 length-told (texts.Put m) n h = cc
@@ -58,7 +59,7 @@ refused-shown c r text e b = subst (TextIs r text) (sym (printed-refusal (sheetc
 
 -- ---- a tally
 -- what was counted, and where it stands
-pub record Counted (out : List ℕ) (n : ℕ) (s : List ℕ) : Type 0 where
+pub record SheetResult (out : List ℕ) (n : ℕ) (s : List ℕ) : Type 0 where
   pub t : List ℕ
   pub good-tally : sheetcountOf s ≡ good t
   pub size : length t ≡ n
@@ -68,21 +69,21 @@ pub record Counted (out : List ℕ) (n : ℕ) (s : List ℕ) : Type 0 where
 stands : (t before out : List ℕ) (n : ℕ) → length t ≡ n → out ≡ t ++ drop (length t) before → (n ≤ length out) × (take n out ≡ t)
 stands t before out n l e = rw (e, sym l) (rw length-append (omega arith), take-append-seam t (drop (length t) before))
 
-pub counted : {out : List ℕ} {answer : SheetAnswer} (c : CountedAs out answer) {n : ℕ} → toldSheet answer ≡ good n → Counted out n (c .into .s)
+pub counted : {out : List ℕ} {answer : SheetAnswer} (c : CountedAs out answer) {n : ℕ} → toldSheet answer ≡ good n → SheetResult out n (c .into .s)
 counted {out} c {n} e =
     let x = map-good length (sheetcountOf (c .into .s)) n (sym (c .into .answered .0) ∙ e) in
     let y = stands (x .0) (c .before) out n (x .2) (c .into .answered .1 ∙ ap (λ (a : Answer (List ℕ)). lent a (c .before)) (x .1)) in
     record { t = x .0; good-tally = x .1; size = x .2; inside = y .0; front = y .1 }
 
 -- its text fits
-text-fits : (s t : List ℕ) → Bytes s → sheetcountOf s ≡ good t → tallyTextOf mostText t ≡ good (printed (sheetcountOf s))
+text-fits : (s t : List ℕ) → Bytes s → sheetcountOf s ≡ good t → tallyTextOf maxTextLength t ≡ good (printed (sheetcountOf s))
 unfolding printed
 text-fits s t b h =
-    let y = told-tallied byOne (whole-sheet s mostTally) everything mostTally t b (sheetcount .tallied s t b h) in
+    let y = told-tallied byOne (whole-sheet s maxTallyLength) everything maxTallyLength t b (sheetcount .tallied s t b h) in
     let k = is-tally byOne b y in
-    tally-text-fits mostText t k (omega (arith, y .can .fits .1, ap length (y .bytes))) ∙ rw (h, k .1 .1)
+    tally-text-fits maxTextLength t k (omega (arith, y .can .fits .1, ap length (y .bytes))) ∙ rw (h, k .1 .1)
 
-pub tally-shown : {out : List ℕ} {answer : SheetAnswer} (c : CountedAs out answer) {n : ℕ} (h : toldSheet answer ≡ good n) (a : TextAnswer) (r : ℕ) (old text : List ℕ) → length old ≡ mostText → r ≡ lengthPut a
+pub tally-shown : {out : List ℕ} {answer : SheetAnswer} (c : CountedAs out answer) {n : ℕ} (h : toldSheet answer ≡ good n) (a : TextAnswer) (r : ℕ) (old text : List ℕ) → length old ≡ maxTextLength → r ≡ lengthPut a
     → toldText a ≡ mapAnswer length (tallyTextOf (length old) (take n out)) → text ≡ lent (tallyTextOf (length old) (take n out)) old → Shows r text (c .into .s)
 tally-shown c h a r old text l z t e =
     let x = counted c h in

@@ -4,31 +4,32 @@ use mathlib.Core.Path.{_≡_, refl, ap, sym, subst, _∙_}
 use mathlib.Core.List.{List, _++_}
 use mathlib.Core.Option.{none}
 use Rattle.wire.specs.Bytes.{Bytes, bytes-append}
-use Rattle.wire.specs.Answer.{Answer, good, plain, mapAnswer, no-good, Answered}
-use Rattle.wire.specs.Read.{found, found-none, Misread, at-place}
+use Rattle.wire.specs.Answer.{Answer, good, plain, mapAnswer, Answered}
+use Rattle.wire.proofs.Answers.{no-good}
+use Rattle.wire.specs.Read.{toOption, toOption-none, Misread, at-place}
 use Rattle.position.specs.Keys.{between}
 use Rattle.position.specs.Lots.{axis}
 use Rattle.meter.specs.Counting.{byOne}
 use Rattle.meter.specs.Streaming.{State, noRecords, startOf}
-use Rattle.meter.specs.Sheet.{sheetHead}
+use Rattle.sheet.specs.Sheet.{sheetHead}
 use Rattle.meter.specs.Progress.{Carries, begun}
 use Rattle.meter.specs.SheetTold.{toldSheet}
-use Rattle.meter.specs.Program.{everything, mostTally, countedFrom, sheetcountOf, nextFaulty}
-use Rattle.meter.specs.declared.sheet.SheetAnswer.{SheetAnswer}
-use Rattle.meter.specs.declared.sheet.SheetAnswer.the-variants as sheets
+use Rattle.sheetcount_lib.specs.Program.{everything, maxTallyLength, countedFrom, sheetcountOf, nextFaulty}
+use Rattle.meter.specs.declared.sheet_tally.SheetAnswer.{SheetAnswer}
+use Rattle.meter.specs.declared.sheet_tally.SheetAnswer.the-variants as sheets
 use Rattle.meter.specs.declared.stream.Progress.{Progress}
-use Rattle.meter.specs.declared.program.NextFault.{NextFault}
-use Rattle.meter.proofs.SheetTaken.{ok-head}
+use Rattle.sheetcount_lib.specs.declared.program.NextFault.{NextFault}
+use Rattle.sheet.proofs.SheetTaken.{ok-head}
 use Rattle.meter.proofs.Carried.{begun-carried}
-use Rattle.meter.proofs.Nexts.{stopped-lent}
-use Rattle.meter.proofs.Sheetcount.{behind-head, headless}
+use Rattle.sheetcount_lib.proofs.Nexts.{stopped-lent}
+use Rattle.sheetcount_lib.proofs.Sheetcount.{behind-head, headless}
 use Rattle.sheetcount_lib.specs.Reading.{Stopped, Reached, Ended, CountedInto, IfRead}
 use Rattle.sheetcount_lib.specs.declared.reading.SheetRead.{SheetRead}
 use Rattle.sheetcount_lib.specs.declared.reading.SheetRead.the-variants as sheetReads
 
 -- ---- the start
-module _ (room spare : ℕ) (r : room ≡ mostTally) (p : spare ≡ mostTally) where
-  everything-starts : startOf byOne everything mostTally mostTally ≡ good (noRecords byOne)
+module _ (room spare : ℕ) (r : room ≡ maxTallyLength) (p : spare ≡ maxTallyLength) where
+  everything-starts : startOf byOne everything maxTallyLength maxTallyLength ≡ good (noRecords byOne)
   unfolding startOf axis between
   everything-starts = refl
 
@@ -44,8 +45,8 @@ module _ (room spare : ℕ) (r : room ≡ mostTally) (p : spare ≡ mostTally) w
 
 -- ---- the head, the records and the end
 -- the head is none
-pub counted-headless : (s d : List ℕ) → Bytes s → none ≡ found (sheetHead .read s) → CountedInto d d (sheets.Malformed 0)
-counted-headless s d b e = go (found-none (sheetHead .read s) e)
+pub counted-headless : (s d : List ℕ) → Bytes s → none ≡ toOption (sheetHead .read s) → CountedInto d d (sheets.Malformed 0)
+counted-headless s d b e = go (toOption-none (sheetHead .read s) e)
   where
     go : Misread (sheetHead .read s) → CountedInto d d (sheets.Malformed 0)
     go (at-place p h) = record { s = s; bytes = b; answered = rw (headless s h) (refl, refl) }

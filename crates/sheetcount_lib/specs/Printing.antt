@@ -4,11 +4,11 @@ use mathlib.Core.Path.{_≡_}
 use mathlib.Core.List.{List}
 use lib.ListN.{length, take}
 use Rattle.report.specs.Text.{refusalText, printed}
-use Rattle.meter.specs.Program.{sheetcountOf}
+use Rattle.sheetcount_lib.specs.Program.{sheetcountOf}
 
 -- room for the text of any tally of 8,192 bytes
-abbrev pub mostText : ℕ
-mostText = 20_480
+abbrev pub maxTextLength : ℕ
+maxTextLength = 20_480
 
 -- the first r bytes are the text x
 pub record TextIs (r : ℕ) (text x : List ℕ) : Type 0 where

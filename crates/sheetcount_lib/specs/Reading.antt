@@ -8,13 +8,13 @@ use Rattle.wire.specs.Bytes.{Bytes}
 use Rattle.wire.specs.Answer.{Answer, good, refusal, Answered}
 use Rattle.meter.specs.Counting.{byOne}
 use Rattle.meter.specs.Streaming.{State, noRecords}
-use Rattle.meter.specs.Records.{clearTable}
+use Rattle.mapblock.specs.Table.{clearTable}
 use Rattle.meter.specs.Progress.{Carries}
 use Rattle.meter.specs.SheetTold.{toldSheet}
-use Rattle.meter.specs.Program.{mostBlock, mostTally, blockLengthOf, countedFrom, sheetcountOf, nextFaulty}
-use Rattle.meter.specs.declared.sheet.SheetAnswer.{SheetAnswer}
+use Rattle.sheetcount_lib.specs.Program.{maxBlockLength, maxTallyLength, blockLengthOf, countedFrom, sheetcountOf, nextFaulty}
+use Rattle.meter.specs.declared.sheet_tally.SheetAnswer.{SheetAnswer}
 use Rattle.meter.specs.declared.stream.Progress.{Progress}
-use Rattle.meter.specs.declared.program.NextFault.{NextFault}
+use Rattle.sheetcount_lib.specs.declared.program.NextFault.{NextFault}
 use Rattle.sheetcount_lib.specs.declared.reading.BytesRead.{BytesRead}
 use Rattle.sheetcount_lib.specs.declared.reading.BytesRead.the-variants as bytesReads
 use Rattle.sheetcount_lib.specs.declared.reading.RecordsRead.{RecordsRead}
@@ -24,7 +24,7 @@ use Rattle.sheetcount_lib.specs.declared.reading.SheetRead.the-variants 
 
 -- the longest record: twelve bytes and its block
 abbrev pub longest : ℕ
-longest = 12 + mostBlock
+longest = 12 + maxBlockLength
 
 -- no more bytes were read than there is room for
 abbrev pub Within : ℕ → BytesRead → Type 0
@@ -86,8 +86,8 @@ pub record Ended (t : List ℕ) (q : Progress) (before after : List ℕ) (r : Sh
 -- the buffers that are lent, with clear tables
 pub record Ready (bytes out spare ids counts : List ℕ) : Type 0 where
   pub bytes-long : length bytes ≡ longest
-  pub out-long : length out ≡ mostTally
-  pub spare-long : length spare ≡ mostTally
+  pub out-long : length out ≡ maxTallyLength
+  pub spare-long : length spare ≡ maxTallyLength
   pub ids-clear : ids ≡ clearTable
   pub counts-clear : counts ≡ clearTable
 

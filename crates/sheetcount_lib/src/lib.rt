@@ -1,10 +1,11 @@
 // The program sheetcount, over descriptors that its caller names: it counts the nodes of a sheet, name by name, the whole world and all time.
 // What is read is judged, counted and put into words by the libraries below; no contract can say which bytes a read gives or a write takes, so
 // that part is held by runs, of sheetcount_runs.
+mod program;
 mod reading;
 
 use anowhetele::metering::sheet_answer;
-use meter::sheet::SheetAnswer;
+use meter::sheet_tally::SheetAnswer;
 use reading::SheetRead;
 use reading::count_sheet;
 use report::lines::tally_text;
@@ -16,16 +17,16 @@ ghost use lib.ListN.{length};
 ghost use Rattle.wire.specs.Answer.{refusal};
 ghost use Rattle.meter.specs.SheetTold.{toldSheet};
 ghost use Rattle.sheetcount_lib.specs.Reading.{CountedAs};
-ghost use Rattle.sheetcount_lib.specs.Printing.{mostText, Shows, ShowsRefusal};
+ghost use Rattle.sheetcount_lib.specs.Printing.{maxTextLength, Shows, ShowsRefusal};
 
 // ---- what is printed: inner functions of `run`, whose premises are a buffer for the text of this length and an output that holds what the
 // answer says
 // Room for the text of any tally.
-const MOST_TEXT: usize = 20480;
+const MAX_TEXT_LENGTH: usize = 20480;
 
 // The number and the record of a refusal.
 fn put_refusal(answer: SheetAnswer, text: &mut [u8]) -> usize
-    requires { ⌜ length (now text) ≡ mostText ⌝ }
+    requires { ⌜ length (now text) ≡ maxTextLength ⌝ }
     ensures { λ r. ⌜ ((n i o : ℕ) → toldSheet answer ≡ refusal n i o → ShowsRefusal r (now (text .exit)) n i) ⌝ }
 {
     let told = sheet_answer(answer);
@@ -34,7 +35,7 @@ fn put_refusal(answer: SheetAnswer, text: &mut [u8]) -> usize
 
 // What is printed, and how long it is.
 fn put_answer(answer: SheetAnswer, out: &[u8], text: &mut [u8]) -> usize
-    requires { ⌜ (length (now text) ≡ mostText) × CountedAs (now out) answer ⌝ }
+    requires { ⌜ (length (now text) ≡ maxTextLength) × CountedAs (now out) answer ⌝ }
     ensures { λ r. ⌜ ((c : CountedAs (now (out .entry)) answer) → Shows r (now (text .exit)) (c .into .s)) ⌝ }
 {
     let SheetAnswer::Tallied(n) = answer else {
@@ -47,7 +48,7 @@ fn put_answer(answer: SheetAnswer, out: &[u8], text: &mut [u8]) -> usize
 fn print_answer(output: i32, errors: i32, answer: SheetAnswer, out: &[u8])
     requires { ⌜ CountedAs (now out) answer ⌝ }
 {
-    let mut text = [0u8; MOST_TEXT];
+    let mut text = [0u8; MAX_TEXT_LENGTH];
     let n = put_answer(answer, out, &mut text);
     if !io::write_all(output, &text[..n]) {
         io::write_all(errors, b"sheetcount: cannot write the result\n");

@@ -1,25 +1,24 @@
 // A sheet read from the descriptor `input`, a record at a time. All functions here but `read_bytes` and `count_sheet` are inner functions: their
 // premises are buffers of the program's lengths and tables that are clear.
+use crate::program::LengthRead;
+use crate::program::MAX_BLOCK_LENGTH;
+use crate::program::MAX_TALLY_LENGTH;
+use crate::program::NextFault;
+use crate::program::Step;
+use crate::program::block_length;
+use crate::program::end_sheet;
+use crate::program::stopped;
+use crate::program::take_next;
 use mapblock::nodes::IDS;
 use mapblock::nodes::NODES;
-use meter::head::sheet_head;
-use meter::program::LengthRead;
-use meter::program::MOST_BLOCK;
-use meter::program::MOST_TALLY;
-use meter::program::Next;
-use meter::program::NextFault;
-use meter::program::block_length;
-use meter::program::end_sheet;
-use meter::program::stopped;
-use meter::program::take_next;
-use meter::records::BLOCK_AT;
-use meter::sheet::SheetAnswer;
+use meter::sheet_tally::SheetAnswer;
 use meter::stream::Progress;
 use meter::stream::StartAnswer;
 use meter::stream::start;
-use position::lot::Lot;
-use position::span::Span;
-use wire::heads::HEAD;
+use position::part::Part;
+use sheet::head::sheet_head;
+use sheet::records::BLOCK_AT;
+use wire::heads::HEAD_LENGTH;
 use wire::heads::HeadRead;
 ghost use mathlib.Core.Path.{_≡_};
 ghost use Prim.Native.Nat.{_+_, _≤_};
@@ -27,7 +26,7 @@ ghost use lib.ListN.{length, take};
 ghost use Rattle.meter.specs.Counting.{byOne};
 ghost use Rattle.meter.specs.Streaming.{noRecords};
 ghost use Rattle.meter.specs.Progress.{Carries};
-ghost use Rattle.meter.specs.Program.{mostBlock, mostTally};
+ghost use Rattle.sheetcount_lib.specs.Program.{maxBlockLength, maxTallyLength};
 ghost use Rattle.sheetcount_lib.specs.Reading.{longest, Within, RecordWithin, Begins, AllTold, IfRead, Ended, Ready, CountedInto, CountedAs};
 
 // How many bytes were read, which are fewer than were asked for only where the input ends; or that a read failed.
@@ -57,7 +56,7 @@ fn read_bytes(input: i32, bytes: &mut [u8]) -> BytesRead
 
 // Reads a record's block of so many bytes to its place behind the first twelve. Tells how many bytes there are, with those.
 fn read_block(input: i32, size: usize, bytes: &mut [u8]) -> BytesRead
-    requires { ⌜ (length (now bytes) ≡ longest) × (size ≤ mostBlock) ⌝ }
+    requires { ⌜ (length (now bytes) ≡ longest) × (size ≤ maxBlockLength) ⌝ }
     ensures { λ r. ⌜ Within (12 + size) r ⌝ }
     ensures { λ _. ⌜ take 12 (now (bytes .exit)) ≡ take 12 (now (bytes .entry)) ⌝ }
 {
@@ -115,10 +114,10 @@ fn take_all(
             return RecordsRead::Failed;
         };
         match take_next(now, &bytes[..n], spare, ids, counts, places, scratch) {
-            Next::Stop(f) => {
+            Step::Stop(f) => {
                 return RecordsRead::Refused(f);
             }
-            Next::On(next) => {
+            Step::On(next) => {
                 now = next;
                 left -= 1;
             }
@@ -135,7 +134,7 @@ pub(crate) enum SheetRead {
 
 // Behind the last record: reads one byte more, of which there is none in a sheet.
 fn read_end(input: i32, p: Progress, bytes: &mut [u8], out: &mut [u8], spare: &[u8]) -> SheetRead
-    requires { ⌜ (length (now bytes) ≡ longest) × (length (now out) ≡ mostTally) × (length (now spare) ≡ mostTally) ⌝ }
+    requires { ⌜ (length (now bytes) ≡ longest) × (length (now out) ≡ maxTallyLength) × (length (now spare) ≡ maxTallyLength) ⌝ }
     ensures { λ r. ⌜ IfRead (Ended (now (spare .entry)) p (now (out .entry)) (now (out .exit))) r ⌝ }
 {
     let BytesRead::Bytes(n) = read_bytes(input, &mut bytes[..1]) else {
@@ -159,10 +158,10 @@ fn read_sheet(
     requires { ⌜ Ready (now bytes) (now out) (now spare) (now ids) (now counts) × Carries (now spare) p (noRecords byOne) ⌝ }
     ensures { λ r. ⌜ IfRead (CountedInto (now (out .entry)) (now (out .exit))) r ⌝ }
 {
-    let BytesRead::Bytes(got) = read_bytes(input, &mut bytes[..HEAD]) else {
+    let BytesRead::Bytes(got) = read_bytes(input, &mut bytes[..HEAD_LENGTH]) else {
         return SheetRead::Failed;
     };
-    let HeadRead::Number(count) = sheet_head(&bytes[..got]) else {
+    let HeadRead::Count(count) = sheet_head(&bytes[..got]) else {
         return SheetRead::Answer(SheetAnswer::Malformed(0));
     };
     match take_all(input, count, p, bytes, spare, ids, counts, places, scratch) {
@@ -186,7 +185,7 @@ fn count_into(
     requires { ⌜ Ready (now bytes) (now out) (now spare) (now ids) (now counts) ⌝ }
     ensures { λ r. ⌜ IfRead (CountedInto (now (out .entry)) (now (out .exit))) r ⌝ }
 {
-    match start(Lot::WORLD, Span::ALL_TIME, out.len(), spare.len()) {
+    match start(Part::EVERYTHING, out.len(), spare.len()) {
         StartAnswer::BadPart => SheetRead::Answer(SheetAnswer::BadPart),
         StartAnswer::Misfit => SheetRead::Answer(SheetAnswer::Misfit),
         StartAnswer::Started(p) => read_sheet(
@@ -204,13 +203,13 @@ fn count_into(
 }
 
 // What a sheet came to: the answer and, where it is a tally, its bytes at the front of the output.
-pub(crate) struct Counted {
+pub(crate) struct SheetResult {
     pub read: SheetRead,
-    pub out: [u8; MOST_TALLY],
+    pub out: [u8; MAX_TALLY_LENGTH],
 }
 
 // Reads a sheet and tallies it.
-pub(crate) fn count_sheet(input: i32) -> Counted
+pub(crate) fn count_sheet(input: i32) -> SheetResult
     ensures { λ r. ⌜ IfRead (CountedAs (r .out)) (r .read) ⌝ }
 {
     // The tables come first, as in the tally of a sheet.
@@ -219,9 +218,9 @@ pub(crate) fn count_sheet(input: i32) -> Counted
     let mut places = [0usize; NODES];
     let mut scratch = [0usize; NODES];
     // A record, the running tally and the tally.
-    let mut bytes = [0u8; BLOCK_AT + MOST_BLOCK];
-    let mut spare = [0u8; MOST_TALLY];
-    let mut out = [0u8; MOST_TALLY];
+    let mut bytes = [0u8; BLOCK_AT + MAX_BLOCK_LENGTH];
+    let mut spare = [0u8; MAX_TALLY_LENGTH];
+    let mut out = [0u8; MAX_TALLY_LENGTH];
     let read = count_into(
         input,
         &mut bytes,
@@ -232,5 +231,5 @@ pub(crate) fn count_sheet(input: i32) -> Counted
         &mut places,
         &mut scratch,
     );
-    Counted { read, out }
+    SheetResult { read, out }
 }

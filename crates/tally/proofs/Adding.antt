@@ -12,32 +12,33 @@ use lib.Seq.{take-at, drop-at, length-take-le}
 use borrow.Author.Tests.{le-leb, lt-leb}
 use borrow.Rule.Slice.PartMut.{putMid}
 use Rattle.wire.specs.Answer.{good, plain, partsMisfit, tallyMalformed, Answered}
-use Rattle.wire.specs.Bytes.{Bytes, spell, bytes-take}
+use Rattle.wire.specs.Bytes.{Bytes, toBE, bytes-take}
 use Rattle.wire.specs.Formats.{u32, u64, headLength}
-use Rattle.wire.specs.Order.{order, order-refl}
+use Rattle.wire.specs.Order.{order}
+use Rattle.wire.proofs.TotalOrder.{order-refl}
 use Rattle.wire.specs.declared.order.Order.the-variants.{Same}
-use Rattle.wire.specs.Store.{laid, stored}
+use Rattle.wire.specs.Store.{overwrite, stored}
 use Rattle.wire.specs.Told.{short}
-use Rattle.wire.specs.Choice.{and-yes, yes-and, and-no, three-yes, yes-three}
+use Rattle.wire.proofs.Tests.{and-yes, yes-and, and-no, three-yes, yes-three}
 use Rattle.wire.proofs.Puts.{put-number}
 use Rattle.tally.specs.Rows.{Row, Rows, isName, joined, addRow}
-use Rattle.tally.specs.Tally.{Kind, KindRow, KindRows, headBytes, fields, tally, rowsOf, limited, countable, most, ones, one, mostRows}
+use Rattle.tally.specs.Tally.{TallyKind, TallyRow, TallyRows, headBytes, fields, tally, rowsOf, limited, countable, maxCount, ones, one, maxRows}
 use Rattle.tally.specs.Operations.{checkOf, tallied, addOf}
 use Rattle.tally.specs.Told.{toldAdd}
 use Rattle.tally.specs.Walks.{rowsBytes, Holds}
-use Rattle.tally.specs.Sought.{Ready, Sought, FoundRow, FoundPlace, opened, AddedAs}
+use Rattle.tally.specs.LookedUp.{AddReady, LookedUp, RowPresent, RowAbsent, rowInserted, AddedAs}
 use Rattle.tally.specs.declared.add.AddAnswer.{AddAnswer}
 use Rattle.tally.specs.declared.add.AddAnswer.the-variants as answers
-use Rattle.tally.specs.declared.add.Found.the-variants as founds
+use Rattle.tally.specs.declared.lookup.Lookup.the-variants as lookups
 use Rattle.tally.proofs.Held.{Opened, opened as tally-opened, rows-append, tally-bytes, head-size, tally-size, one-size}
 use Rattle.tally.proofs.Checks.{Checked, checked, check-long}
-use Rattle.tally.proofs.Seeking.{cut-is, cut-size}
-use Rattle.tally.proofs.Opening.{count-laid, rows-laid, part-opened}
+use Rattle.tally.proofs.LookingUp.{cut-is, cut-size}
+use Rattle.tally.proofs.Opening.{count-overwrite, rows-overwrite, part-opened}
 use Rattle.tally.proofs.Steps.{add-at, add-between}
 use Rattle.tally.proofs.Fitting.{many-answered, room-answered, good-answered}
 
 -- ---- the answer by cases
-module _ (k : Kind) (d : List ℕ) (n : ℕ) (r : KindRow k) where
+module _ (k : TallyKind) (d : List ℕ) (n : ℕ) (r : TallyRow k) where
   pub add-long : 65535 < length (r .name) → addOf k d n r ≡ plain partsMisfit
   unfolding addOf
   add-long h = rw (lt-leb (length (r .name)) 65535 h)
@@ -55,7 +56,7 @@ module _ (k : Kind) (d : List ℕ) (n : ℕ) (r : KindRow k) where
       unfolding addOf
       add-malformed e = rw (named, le-leb n (length d) i, e)
 
-      module _ (L : KindRows k) (e : rowsOf k (take n d) ≡ some L) where
+      module _ (L : TallyRows k) (e : rowsOf k (take n d) ≡ some L) where
         pub add-nothing : k .counts .stands (r .count) ≡ false → addOf k d n r ≡ good (take n d)
         unfolding addOf
         add-nothing s = rw (named, le-leb n (length d) i, e, s)
@@ -74,7 +75,7 @@ module _ (d : List ℕ) (n rows : ℕ) (r : Row ℕ) (h : length (r .name) ≤ 6
   nothing-added z =
       rw (add-nothing one d n r h i (there .l) (there .is) (lt-leb 1 (r .count) (omega arith)), length-take-le n d i) (refl, sym (take-append-drop n d))
 
-  pub may-add : Bytes d → 0 < r .count → Ready d n rows r
+  pub may-add : Bytes d → 0 < r .count → AddReady d n rows r
   may-add b s = record {
     long = rw (length-take-le n d i) at (check-long (take n d) (bytes-take n d b) c);
     inside = i;
@@ -87,12 +88,12 @@ module _ (d : List ℕ) (n rows : ℕ) (r : Row ℕ) (h : length (r .name) ≤ 6
   row-added e a s f = rw (add-some one d n r h i (there .l) (there .is) (le-leb 1 (r .count) s)) (f (there .l) (there .is))
 
 -- ---- rows with one more among them
-module _ (k : Kind) where
-  limited-append : (D R : KindRows k) → limited k (D ++ R) ≡ (limited k D && limited k R)
+module _ (k : TallyKind) where
+  limited-append : (D R : TallyRows k) → limited k (D ++ R) ≡ (limited k D && limited k R)
   limited-append [] R = refl
   limited-append (x ∷ D) R = rw (limited-append D R) (sym (and-assoc (k .limit (x .count)) (limited k D) (limited k R)))
 
-  module _ (D R : KindRows k) (x : KindRow k) where
+  module _ (D R : TallyRows k) (x : TallyRow k) where
     limited-more : limited k (D ++ R) ≡ true → k .limit (x .count) ≡ true → limited k (D ++ x ∷ R) ≡ true
     limited-more h c =
         let p = and-yes (limited k D) (limited k R) (sym (limited-append D R) ∙ h) in
@@ -107,16 +108,16 @@ module _ (k : Kind) where
     limited-not h = limited-append D (x ∷ R) ∙ and-no (limited k D) (k .limit (x .count) && limited k R) (inr (and-no (k .limit (x .count)) (limited k R) (inl h)))
 
   -- its bytes, up to a row and from there on
-  tally-parts : (L D R : KindRows k) → L ≡ D ++ R → tally k .encode L ≡ (headBytes k (length L) ++ rowsBytes k D) ++ rowsBytes k R
+  tally-parts : (L D R : TallyRows k) → L ≡ D ++ R → tally k .encode L ≡ (headBytes k (length L) ++ rowsBytes k D) ++ rowsBytes k R
   tally-parts L D R s =
       tally-bytes k L ∙ ap (λ (y : List ℕ). headBytes k (length L) ++ y) (ap (rowsBytes k) s ∙ rows-append k D R)
       ∙ sym (append-assoc (headBytes k (length L)) (rowsBytes k D) (rowsBytes k R))
 
-  parts-size : (L D R : KindRows k) → L ≡ D ++ R → length (tally k .encode L) ≡ headLength + (length (rowsBytes k D) + length (rowsBytes k R))
+  parts-size : (L D R : TallyRows k) → L ≡ D ++ R → length (tally k .encode L) ≡ headLength + (length (rowsBytes k D) + length (rowsBytes k R))
   parts-size L D R s = tally-size k L ∙ ap (λ (j : ℕ). headLength + j) (ap length (ap (rowsBytes k) s ∙ rows-append k D R) ∙ length-append (rowsBytes k D) (rowsBytes k R))
 
 -- ---- a row added to the tally in the first n bytes of d
-module _ (d : List ℕ) (n rows : ℕ) (r : Row ℕ) (w : Ready d n rows r) where
+module _ (d : List ℕ) (n rows : ℕ) (r : Row ℕ) (w : AddReady d n rows r) where
   -- what is answered, and what the buffer then holds, where the rows are L
   abbrev Added : AddAnswer → List ℕ → Rows ones → Type 0
   Added a after L = Answered (toldAdd a) d after (tallied one (length d) (addRow ones r L))
@@ -132,10 +133,10 @@ module _ (d : List ℕ) (n rows : ℕ) (r : Row ℕ) (w : Ready d n rows r) wher
   part-is = cut-is headLength n d (w .long) (w .inside)
 
   -- a place in them
-  pub row-place : (at before : ℕ) → Sought part (r .name) (founds.Row at before) → at + (length (r .name) + 10) + headLength ≤ n
+  pub row-place : (at before : ℕ) → LookedUp part (r .name) (lookups.Present at before) → at + (length (r .name) + 10) + headLength ≤ n
   row-place at before q = omega (arith, q .0, part-size, w .long)
 
-  pub new-place : (at : ℕ) → Sought part (r .name) (founds.Place at) → at + headLength ≤ n
+  pub new-place : (at : ℕ) → LookedUp part (r .name) (lookups.Absent at) → at + headLength ≤ n
   new-place at q = omega (arith, q .0, part-size, w .long)
 
   module _ (b : Bytes d) (L : Rows ones) (e : rowsOf one (take n d) ≡ some L) where
@@ -145,8 +146,8 @@ module _ (d : List ℕ) (n rows : ℕ) (r : Row ℕ) (w : Ready d n rows r) wher
     holds : Holds one part L
     holds = rw part-is (opens .holds)
 
-    fits : (limited one L ≡ true) × (leb (length L) mostRows ≡ true)
-    fits = and-yes (limited one L) (leb (length L) mostRows) (opens .counts)
+    fits : (limited one L ≡ true) × (leb (length L) maxRows ≡ true)
+    fits = and-yes (limited one L) (leb (length L) maxRows) (opens .counts)
 
     -- what stands around a place
     module _ (D R : Rows ones) (s : L ≡ D ++ R) where
@@ -165,8 +166,8 @@ module _ (d : List ℕ) (n rows : ℕ) (r : Row ℕ) (w : Ready d n rows r) wher
       sizes = sym (length-take-le n d (w .inside)) ∙ ap length (opens .bytes) ∙ parts-size one L D R s
 
     -- ---- to the count of its row
-    module _ (at before : ℕ) (q : Sought part (r .name) (founds.Row at before)) where
-      abbrev f : FoundRow (r .name) at before L
+    module _ (at before : ℕ) (q : LookedUp part (r .name) (lookups.Present at before)) where
+      abbrev f : RowPresent (r .name) at before L
       f = q .1 L holds
 
       abbrev more : Row ℕ
@@ -198,13 +199,13 @@ module _ (d : List ℕ) (n rows : ℕ) (r : Row ℕ) (w : Ready d n rows r) wher
             length-append (fields one .encode (f .r)) (rowsBytes one (f .R)),
           )
 
-      sum-fits : before + r .count ≤ most → countable one T ≡ true
+      sum-fits : before + r .count ≤ maxCount → countable one T ≡ true
       sum-fits h =
-          yes-and (limited-more one (f .D) (f .R) more (limited-less one (f .D) (f .R) (f .r) (ap (limited one) (sym (f .split)) ∙ fits .0)) (le-leb (before + r .count) most h))
+          yes-and (limited-more one (f .D) (f .R) more (limited-less one (f .D) (f .R) (f .r) (ap (limited one) (sym (f .split)) ∙ fits .0)) (le-leb (before + r .count) maxCount h))
           (rw same-rows (fits .1))
 
-      sum-laid : laid (((at + headLength) + 2) + length (r .name)) (spell 8 (before + r .count)) d ≡ tally one .encode T ++ drop n d
-      sum-laid =
+      sum-overwrite : overwrite (((at + headLength) + 2) + length (r .name)) (toBE 8 (before + r .count)) d ≡ tally one .encode T ++ drop n d
+      sum-overwrite =
           let A = front (f .D) (f .r ∷ f .R) (f .split) in
           let old = fields one .encode (f .r) in
           let new = fields one .encode more in
@@ -213,23 +214,23 @@ module _ (d : List ℕ) (n rows : ℕ) (r : Row ℕ) (w : Ready d n rows r) wher
           omega (arith, front-size (f .D) (f .r ∷ f .R) (f .split), f .place, ap length (f .name)) in
           let was : d ≡ A ++ (old ++ (rest ++ drop n d)) = around (f .D) (f .r ∷ f .R) (f .split) ∙ ap (λ (y : List ℕ). A ++ y) (append-assoc old rest (drop n d)) in
           let bytes : tally one .encode T ≡ A ++ (new ++ rest) = tally-parts one T (f .D) (more ∷ f .R) refl ∙ rw same-rows in
-          ap₂ (λ (j : ℕ) (y : List ℕ). laid j (spell 8 (before + r .count)) y) place was ∙ count-laid A (rest ++ drop n d) (f .r) (before + r .count)
+          ap₂ (λ (j : ℕ) (y : List ℕ). overwrite j (toBE 8 (before + r .count)) y) place was ∙ count-overwrite A (rest ++ drop n d) (f .r) (before + r .count)
           ∙ sym (ap (λ (y : List ℕ). y ++ drop n d) bytes ∙ append-assoc A (new ++ rest) (drop n d) ∙ ap (λ (y : List ℕ). A ++ y) (append-assoc new rest (drop n d)))
 
-      pub row-full : most - before < r .count → Added answers.TooMany d L
+      pub row-full : maxCount - before < r .count → Added answers.TooMany d L
       row-full h =
           rw sum (many-answered one d T
-          (and-no (limited one T) (leb (length T) mostRows) (inl (limited-not one (f .D) (f .R) more (lt-leb (before + r .count) most (omega arith))))))
+          (and-no (limited one T) (leb (length T) maxRows) (inl (limited-not one (f .D) (f .R) more (lt-leb (before + r .count) maxCount (omega arith))))))
 
-      pub row-counted : (a : List ℕ) → r .count ≤ most - before → before ≤ most
+      pub row-counted : (a : List ℕ) → r .count ≤ maxCount - before → before ≤ maxCount
           → a ≡ stored (((at + headLength) + 2) + length (r .name)) (u64 {ends = short} .encode (before + r .count)) d → Added (answers.Added n) a L
       row-counted a h i g =
           rw sum (good-answered one d T (sum-fits (omega arith)) same-size (w .inside)
-          (put-number (((at + headLength) + 2) + length (r .name)) 8 (before + r .count) (omega (arith, row-place at before q, w .inside)) g .lays ∙ sum-laid))
+          (put-number (((at + headLength) + 2) + length (r .name)) 8 (before + r .count) (omega (arith, row-place at before q, w .inside)) g .overwrites ∙ sum-overwrite))
 
     -- ---- as a row of its own
-    module _ (at : ℕ) (q : Sought part (r .name) (founds.Place at)) where
-      abbrev g : FoundPlace (r .name) at L
+    module _ (at : ℕ) (q : LookedUp part (r .name) (lookups.Absent at)) where
+      abbrev g : RowAbsent (r .name) at L
       g = q .1 L holds
 
       abbrev U : Rows ones
@@ -244,10 +245,10 @@ module _ (d : List ℕ) (n rows : ℕ) (r : Row ℕ) (w : Ready d n rows r) wher
       new-size : length (tally one .encode U) ≡ n + (length (r .name) + 10)
       new-size = omega (arith, parts-size one U (g .D) (r ∷ g .R) refl, sizes (g .D) (g .R) (g .split), one-size r, length-append (fields one .encode r) (rowsBytes one (g .R)))
 
-      new-fits : rows < mostRows → r .count ≤ most → countable one U ≡ true
+      new-fits : rows < maxRows → r .count ≤ maxCount → countable one U ≡ true
       new-fits h c =
-          yes-and (limited-more one (g .D) (g .R) r (ap (limited one) (sym (g .split)) ∙ fits .0) (le-leb (r .count) most c))
-          (le-leb (length U) mostRows (omega (arith, new-rows)))
+          yes-and (limited-more one (g .D) (g .R) r (ap (limited one) (sym (g .split)) ∙ fits .0) (le-leb (r .count) maxCount c))
+          (le-leb (length U) maxRows (omega (arith, new-rows)))
 
       -- the bytes before the place and behind it
       front-ends : length (front (g .D) (g .R) (g .split)) ≡ at + headLength
@@ -280,13 +281,13 @@ module _ (d : List ℕ) (n rows : ℕ) (r : Row ℕ) (w : Ready d n rows r) wher
           ap (λ (y : List ℕ). y ++ z) (tally-parts one U (g .D) (r ∷ g .R) refl ∙ ap (λ (m : ℕ). (headBytes one m ++ D) ++ (row ++ R)) new-rows)
           ∙ append-assoc (head ++ D) (row ++ R) z ∙ append-assoc head D ((row ++ R) ++ z) ∙ ap (λ (y : List ℕ). head ++ (D ++ y)) (append-assoc row R z)
 
-      pub new-many : rows ≡ mostRows → Added answers.TooMany d L
-      new-many h = rw new-sum (many-answered one d U (and-no (limited one U) (leb (length U) mostRows) (inr (lt-leb (length U) mostRows (omega (arith, new-rows))))))
+      pub new-many : rows ≡ maxRows → Added answers.TooMany d L
+      new-many h = rw new-sum (many-answered one d U (and-no (limited one U) (leb (length U) maxRows) (inr (lt-leb (length U) maxRows (omega (arith, new-rows))))))
 
-      pub new-full : rows < mostRows → r .count ≤ most → length d - n < length (r .name) + 10 → Added answers.NoRoom d L
+      pub new-full : rows < maxRows → r .count ≤ maxCount → length d - n < length (r .name) + 10 → Added answers.NoRoom d L
       new-full h c l = rw new-sum (room-answered one d U (new-fits h c) (omega (arith, new-size, w .inside)))
 
-      module _ (room : n + (length (r .name) + 10) ≤ length d) (ys : List ℕ) (o : ys ≡ opened (n - (at + headLength)) r (take (length d - (at + headLength)) (drop (at + headLength) d))) where
+      module _ (room : n + (length (r .name) + 10) ≤ length d) (ys : List ℕ) (o : ys ≡ rowInserted (n - (at + headLength)) r (take (length d - (at + headLength)) (drop (at + headLength) d))) where
         abbrev now-there : List ℕ
         now-there = putMid (at + headLength) (length d - (at + headLength)) d ys
 
@@ -296,10 +297,10 @@ module _ (d : List ℕ) (n rows : ℕ) (r : Row ℕ) (w : Ready d n rows r) wher
             part-opened d (at + headLength) n r ys (new-place at q) room o ∙ ap₂ (λ (x y : List ℕ). x ++ (fields one .encode r ++ (y ++ z))) front-is behind-is
             ∙ append-assoc (headBytes one (length L)) (rowsBytes one (g .D)) (fields one .encode r ++ (rowsBytes one (g .R) ++ z))
 
-        pub new-added : (a : List ℕ) → rows < mostRows → r .count ≤ most → a ≡ stored 5 (u32 {ends = short} .encode (rows + 1)) now-there
+        pub new-added : (a : List ℕ) → rows < maxRows → r .count ≤ maxCount → a ≡ stored 5 (u32 {ends = short} .encode (rows + 1)) now-there
             → Added (answers.Added (n + (length (r .name) + 10))) a L
         new-added a h c p =
             let number = u32 {ends = short} .encode (rows + 1) in
             let head : 5 + 4 ≤ length (headBytes one (length L) ++ behind) = omega (arith, length-append (headBytes one (length L)) behind, head-size one (length L)) in
             rw new-sum (good-answered one d U (new-fits h c) new-size room
-            (put-number 5 4 (rows + 1) head (p ∙ ap (stored 5 number) now-is) .lays ∙ rows-laid (length L) (rows + 1) behind ∙ sym new-bytes))
+            (put-number 5 4 (rows + 1) head (p ∙ ap (stored 5 number) now-is) .overwrites ∙ rows-overwrite (length L) (rows + 1) behind ∙ sym new-bytes))

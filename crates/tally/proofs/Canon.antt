@@ -6,7 +6,8 @@ use mathlib.Core.Bool.{true}
 use mathlib.Core.List.{List, [], _∷_}
 use Rattle.wire.specs.Bytes.{Bytes}
 use Rattle.wire.specs.Choice.{no-true}
-use Rattle.wire.specs.Order.{order, flip, order-refl, order-same, order-flip, order-trans, choose}
+use Rattle.wire.specs.Order.{order, choose}
+use Rattle.wire.proofs.TotalOrder.{flip, order-refl, order-same, order-flip, order-trans}
 use Rattle.wire.specs.declared.order.Order.{Order}
 use Rattle.wire.specs.declared.order.Order.the-variants.{Before, Same, After}
 use Rattle.tally.specs.Rows.{Counts, Row, Rows, isName, joined, addRow, plus, countIn, Above, Canonical}

@@ -10,12 +10,12 @@ use native.Mathlib.Omega.{arith}
 use lib.Dec.{eqb}
 use lib.ListN.{length, take, drop, length-drop}
 use borrow.Author.Tests.{eq-eqb, ne-eqb, eqb-true, eqb-false}
-use Rattle.wire.specs.Choice.{yes-and, and-no}
+use Rattle.wire.proofs.Tests.{yes-and, and-no}
 use Rattle.wire.specs.Order.{order, choose}
 use Rattle.wire.specs.declared.order.Order.{Order}
-use Rattle.wire.specs.Read.{Read, done, refused, found, found-done}
+use Rattle.wire.specs.Read.{Read, done, refused, toOption, toOption-done}
 use Rattle.wire.specs.Format.{items, readItems}
-use Rattle.wire.proofs.Joints.{such-done, such-passes}
+use Rattle.wire.proofs.Joints.{refine-done, refine-passes}
 use Rattle.wire.proofs.Items.{after, items-start, items-on, items-refused, items-end}
 use Rattle.tally.specs.Rows.{Row, Rows}
 use Rattle.tally.specs.Tally.{Malformed, malformed, rises, fields, mayStand, row, ones, one}
@@ -33,7 +33,7 @@ follow-by first last name e f g = rw (e, ← f, g)
 module _ (seen : Rows ones) (s : List ℕ) where
   alone : {a : Row ℕ} {n : ℕ} → row one [] .read s ≡ done a n → (fields one .read s ≡ done a n) × (mayStand one [] a ≡ true)
   unfolding row
-  alone h = (such-done (mayStand one []) malformed (fields one) s h, such-passes (mayStand one []) malformed (fields one) s h)
+  alone h = (refine-done (mayStand one []) malformed (fields one) s h, refine-passes (mayStand one []) malformed (fields one) s h)
 
   module _ {a : Row ℕ} {n : ℕ} (h : row one [] .read s ≡ done a n) where
     row-follows : rises seen (a .name) ≡ true → row one seen .read s ≡ done a n
@@ -42,15 +42,15 @@ module _ (seen : Rows ones) (s : List ℕ) where
     row-falls : rises seen (a .name) ≡ false → row one seen .read s ≡ refused malformed 0
     row-falls e = row-bad one seen s (alone h .0) (and-no (rises seen (a .name)) (mayStand one [] a) (inl e))
 
-  no-row-by : (r : Read Malformed (Row ℕ)) → fields one .read s ≡ r → none ≡ found (row one [] .read s) → (e : Malformed) × (p : ℕ) × (row one seen .read s ≡ refused e p)
+  no-row-by : (r : Read Malformed (Row ℕ)) → fields one .read s ≡ r → none ≡ toOption (row one [] .read s) → (e : Malformed) × (p : ℕ) × (row one seen .read s ≡ refused e p)
   no-row-by (done a n) g h = go (mayStand one [] a) refl
     where
       go : (b : Bool) → mayStand one [] a ≡ b → (e : Malformed) × (p : ℕ) × (row one seen .read s ≡ refused e p)
-      go true j = absurd (Option·none-ne-some _ (h ∙ ap found (row-good one [] s g j)))
+      go true j = absurd (Option·none-ne-some _ (h ∙ ap toOption (row-good one [] s g j)))
       go false j = (malformed, 0, row-bad one seen s g (and-no (rises seen (a .name)) (mayStand one [] a) (inr j)))
   no-row-by (refused e p) g h = (e, p, row-refused one seen s g)
 
-  no-row-follows : none ≡ found (row one [] .read s) → (e : Malformed) × (p : ℕ) × (row one seen .read s ≡ refused e p)
+  no-row-follows : none ≡ toOption (row one [] .read s) → (e : Malformed) × (p : ℕ) × (row one seen .read s ≡ refused e p)
   no-row-follows h = no-row-by (fields one .read s) refl h
 
 -- ---- so many rows
@@ -70,14 +70,14 @@ module _ {count : ℕ} {s rest last : List ℕ} {first : Bool} {left : ℕ} (k :
   none-taken h = rw h
 
   module _ (more : 0 < left) where
-    pub checking-none : toldRow rest rows.Malformed ≡ found (row one [] .read rest) → false ≡ takes (items (row one) count) s
+    pub checking-none : toldRow rest rows.Malformed ≡ toOption (row one [] .read rest) → false ≡ takes (items (row one) count) s
     checking-none h =
         let x = no-row-follows (k .seen) rest h in
         none-taken (sym (k .reads) ∙ items-refused (row one) left (k .pre) (k .seen) (k .at) rest more (x .2))
 
-    module _ (n c : ℕ) (h : toldRow rest (rows.Row n c) ≡ found (row one [] .read rest)) where
+    module _ (n c : ℕ) (h : toldRow rest (rows.Row n c) ≡ toOption (row one [] .read rest)) where
       read : row one [] .read rest ≡ done (record { name = take n (drop 2 rest); count = c }) (n + 10)
-      read = found-done (row one [] .read rest) h
+      read = toOption-done (row one [] .read rest) h
 
       pub checking-falls : mayFollow first last (take n (drop 2 rest)) ≡ false → false ≡ takes (items (row one) count) s
       checking-falls e =

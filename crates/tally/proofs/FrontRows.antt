@@ -8,19 +8,19 @@ use native.Mathlib.Omega.{arith}
 use lib.Dec.{eqb}
 use lib.ListN.{length, take, drop}
 use borrow.Author.Tests.{le-leb, lt-leb, eq-eqb, ne-eqb}
-use Rattle.wire.specs.Answer.{good, plain, tallyMalformed, noSuch, partOf}
+use Rattle.wire.specs.Answer.{good, plain, tallyMalformed, noSuch, bytesOf}
 use Rattle.wire.specs.Places.{startTold}
 use Rattle.wire.specs.Bytes.{Bytes}
-use Rattle.wire.specs.Read.{done, refused, found}
-use Rattle.wire.specs.Format.{such, along, ends-in}
-use Rattle.wire.specs.Formats.{counted, u64}
-use Rattle.wire.specs.Told.{short, toldCounted, toldU64}
-use Rattle.wire.specs.declared.fields.Counted.the-variants as run
+use Rattle.wire.specs.Read.{done, refused, toOption}
+use Rattle.wire.specs.Format.{refine, iso, ends-in}
+use Rattle.wire.specs.Formats.{prefixed, u64}
+use Rattle.wire.specs.Told.{short, toldRun, toldU64}
+use Rattle.wire.specs.declared.fields.Run.the-variants as run
 use Rattle.wire.specs.declared.fields.U64.the-variants as u64s
-use Rattle.wire.proofs.Steps.{number-told, counted-told}
+use Rattle.wire.proofs.Steps.{number-told, prefixed-told}
 use Rattle.wire.proofs.Joints.{then-refused, then-done}
 use Rattle.tally.specs.Rows.{Row, isName}
-use Rattle.tally.specs.Tally.{Malformed, malformed, Form, Kind, KindRow, KindRows, fields, mayStand, row, one}
+use Rattle.tally.specs.Tally.{Malformed, malformed, Form, TallyKind, TallyRow, TallyRows, fields, mayStand, row, one}
 use Rattle.tally.specs.Operations.{frontOf}
 use Rattle.tally.specs.Told.{toldRow}
 use Rattle.tally.proofs.Held.{row-inside}
@@ -30,50 +30,50 @@ use Rattle.tally.specs.declared.rows.RowRead.the-variants as rows
 pub name-part : (n : ℕ) (s : List ℕ) → take (n + 2 - 2) (drop 2 s) ≡ take n (drop 2 s)
 name-part n s = let e : n + 2 - 2 ≡ n = omega arith in rw e
 
-module _ (k : Kind) (seen : KindRows k) (s : List ℕ) where
+module _ (k : TallyKind) (seen : TallyRows k) (s : List ℕ) where
   -- the fields are refused, or they are read, and judged
   pub row-refused : {e : Malformed} {p : ℕ} → fields k .read s ≡ refused e p → row k seen .read s ≡ refused e p
-  unfolding row such
+  unfolding row refine
   row-refused h = rw h
 
-  row-unread : {e : Malformed} {p : ℕ} → fields k .read s ≡ refused e p → none ≡ found (row k seen .read s)
-  row-unread h = ap found (sym (row-refused h))
+  row-unread : {e : Malformed} {p : ℕ} → fields k .read s ≡ refused e p → none ≡ toOption (row k seen .read s)
+  row-unread h = ap toOption (sym (row-refused h))
 
-  module _ {r : KindRow k} {n : ℕ} (h : fields k .read s ≡ done r n) where
+  module _ {r : TallyRow k} {n : ℕ} (h : fields k .read s ≡ done r n) where
     pub row-good : mayStand k seen r ≡ true → row k seen .read s ≡ done r n
-    unfolding row such
+    unfolding row refine
     row-good j = rw (h, j)
 
     pub row-bad : mayStand k seen r ≡ false → row k seen .read s ≡ refused malformed 0
-    unfolding row such
+    unfolding row refine
     row-bad j = rw (h, j)
 
 -- a name behind its length
 abbrev text : Form (List ℕ)
-text = counted 2
+text = prefixed 2
 
-module _ (k : Kind) (s : List ℕ) where
+module _ (k : TallyKind) (s : List ℕ) where
   pub name-unread : {e : Malformed} {p : ℕ} → text .read s ≡ refused e p → fields k .read s ≡ refused e p
-  unfolding fields along
+  unfolding fields iso
   name-unread h = rw (then-refused text (k .count) s h)
 
   module _ {n : List ℕ} {m : ℕ} (h : text .read s ≡ done n m) where
     pub count-unread : {e : Malformed} {p : ℕ} → k .count .read (drop m s) ≡ refused e p → fields k .read s ≡ refused e (m + p)
-    unfolding fields along
+    unfolding fields iso
     count-unread g = rw (then-done text (k .count) s h g)
 
     pub fields-read : {c : k .counts .C} {i : ℕ} → k .count .read (drop m s) ≡ done c i → fields k .read s ≡ done (record { name = n; count = c }) (m + i)
-    unfolding fields along
+    unfolding fields iso
     fields-read g = rw (then-done text (k .count) s h g)
 
 -- ---- version 1
 module _ (s : List ℕ) where
-  pub front-no-name : {p : ℕ} → toldCounted 2 s (run.Ends p) ≡ counted {ends = short} 2 .read s → none ≡ found (row one [] .read s)
-  front-no-name h = row-unread one [] s (name-unread one s (counted-told malformed 2 s h))
+  pub front-no-name : {p : ℕ} → toldRun 2 s (run.Ends p) ≡ prefixed {ends = short} 2 .read s → none ≡ toOption (row one [] .read s)
+  front-no-name h = row-unread one [] s (name-unread one s (prefixed-told malformed 2 s h))
 
-  module _ (n : ℕ) (h : toldCounted 2 s (run.Bytes n) ≡ counted {ends = short} 2 .read s) where
+  module _ (n : ℕ) (h : toldRun 2 s (run.Bytes n) ≡ prefixed {ends = short} 2 .read s) where
     name-read : text .read s ≡ done (take n (drop 2 s)) (2 + n)
-    name-read = counted-told malformed 2 s h
+    name-read = prefixed-told malformed 2 s h
 
     pub name-inside : n + 2 ≤ length s
     name-inside = omega (arith, ends-in text name-read)
@@ -81,7 +81,7 @@ module _ (s : List ℕ) where
     place : n + 2 ≡ 2 + n
     place = omega arith
 
-    pub front-no-count : toldU64 u64s.Ends ≡ u64 {ends = short} .read (drop (n + 2) s) → none ≡ found (row one [] .read s)
+    pub front-no-count : toldU64 u64s.Ends ≡ u64 {ends = short} .read (drop (n + 2) s) → none ≡ toOption (row one [] .read s)
     front-no-count g =
         row-unread one [] s (count-unread one s name-read (ap (λ (m : ℕ). u64 {ends = malformed} .read (drop m s)) (sym place) ∙ number-told malformed 8 (drop (n + 2) s) g))
 
@@ -90,38 +90,38 @@ module _ (s : List ℕ) where
       both-read = fields-read one s name-read (ap (λ (m : ℕ). u64 {ends = malformed} .read (drop m s)) (sym place) ∙ number-told malformed 8 (drop (n + 2) s) g)
 
       name-stands : Bytes s → isName (take n (drop 2 s)) ≡ true
-      unfolding counted along
+      unfolding prefixed iso
       name-stands b =
           let l : length (take n (drop 2 s)) < 256 ^ 2 = text .backward s (take n (drop 2 s)) (2 + n) b name-read .ok .0 in
           le-leb (length (take n (drop 2 s))) 65535 (omega arith)
 
-      pub front-none : Bytes s → c ≡ 0 → none ≡ found (row one [] .read s)
-      front-none b e = ap found (sym (row-bad one [] s both-read (rw (name-stands b) (lt-leb 1 c (omega arith)))))
+      pub front-none : Bytes s → c ≡ 0 → none ≡ toOption (row one [] .read s)
+      front-none b e = ap toOption (sym (row-bad one [] s both-read (rw (name-stands b) (lt-leb 1 c (omega arith)))))
 
-      pub front-some : Bytes s → 1 ≤ c → toldRow s (rows.Row n c) ≡ found (row one [] .read s)
+      pub front-some : Bytes s → 1 ≤ c → toldRow s (rows.Row n c) ≡ toOption (row one [] .read s)
       front-some b e =
           let end : n + 10 ≡ 2 + n + 8 = omega arith in
           ap (λ (m : ℕ). some (record { name = take n (drop 2 s); count = c }, m)) end
-          ∙ ap found (sym (row-good one [] s both-read (rw (name-stands b) (le-leb 1 c e))))
+          ∙ ap toOption (sym (row-good one [] s both-read (rw (name-stands b) (le-leb 1 c e))))
 
 -- ---- the front row's answer
 module _ (s : List ℕ) where
   pub front-empty : length s ≡ 0 → frontOf one s ≡ plain noSuch
   front-empty e = rw (eq-eqb (length s) 0 e)
 
-  pub front-is : (n c : ℕ) → toldRow s (rows.Row n c) ≡ found (row one [] .read s) → frontOf one s ≡ good (record { name = take n (drop 2 s); count = c }, n + 10)
+  pub front-is : (n c : ℕ) → toldRow s (rows.Row n c) ≡ toOption (row one [] .read s) → frontOf one s ≡ good (record { name = take n (drop 2 s); count = c }, n + 10)
   front-is n c h =
       let more : length s ≡ 0 → ⊥ = λ z. omega (arith, row-inside s n c h) in
       rw (ne-eqb (length s) 0 more, ← h)
 
-  module _ (h : none ≡ found (row one [] .read s)) where
+  module _ (h : none ≡ toOption (row one [] .read s)) where
     pub front-malformed : (length s ≡ 0 → ⊥) → frontOf one s ≡ plain tallyMalformed
     front-malformed more = rw (ne-eqb (length s) 0 more, ← h)
 
-    pub front-isnt : (part : Row ℕ × ℕ → List ℕ) → [] ≡ partOf part (frontOf one s)
+    pub front-isnt : (part : Row ℕ × ℕ → List ℕ) → [] ≡ bytesOf part (frontOf one s)
     front-isnt part = rw (← h) (go (eqb (length s) 0))
       where
-        go : (b : Bool) → [] ≡ partOf part (cond b (plain noSuch) (plain tallyMalformed))
+        go : (b : Bool) → [] ≡ bytesOf part (cond b (plain noSuch) (plain tallyMalformed))
         go true = refl
         go false = refl
 

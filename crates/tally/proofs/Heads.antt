@@ -9,9 +9,9 @@ use lib.Dec.{eqb}
 use lib.ListN.{length, drop, length-drop}
 use lib.Seq.{drop-drop}
 use borrow.Author.Tests.{eqb-true, eqb-false, eq-eqb, ne-eqb}
-use Rattle.wire.specs.Choice.{same-test}
-use Rattle.wire.specs.Read.{Read, done, refused, onward, found, found-done, found-none, Misread, at-place}
-use Rattle.wire.specs.Format.{items, ends-in, such, _⨾_, along, run}
+use Rattle.wire.proofs.Tests.{same-test}
+use Rattle.wire.specs.Read.{Read, done, refused, shift, toOption, toOption-done, toOption-none, Misread, at-place}
+use Rattle.wire.specs.Format.{items, ends-in, refine, _⨾_, iso, run}
 use Rattle.wire.specs.Formats.{number, u32, behind, listed, headLength, head}
 use Rattle.wire.specs.Store.{stored}
 use Rattle.wire.specs.Told.{short}
@@ -22,7 +22,7 @@ use Rattle.tally.specs.Tally.{Malformed, malformed, tallyMark, tallyHead
 
 module _ (t : List ℕ) where
   -- rows told from the tally's first byte
-  outward : headLength ≤ length t → (r : Read Malformed (Rows ones)) → whole t (behindHead (onward 4 (λ a. a) r)) ≡ whole (drop headLength t) r
+  outward : headLength ≤ length t → (r : Read Malformed (Rows ones)) → whole t (behindHead (shift 4 (λ a. a) r)) ≡ whole (drop headLength t) r
   outward long (done l i) = ap (λ (b : Bool). cond b (some l) none) (same-test (eqb (3 + (2 + (4 + i))) (length t)) yes no)
     where
       yes : eqb (3 + (2 + (4 + i))) (length t) ≡ true → eqb i (length (drop headLength t)) ≡ true
@@ -35,28 +35,28 @@ module _ (t : List ℕ) where
   outward long (refused x p) = refl
 
   -- of a head that states n rows they decide
-  pub stated : {n : ℕ} → some (n, headLength) ≡ found (tallyHead .read t)
+  pub stated : {n : ℕ} → some (n, headLength) ≡ toOption (tallyHead .read t)
       → (headLength ≤ length t) × (rowsOf one t ≡ whole (drop headLength t) (items (row one) n .read (drop headLength t)))
   unfolding rowsOf tally
   stated {n} h =
-      let x = headed-done tallyMark refl 1 t malformed malformed u32 (listed 4 (row one)) (found-done (tallyHead .read t) h) in
+      let x = headed-done tallyMark refl 1 t malformed malformed u32 (listed 4 (row one)) (toOption-done (tallyHead .read t) h) in
       let e : u32 {ends = malformed} .read (drop 5 t) ≡ done n 4 = x .0 in
       let long : headLength ≤ length t = omega (arith, ends-in (u32 {ends = malformed}) e, length-drop 5 t) in
-      let rows : listed 4 (row one) .read (drop 5 t) ≡ onward 4 (λ l. l) (items (row one) n .read (drop headLength t)) = listed-done 4 (row one) (drop 5 t) e ∙ rw (drop-drop 4 5 t) in
+      let rows : listed 4 (row one) .read (drop 5 t) ≡ shift 4 (λ l. l) (items (row one) n .read (drop headLength t)) = listed-done 4 (row one) (drop 5 t) e ∙ rw (drop-drop 4 5 t) in
       (long, ap (whole t) (x .1 ∙ ap behindHead rows) ∙ outward long (items (row one) n .read (drop headLength t)))
 
   -- with no head it is no tally
-  pub unstated : none ≡ found (tallyHead .read t) → rowsOf one t ≡ none
+  pub unstated : none ≡ toOption (tallyHead .read t) → rowsOf one t ≡ none
   unfolding rowsOf tally
   unstated h =
       go
       (headed-misread tallyMark refl 1 t malformed malformed u32 (listed 4 (row one))
-      (λ x p i. at-place p (listed-refused 4 (row one) (drop 5 t) i)) (found-none (tallyHead .read t) h))
+      (λ x p i. at-place p (listed-refused 4 (row one) (drop 5 t) i)) (toOption-none (tallyHead .read t) h))
     where
       go : Misread (tally one .read t) → whole t (tally one .read t) ≡ none
       go (at-place p i) = rw i
 
 -- ---- written
 pub head-put : (n : ℕ) (d : List ℕ) {a : List ℕ} → a ≡ stored 0 (head {ends = short} tallyMark .encode n) d → a ≡ stored 0 (headBytes one n) d
-unfolding behind along _⨾_ such number run
+unfolding behind iso _⨾_ refine number run
 head-put n d h = h

@@ -13,11 +13,11 @@ pub mod Walk
 pub mod Fitting
 pub mod MergeLaw
 -- Merging.
-pub mod Nexts
+pub mod SumRows
 pub mod Measuring
 pub mod PutSums
 pub mod Merging
 -- Adding.
-pub mod Seeking
+pub mod LookingUp
 pub mod Opening
 pub mod Adding

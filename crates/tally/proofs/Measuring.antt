@@ -5,17 +5,17 @@ use mathlib.Core.List.{List, []}
 use native.Mathlib.Nat.{zero-add}
 use native.Mathlib.Omega.{arith}
 use lib.ListN.{length, take, drop, length-append}
-use Rattle.wire.specs.Lists.{rest-is}
+use Rattle.wire.proofs.Lists.{rest-is}
 use Rattle.tally.specs.Rows.{Rows, plus}
-use Rattle.tally.specs.Tally.{fields, limited, most, ones, one}
+use Rattle.tally.specs.Tally.{fields, limited, maxCount, ones, one}
 use Rattle.tally.specs.Walks.{rowsBytes, Holds}
-use Rattle.tally.specs.Sums.{NextInside, NextOf, MeasuredAs}
-use Rattle.tally.specs.declared.merge.Next.the-variants as nexts
+use Rattle.tally.specs.Sums.{SumRowInside, SumRowIs, MeasuredAs}
+use Rattle.tally.specs.declared.merge.SumRow.the-variants as sumRows
 use Rattle.tally.specs.declared.merge.Measured.the-variants as measures
-use Rattle.tally.proofs.Nexts.{left-on, left-room, Rest, rest-start, rest-on, rest-bytes}
+use Rattle.tally.proofs.SumRows.{left-on, left-room, Rest, rest-start, rest-on, rest-bytes}
 
 -- what is counted, and the rows that are left
-pub record Counted (x y : List ℕ) (rows size : ℕ) (A B : Rows ones) : Type 0 where
+pub record Run (x y : List ℕ) (rows size : ℕ) (A B : Rows ones) : Type 0 where
   pub rest : Rest x y A B
   pub counts : rows + length (plus ones (rest .P) (rest .Q)) ≡ length (plus ones A B)
   pub sized : size + length (rowsBytes one (plus ones (rest .P) (rest .Q))) ≡ length (rowsBytes one (plus ones A B))
@@ -23,7 +23,7 @@ pub record Counted (x y : List ℕ) (rows size : ℕ) (A B : Rows ones) : Type 0
 pub record Measuring (a b x y : List ℕ) (rows size : ℕ) : Type 0 where
   pub few : rows ≤ size
   pub short : size + (length x + length y) ≤ length a + length b
-  pub counted : (A B : Rows ones) → Holds one a A → Holds one b B → Counted x y rows size A B
+  pub counted : (A B : Rows ones) → Holds one a A → Holds one b B → Run x y rows size A B
 
 pub measuring-start : (a b : List ℕ) → Measuring a b a b 0 0
 measuring-start a b = record {
@@ -34,10 +34,10 @@ measuring-start a b = record {
 
 module _ {a b x y : List ℕ} {rows size : ℕ} (m : Measuring a b x y rows size) where
   -- the sum is no longer than both
-  pub measuring-room : {first second n : ℕ} → NextInside x y first second n → size + n ≤ length a + length b
+  pub measuring-room : {first second n : ℕ} → SumRowInside x y first second n → size + n ≤ length a + length b
   measuring-room k = left-room k size (length a + length b) (m .short)
 
-  pub measuring-end : NextOf x y nexts.End → MeasuredAs a b (measures.Rows rows size)
+  pub measuring-end : SumRowIs x y sumRows.End → MeasuredAs a b (measures.Rows rows size)
   measuring-end n A B p q =
       let w = m .counted A B p q in
       let l = w .rest in
@@ -48,11 +48,11 @@ module _ {a b x y : List ℕ} {rows size : ℕ} (m : Measuring a b x y rows size
         sized = omega (arith, w .sized, ap (λ (t : Rows ones). length (rowsBytes one t)) e);
       }
 
-  pub measuring-many : NextOf x y nexts.TooMany → MeasuredAs a b measures.TooMany
+  pub measuring-many : SumRowIs x y sumRows.TooMany → MeasuredAs a b measures.TooMany
   measuring-many n A B p q = let l = m .counted A B p q .rest in l .fits ∙ n (l .P) (l .Q) (l .left) (l .right)
 
-  module _ {first second n count : ℕ} (next : NextOf x y (nexts.Row first second n count)) (h : count ≤ most) where
-    counted-on : (A B : Rows ones) → Counted x y rows size A B → Counted (drop first x) (drop second y) (rows + 1) (size + n) A B
+  module _ {first second n count : ℕ} (next : SumRowIs x y (sumRows.Row first second n count)) (h : count ≤ maxCount) where
+    counted-on : (A B : Rows ones) → Run x y rows size A B → Run (drop first x) (drop second y) (rows + 1) (size + n) A B
     counted-on A B w =
         let l = w .rest in
         let t = next .1 (l .P) (l .Q) (l .left) (l .right) in

@@ -9,22 +9,23 @@ use lib.Dec.{lit<}
 use lib.ListN.{length, take, replicate}
 use lib.Seq.{take-append-seam}
 use Rattle.wire.specs.Bytes.{Bytes, bytes-nil, bytes-cons, bytes-take}
-use Rattle.wire.specs.Answer.{Answer, good, refusal, mapAnswer, lent, no-good, noRoom, tooMany}
+use Rattle.wire.specs.Answer.{Answer, good, refusal, mapAnswer, lent, noRoom, tooMany}
+use Rattle.wire.proofs.Answers.{no-good}
 use Rattle.tally.specs.Rows.{plus, countIn, Canonical}
-use Rattle.tally.specs.Tally.{Kind, KindRows, tally, rowsOf}
+use Rattle.tally.specs.Tally.{TallyKind, TallyRows, tally, rowsOf}
 use Rattle.tally.specs.Operations.{tallied, mergeOf}
 use Rattle.tally.specs.Theorems.{Merger, outcome, merged, Taken, here, there, Merges, stop, done, refused, IsTally, AllTallies, rowsIn, sumOf, Fits, Overfull, MergeLawOf, MergeLaw, SumCounts, emptyTally, EmptyChangesNothing, ShutOut}
 use Rattle.tally.proofs.Held.{opened, rows-of-tally, tally-size, tally-bytewise, tally-bytes}
 use Rattle.tally.proofs.Canon.{count-plus, canonical-plus, plus-comm, plus-assoc, plus-unit}
 use Rattle.tally.proofs.Fitting.{Tallying, fit, overfull, tallying, tallied-good, merge-both, fits-left}
 
-pub sum-counts : (k : Kind) → SumCounts k
+pub sum-counts : (k : TallyKind) → SumCounts k
 sum-counts k [] n = refl
 sum-counts k (t ∷ ts) n = rw (count-plus (k .counts) (rowsIn k t) (sumOf k ts) n, sum-counts k ts n)
 
-module _ (k : Kind) where
+module _ (k : TallyKind) where
   -- ---- the rows of tallies
-  abbrev sum : KindRows k → KindRows k → KindRows k
+  abbrev sum : TallyRows k → TallyRows k → TallyRows k
   sum a b = plus (k .counts) a b
 
   rows-are : (t : List ℕ) → IsTally k t → rowsOf k t ≡ some (rowsIn k t)
@@ -38,18 +39,18 @@ module _ (k : Kind) where
   sum-canonical (t ∷ ts) h = canonical-plus (k .counts) (rowsIn k t) (sumOf k ts) (rows-canonical t (h .0)) (sum-canonical ts (h .1))
 
   -- ---- a tally taken out of a list
-  record Took (a : List ℕ) (ts us : List (List ℕ)) : Type 0 where
+  record Parsed (a : List ℕ) (ts us : List (List ℕ)) : Type 0 where
     adds : sumOf k ts ≡ sum (rowsIn k a) (sumOf k us)
     fewer : length ts ≡ suc (length us)
     one : IsTally k a
     rest : AllTallies k us
 
-  swap : (x y z : KindRows k) → Canonical (k .counts) x → Canonical (k .counts) y → Canonical (k .counts) z
+  swap : (x y z : TallyRows k) → Canonical (k .counts) x → Canonical (k .counts) y → Canonical (k .counts) z
       → sum x (sum y z) ≡ sum y (sum x z)
   swap x y z g h i =
-      sym (plus-assoc (k .counts) x y z g h i) ∙ ap (λ (t : KindRows k). sum t z) (plus-comm (k .counts) x y g h) ∙ plus-assoc (k .counts) y x z h g i
+      sym (plus-assoc (k .counts) x y z g h i) ∙ ap (λ (t : TallyRows k). sum t z) (plus-comm (k .counts) x y g h) ∙ plus-assoc (k .counts) y x z h g i
 
-  took : {a : List ℕ} {ts us : List (List ℕ)} → Taken a ts us → AllTallies k ts → Took a ts us
+  took : {a : List ℕ} {ts us : List (List ℕ)} → Taken a ts us → AllTallies k ts → Parsed a ts us
   took here h = record { adds = refl; fewer = refl; one = h .0; rest = h .1 }
   took {a} (there {x = x} {m = m} t) h =
       let r = took t (h .1) in
@@ -86,12 +87,12 @@ module _ (k : Kind) where
 
   -- ---- one merge
   -- bytes of rows that fit
-  record Made (room : ℕ) (l : KindRows k) (t : List ℕ) : Type 0 where
+  record Made (room : ℕ) (l : TallyRows k) (t : List ℕ) : Type 0 where
     bytes : t ≡ tally k .encode l
     fits : Fits k room l
 
   -- what stands in front of an output where the answer is good
-  made-of : (room n : ℕ) (l : KindRows k) (out : List ℕ) → mapAnswer length (tallied k room l) ≡ good n → Made room l (take n (lent (tallied k room l) out))
+  made-of : (room n : ℕ) (l : TallyRows k) (out : List ℕ) → mapAnswer length (tallied k room l) ≡ good n → Made room l (take n (lent (tallied k room l) out))
   made-of room n l out e = go (tallying k room l)
     where
       go : Tallying k room l → Made room l (take n (lent (tallied k room l) out))
@@ -101,11 +102,11 @@ module _ (k : Kind) where
       go (overfull w f) = no-good (sym (ap (mapAnswer length) f) ∙ e)
 
   -- why they are refused
-  record Why (room number : ℕ) (l : KindRows k) : Type 0 where
+  record Why (room number : ℕ) (l : TallyRows k) : Type 0 where
     known : (number ≡ tooMany) ⊎ (number ≡ noRoom)
     big : Fits k room l → ⊥
 
-  why : (room n r o : ℕ) (l : KindRows k) → mapAnswer length (tallied k room l) ≡ refusal n r o → Why room n l
+  why : (room n r o : ℕ) (l : TallyRows k) → mapAnswer length (tallied k room l) ≡ refusal n r o → Why room n l
   why room n r o l e = record { known = go (tallying k room l); big = λ h. no-good (sym e ∙ ap (mapAnswer length) (tallied-good k room l h)) }
     where
       go : Tallying k room l → (n ≡ tooMany) ⊎ (n ≡ noRoom)
@@ -135,8 +136,8 @@ module _ (k : Kind) where
 
   -- ---- a list of merges
   -- where one is left, it was made
-  abbrev Ready : ℕ → List (List ℕ) → Type 0
-  Ready room ts = (t : List ℕ) → ts ≡ t ∷ [] → Made room (rowsIn k t) t
+  abbrev AddReady : ℕ → List (List ℕ) → Type 0
+  AddReady room ts = (t : List ℕ) → ts ≡ t ∷ [] → Made room (rowsIn k t) t
 
   record Kept (room : ℕ) (start : List (List ℕ)) (made : ℕ) (log : List ℕ) (left : List (List ℕ)) : Type 0 where
     adds : sumOf k left ≡ sumOf k start
@@ -144,7 +145,7 @@ module _ (k : Kind) where
     fewer : made + length left ≡ length start
     full : Overfull k log
     none-refused : Fits k room (sumOf k start) → log ≡ []
-    ready : Ready room start → Ready room left
+    ready : AddReady room start → AddReady room left
 
   kept : {room made : ℕ} {log : List ℕ} {ts left : List (List ℕ)} → Merges (merged k) room ts made log left → AllTallies k ts → Kept room ts made log left
   kept stop h = record { adds = refl; all = h; fewer = omega arith; full = tt; none-refused = λ f. refl; ready = λ r. r }
@@ -176,13 +177,13 @@ module _ (k : Kind) where
       }
 
 -- from two tallies or more, by any list of merges
-pub merge-law : (k : Kind) → MergeLaw k
+pub merge-law : (k : TallyKind) → MergeLaw k
 merge-law k room a b more made log left h m =
     let i = kept k m h in
     let r = i .ready (λ t e. absurd (two t e)) in
     record {
       tallies = i .all;
-      same = λ n. sym (sum-counts k left n) ∙ ap (λ (l : KindRows k). countIn (k .counts) l n) (i .adds) ∙ sum-counts k (a ∷ b ∷ more) n;
+      same = λ n. sym (sum-counts k left n) ∙ ap (λ (l : TallyRows k). countIn (k .counts) l n) (i .adds) ∙ sum-counts k (a ∷ b ∷ more) n;
       fewer = i .fewer;
       overfull = i .full;
       none-refused = i .none-refused;
@@ -214,15 +215,15 @@ module _ (m : Merger) (room : ℕ) (out : List ℕ) (size : length out ≡ room)
           let z : _≡_ {A = ℕ} 0 1 = cc in absurd (omega arith)
 
 -- ---- the empty tally
-no-rows : (k : Kind) → rowsOf k (emptyTally k) ≡ some []
+no-rows : (k : TallyKind) → rowsOf k (emptyTally k) ≡ some []
 no-rows k = rows-of-tally k [] tt refl
 
-among-others : (k : Kind) (front back : List (List ℕ)) → sumOf k (front ++ emptyTally k ∷ back) ≡ sumOf k (front ++ back)
+among-others : (k : TallyKind) (front back : List (List ℕ)) → sumOf k (front ++ emptyTally k ∷ back) ≡ sumOf k (front ++ back)
 among-others k [] back = rw (no-rows k)
 among-others k (t ∷ front) back = ap (plus (k .counts) (rowsIn k t)) (among-others k front back)
 
 -- where the sum of two tallies' rows is the rows of a tally that fits, their merge gives that tally
-merge-gives : (k : Kind) (a b t out : List ℕ) {x y : KindRows k} → rowsOf k a ≡ some x → rowsOf k b ≡ some y → IsTally k t → plus (k .counts) x y ≡ rowsIn k t → length t ≤ length out
+merge-gives : (k : TallyKind) (a b t out : List ℕ) {x y : TallyRows k} → rowsOf k a ≡ some x → rowsOf k b ≡ some y → IsTally k t → plus (k .counts) x y ≡ rowsIn k t → length t ≤ length out
     → merged k a b out ≡ outcome (good t) out
 merge-gives k a b t out f g h e fits =
     let o = opened k t (rowsIn k t) (h .0) (rows-are k t h) in
@@ -230,7 +231,7 @@ merge-gives k a b t out f g h e fits =
     let same : mergeOf k room a b ≡ good t = merge-both k room a b f g ∙ ap (tallied k room) e ∙ tallied-good k room (rowsIn k t) (o .counts, subst (λ (x : List ℕ). length x ≤ room) (o .bytes) fits) ∙ ap good (sym (o .bytes)) in
     ap (λ (x : Answer (List ℕ)). outcome x out) same
 
-pub empty-changes-nothing : (k : Kind) → EmptyChangesNothing k
+pub empty-changes-nothing : (k : TallyKind) → EmptyChangesNothing k
 empty-changes-nothing k = record {
   first = λ t out h. merge-gives k (emptyTally k) t t out (no-rows k) (rows-are k t h) h refl;
   second = λ t out h. merge-gives k t (emptyTally k) t out (rows-are k t h) (no-rows k) h (plus-unit (k .counts) (rowsIn k t) (rows-canonical k t h));
@@ -246,7 +247,7 @@ zeros-bytes zero = bytes-nil
 zeros-bytes (suc n) = bytes-cons 0 (zeros n) (lit< tt) (zeros-bytes n)
 
 -- zeros are no tally, which starts with its mark
-pub zeros-none : (k : Kind) (room n : ℕ) → rowsOf k (take n (zeros room)) ≡ none
+pub zeros-none : (k : TallyKind) (room n : ℕ) → rowsOf k (take n (zeros room)) ≡ none
 zeros-none k room n = go (rowsOf k (take n (zeros room))) refl
   where
     marked : (room n : ℕ) {t : List ℕ} → take n (zeros room) ≡ 84 ∷ t → ⊥
@@ -254,11 +255,11 @@ zeros-none k room n = go (rowsOf k (take n (zeros room))) refl
     marked zero (suc n) e = let z : _≡_ {A = ℕ} 0 1 = cc in omega arith
     marked (suc room) (suc n) e = let z : _≡_ {A = ℕ} 0 84 = cc in omega arith
 
-    go : (o : Option (KindRows k)) → rowsOf k (take n (zeros room)) ≡ o → rowsOf k (take n (zeros room)) ≡ none
+    go : (o : Option (TallyRows k)) → rowsOf k (take n (zeros room)) ≡ o → rowsOf k (take n (zeros room)) ≡ none
     go none e = e
     go (some l) e = absurd (marked room n (opened k (take n (zeros room)) l (bytes-take n (zeros room) (zeros-bytes room)) e .bytes ∙ tally-bytes k l))
 
-module _ (k : Kind) (m : Merger) (law : MergeLawOf k m) where
+module _ (k : TallyKind) (m : Merger) (law : MergeLawOf k m) where
   two-empty : AllTallies k (emptyTally k ∷ emptyTally k ∷ [])
   two-empty = let t : IsTally k (emptyTally k) = (tally-bytewise k [] tt refl, ([], no-rows k)) in (t, (t, tt))
 
@@ -278,5 +279,5 @@ module _ (k : Kind) (m : Merger) (law : MergeLawOf k m) where
       let same : take n (zeros 9) ≡ emptyTally k = ap (take n) (sym f) ∙ one .1 ∙ ap (tally k .encode) no-sum in
       Option·none-ne-some [] (sym (zeros-none k 9 n) ∙ ap (rowsOf k) same ∙ no-rows k)
 
-pub shut-out : (k : Kind) → ShutOut k
+pub shut-out : (k : TallyKind) → ShutOut k
 shut-out k m law = (λ idle. not-idle k m law _ refl (idle _ _ _), λ refuses. not-refused k m law (refuses _ _ _ .3))

@@ -12,12 +12,12 @@ use lib.Seq.{drop-drop}
 use borrow.Author.Tests.{le-leb, lt-leb}
 use borrow.Rule.Slice.PartMut.{putMid}
 use Rattle.wire.specs.Answer.{plain, tallyMalformed, Answered}
-use Rattle.wire.specs.Choice.{yes-and, and-no}
-use Rattle.wire.specs.Lists.{rest-is}
-use Rattle.wire.specs.Store.{laid, stored}
-use Rattle.wire.proofs.Laid.{laid-length, laid-two, stored-fits, part-back}
+use Rattle.wire.proofs.Tests.{yes-and, and-no}
+use Rattle.wire.proofs.Lists.{rest-is}
+use Rattle.wire.specs.Store.{overwrite, stored}
+use Rattle.wire.proofs.Overwrites.{overwrite-length, overwrite-two, stored-fits, part-back}
 use Rattle.tally.specs.Rows.{Rows, plus}
-use Rattle.tally.specs.Tally.{headBytes, tally, limited, countable, ones, one, mostRows}
+use Rattle.tally.specs.Tally.{headBytes, tally, limited, countable, ones, one, maxRows}
 use Rattle.tally.specs.Operations.{checkOf, mergeOf}
 use Rattle.tally.specs.Told.{toldMerge}
 use Rattle.tally.specs.Walks.{rowsBytes}
@@ -34,25 +34,25 @@ module _ {A B : Rows ones} {rows size : ℕ} (m : MeasuredRows rows size A B) wh
   measured-size : length (tally one .encode (plus ones A B)) ≡ size + 9
   measured-size = omega (arith, tally-size one (plus ones A B), m .sized)
 
-  measured-fits : rows ≤ mostRows → countable one (plus ones A B) ≡ true
-  measured-fits h = yes-and (m .fits) (le-leb (length (plus ones A B)) mostRows (omega (arith, m .counts)))
+  measured-fits : rows ≤ maxRows → countable one (plus ones A B) ≡ true
+  measured-fits h = yes-and (m .fits) (le-leb (length (plus ones A B)) maxRows (omega (arith, m .counts)))
 
-  measured-many : mostRows < rows → countable one (plus ones A B) ≡ false
-  measured-many h = and-no (limited one (plus ones A B)) _ (inr (lt-leb (length (plus ones A B)) mostRows (omega (arith, m .counts))))
+  measured-many : maxRows < rows → countable one (plus ones A B) ≡ false
+  measured-many h = and-no (limited one (plus ones A B)) _ (inr (lt-leb (length (plus ones A B)) maxRows (omega (arith, m .counts))))
 
 -- ---- what merging rows answers, by what was measured
 -- what is laid into a part that goes to the end, in the whole
-part-laid : (n : ℕ) (w t ys : List ℕ) → n + length w ≤ length t → ys ≡ laid 0 w (drop n t) → putMid n (length t - n) t ys ≡ laid n w t
-part-laid n w t ys h e = part-back n t ys (omega arith) ∙ ap (λ (z : List ℕ). take n t ++ z) (e ∙ rw (zero-add, drop-drop (length w) n t))
+part-overwrite : (n : ℕ) (w t ys : List ℕ) → n + length w ≤ length t → ys ≡ overwrite 0 w (drop n t) → putMid n (length t - n) t ys ≡ overwrite n w t
+part-overwrite n w t ys h e = part-back n t ys (omega arith) ∙ ap (λ (z : List ℕ). take n t ++ z) (e ∙ rw (zero-add, drop-drop (length w) n t))
 
 pub merged-many : (a b d : List ℕ) → MeasuredAs a b measures.TooMany → MergedAs a b d d merge.TooMany
-merged-many a b d m A B p q = many-answered one d (plus ones A B) (and-no _ (leb (length (plus ones A B)) mostRows) (inl (m A B p q)))
+merged-many a b d m A B p q = many-answered one d (plus ones A B) (and-no _ (leb (length (plus ones A B)) maxRows) (inl (m A B p q)))
 
 module _ (a b d : List ℕ) (rows size : ℕ) (m : MeasuredAs a b (measures.Rows rows size)) where
-  pub merged-rows : mostRows < rows → MergedAs a b d d merge.TooMany
+  pub merged-rows : maxRows < rows → MergedAs a b d d merge.TooMany
   merged-rows h A B p q = many-answered one d (plus ones A B) (measured-many (m A B p q) h)
 
-  module _ (h : rows ≤ mostRows) where
+  module _ (h : rows ≤ maxRows) where
     pub merged-room : length d < size + 9 → MergedAs a b d d merge.NoRoom
     merged-room k A B p q = let n = m A B p q in room-answered one d (plus ones A B) (measured-fits n h) (omega (arith, measured-size n))
 
@@ -64,12 +64,12 @@ module _ (a b d : List ℕ) (rows size : ℕ) (m : MeasuredAs a b (measures.Rows
         let T = plus ones A B in
         let H = headBytes one rows in
         let w = rowsBytes one T in
-        let head : t ≡ laid 0 H d = e ∙ stored-fits 0 H d (omega (arith, head-size one rows)) in
-        let long : length t ≡ length d = ap length head ∙ laid-length 0 H d (omega (arith, head-size one rows)) in
+        let head : t ≡ overwrite 0 H d = e ∙ stored-fits 0 H d (omega (arith, head-size one rows)) in
+        let long : length t ≡ length d = ap length head ∙ overwrite-length 0 H d (omega (arith, head-size one rows)) in
         let room : 9 + length w ≤ length t = omega (arith, n .sized) in
-        let lays : ys ≡ laid 0 w (drop 9 t) = (rw (rest-is 9 t) at s) A B record { left = p; right = q; limit = n .fits; room = rw length-drop (omega arith) } in
+        let overwrites : ys ≡ overwrite 0 w (drop 9 t) = (rw (rest-is 9 t) at s) A B record { left = p; right = q; limit = n .fits; room = rw length-drop (omega arith) } in
         let whole : H ++ w ≡ tally one .encode T = ap (λ (i : ℕ). headBytes one i ++ w) (n .counts) ∙ sym (tally-bytes one T) in
-        let all = part-laid 9 w t ys room lays ∙ ap (laid 9 w) head ∙ laid-two 0 H w d (omega arith) ∙ ap (λ (u : List ℕ). laid 0 u d) whole in
+        let all = part-overwrite 9 w t ys room overwrites ∙ ap (overwrite 9 w) head ∙ overwrite-two 0 H w d (omega arith) ∙ ap (λ (u : List ℕ). overwrite 0 u d) whole in
         good-answered one d T (measured-fits n h) (measured-size n) k (all ∙ rw (zero-add, measured-size n))
 
 -- ---- two tallies

@@ -4,37 +4,37 @@ use mathlib.Core.Path.{_≡_, refl, ap, sym, subst, _∙_}
 use mathlib.Core.List.{List, [], _++_, append-assoc, append-nil}
 use native.Mathlib.Omega.{arith}
 use lib.ListN.{length, take, drop, length-append}
-use Rattle.wire.specs.Lists.{rest-is}
+use Rattle.wire.proofs.Lists.{rest-is}
 use Rattle.wire.specs.Choice.{no-true}
-use Rattle.wire.specs.Bytes.{spell}
-use Rattle.wire.specs.Store.{laid, stored, PutAt}
-use Rattle.wire.specs.Format.{along, run}
-use Rattle.wire.specs.Formats.{number, counted}
+use Rattle.wire.specs.Bytes.{toBE}
+use Rattle.wire.specs.Store.{overwrite, stored, PutAt}
+use Rattle.wire.specs.Format.{iso, run}
+use Rattle.wire.specs.Formats.{number, prefixed}
 use Rattle.wire.proofs.Puts.{put-nothing, put-run, front-room, put-two}
 use Rattle.tally.specs.Rows.{Row, Rows, plus}
-use Rattle.tally.specs.Tally.{malformed, fields, most, ones, one}
+use Rattle.tally.specs.Tally.{malformed, fields, maxCount, ones, one}
 use Rattle.tally.specs.Walks.{rowsBytes}
-use Rattle.tally.specs.Sums.{side, NextInside, NextOf, putCounted, SumFits, SumPut}
-use Rattle.tally.specs.declared.merge.Next.the-variants as nexts
+use Rattle.tally.specs.Sums.{side, SumRowInside, SumRowIs, putWithCount, SumFits, SumPut}
+use Rattle.tally.specs.declared.merge.SumRow.the-variants as sumRows
 use Rattle.tally.proofs.Held.{row-bytes}
-use Rattle.tally.proofs.Nexts.{left-on, left-room, Rest, rest-start, rest-on, rest-bytes}
+use Rattle.tally.proofs.SumRows.{left-on, left-room, Rest, rest-start, rest-on, rest-bytes}
 
 -- ---- one row
 -- two stores, the second behind the first
-two-put : (at : ℕ) (u w d : List ℕ) → at + length (u ++ w) ≤ length d → stored (at + length u) w (stored at u d) ≡ laid at (u ++ w) d
-two-put at u w d room = put-two room (put-run at u (front-room at u w room) refl) (λ h. put-run (at + length u) w h refl) .lays
+two-put : (at : ℕ) (u w d : List ℕ) → at + length (u ++ w) ≤ length d → stored (at + length u) w (stored at u d) ≡ overwrite at (u ++ w) d
+two-put at u w d room = put-two room (put-run at u (front-room at u w room) refl) (λ h. put-run (at + length u) w h refl) .overwrites
 
-row-put : (at size : ℕ) (s d : List ℕ) (r : Row ℕ) → length (fields one .encode r) ≡ size → take (size - 8) s ≡ counted {ends = malformed} 2 .encode (r .name)
-    → at + size ≤ length d → PutAt at (fields one .encode r) d (putCounted at s size (r .count) d) (at + size)
-unfolding number along run
+row-put : (at size : ℕ) (s d : List ℕ) (r : Row ℕ) → length (fields one .encode r) ≡ size → take (size - 8) s ≡ prefixed {ends = malformed} 2 .encode (r .name)
+    → at + size ≤ length d → PutAt at (fields one .encode r) d (putWithCount at s size (r .count) d) (at + size)
+unfolding number iso run
 row-put at size s d r z l h =
     let lead = take (size - 8) s in
-    let count = spell 8 (r .count) in
+    let count = toBE 8 (r .count) in
     let e : fields one .encode r ≡ lead ++ count = row-bytes one r ∙ ap (λ (t : List ℕ). t ++ count) (sym l) in
     let long : length lead ≡ size - 8 = omega (arith, z, ap length e, length-append lead count) in
     record {
       ends = omega (arith, z);
-      lays = ap (λ (n : ℕ). stored (at + n) count (stored at lead d)) (sym long) ∙ two-put at lead count d (omega (arith, z, ap length e)) ∙ ap (λ (b : List ℕ). laid at b d) (sym e);
+      overwrites = ap (λ (n : ℕ). stored (at + n) count (stored at lead d)) (sym long) ∙ two-put at lead count d (omega (arith, z, ap length e)) ∙ ap (λ (b : List ℕ). overwrite at b d) (sym e);
     }
 
 -- ---- the rows before the place are laid, and the rest is left
@@ -58,23 +58,23 @@ writing-start a b d = record {
 
 module _ {a b x y d out : List ℕ} {at : ℕ} (m : Writing a b x y d out at) where
   -- the sum is no longer than both
-  pub writing-room : {first second size : ℕ} → NextInside x y first second size → at + size ≤ length a + length b
+  pub writing-room : {first second size : ℕ} → SumRowInside x y first second size → at + size ≤ length a + length b
   writing-room k = left-room k at (length a + length b) (m .short)
 
-  pub writing-end : NextOf x y nexts.End → SumPut a b d out
+  pub writing-end : SumRowIs x y sumRows.End → SumPut a b d out
   writing-end n A B f =
       let w = m .written A B f in
       let l = w .rest in
       let e : plus ones (l .P) (l .Q) ≡ [] = n (l .P) (l .Q) (l .left) (l .right) in
       let u : w .W ≡ rowsBytes one (plus ones A B) = sym (append-nil (w .W)) ∙ ap (λ (t : Rows ones). w .W ++ rowsBytes one t) (sym e) ∙ w .sum in
-      w .put .lays ∙ ap (λ (t : List ℕ). laid 0 t d) u
+      w .put .overwrites ∙ ap (λ (t : List ℕ). overwrite 0 t d) u
 
-  pub writing-many : NextOf x y nexts.TooMany → SumPut a b d out
+  pub writing-many : SumRowIs x y sumRows.TooMany → SumPut a b d out
   writing-many n A B f = let l = m .written A B f .rest in no-true (sym (n (l .P) (l .Q) (l .left) (l .right)) ∙ sym (l .fits) ∙ f .limit)
 
-  module _ {first second size count : ℕ} (next : NextOf x y (nexts.Row first second size count)) (h : count ≤ most) where
+  module _ {first second size count : ℕ} (next : SumRowIs x y (sumRows.Row first second size count)) (h : count ≤ maxCount) where
     written-on : (A B : Rows ones) → SumFits a b d A B → Written x y d out at A B
-        → Written (drop first x) (drop second y) d (putCounted at (side first x y) size count out) (at + size) A B
+        → Written (drop first x) (drop second y) d (putWithCount at (side first x y) size count out) (at + size) A B
     written-on A B f w =
         let l = w .rest in
         let t = next .1 (l .P) (l .Q) (l .left) (l .right) in
@@ -86,11 +86,11 @@ module _ {a b x y d out : List ℕ} {at : ℕ} (m : Writing a b x y d out at) wh
           rest = rest-on l t h;
           W = w .W ++ row;
           sum = sum;
-          put = put-two room (w .put) (λ k. subst (λ (n : ℕ). PutAt at row out (putCounted at (side first x y) size n out) (at + size)) (t .counts)
+          put = put-two room (w .put) (λ k. subst (λ (n : ℕ). PutAt at row out (putWithCount at (side first x y) size n out) (at + size)) (t .counts)
               (row-put at size (side first x y) out (t .r) (t .sized) (t .lead) (omega (arith, k, t .sized))));
         }
 
-    pub writing-on : {last : List ℕ} → last ≡ putCounted at (side first x y) size count out → length last ≡ length out
+    pub writing-on : {last : List ℕ} → last ≡ putWithCount at (side first x y) size count out → length last ≡ length out
         → Writing a b (take (length x - first) (drop first x)) (take (length y - second) (drop second y)) d last (at + size)
     writing-on e k = rw (rest-is first x, rest-is second y) record {
       short = left-on (next .0) at (length a + length b) (m .short);

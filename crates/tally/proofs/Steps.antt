@@ -2,10 +2,11 @@
 use Prim.Native.Nat.{ℕ}
 use mathlib.Core.Path.{_≡_, refl, ap, _∙_}
 use mathlib.Core.List.{List, [], _∷_, _++_}
-use Rattle.wire.specs.Order.{order, flip, order-same, order-flip}
+use Rattle.wire.specs.Order.{order}
+use Rattle.wire.proofs.TotalOrder.{flip, order-same, order-flip}
 use Rattle.wire.specs.declared.order.Order.the-variants.{Before, Same, After}
 use Rattle.tally.specs.Rows.{Counts, Row, Rows, joined, addRow, plus, Above, Canonical}
-use Rattle.tally.specs.Sought.{Below}
+use Rattle.tally.specs.LookedUp.{Below}
 use Rattle.tally.proofs.Canon.{above-weak, above-add}
 
 module _ (S : Counts) where

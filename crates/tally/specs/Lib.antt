@@ -8,4 +8,4 @@ pub mod Theorems
 -- What the functions of this crate promise each other.
 pub mod Walks
 pub mod Sums
-pub mod Sought
+pub mod LookedUp

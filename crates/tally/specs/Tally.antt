@@ -9,11 +9,11 @@ use native.Mathlib.Omega.{arith}
 use lib.Dec.{leb, eqb, lit<}
 use lib.ListN.{length}
 use borrow.Author.Tests.{leb-true, le-leb}
-use Rattle.wire.specs.Bytes.{spell, spell-length}
+use Rattle.wire.specs.Bytes.{toBE, toBE-length}
 use Rattle.wire.specs.Order.{order, isBefore}
 use Rattle.wire.specs.Read.{Read, done, refused}
-use Rattle.wire.specs.Format.{Format, such, run, along}
-use Rattle.wire.specs.Formats.{_▹_, u64, number, counted, listed, headed, head, into, Shape}
+use Rattle.wire.specs.Format.{Format, refine, run, iso}
+use Rattle.wire.specs.Formats.{_▹_, u64, number, prefixed, listed, headed, head, into, Shape}
 use Rattle.tally.specs.Rows.{Counts, Row, Rows, isName}
 
 -- The one fault of a tally: document 01 gives 13 no offset and tells no two of them apart.
@@ -24,7 +24,7 @@ abbrev pub Form : Type 0 → Type 1
 Form A = Format Malformed malformed A
 
 -- A kind of tally: the version that names it, what its counts are, their bytes, and the limit up to which a count has bytes.
-pub record Kind : Type 1 where
+pub record TallyKind : Type 1 where
   pub counts : Counts
   pub version : ℕ
   pub version-fits : version < 65536
@@ -43,16 +43,16 @@ tallyMark = 84 ∷ 76 ∷ 89 ∷ []
 abbrev pub tallyHead : Form ℕ
 tallyHead = head tallyMark
 
-abbrev pub mostRows : ℕ  -- 2^32-1
-mostRows = 4294967295
+abbrev pub maxRows : ℕ  -- 2^32-1
+maxRows = 4294967295
 
 -- a name may follow the rows before it, the last one first: names rise strictly
 abbrev pub rises : {C : Type 0} → List (Row C) → List ℕ → Bool
 rises [] n = true
 rises (r ∷ seen) n = isBefore (order (r .name) n)
 
-abbrev pub rowParts : {C : Type 0} → Shape (List ℕ × C) (Row C)
-rowParts {C} = record {
+abbrev pub rowShape : {C : Type 0} → Shape (List ℕ × C) (Row C)
+rowShape {C} = record {
   make = λ (x : List ℕ × C). record { name = x .0; count = x .1 };
   parts = λ (r : Row C). (r .name, r .count);
   there = λ b. refl;
@@ -64,45 +64,45 @@ abbrev pub whole : {A : Type 0} → List ℕ → Read Malformed A → Option A
 whole s (done a n) = cond (eqb n (length s)) (some a) none
 whole s (refused e p) = none
 
-module _ (k : Kind) where
-  abbrev pub KindRow : Type 0
-  KindRow = Row (k .counts .C)
+module _ (k : TallyKind) where
+  abbrev pub TallyRow : Type 0
+  TallyRow = Row (k .counts .C)
 
-  abbrev pub KindRows : Type 0
-  KindRows = Rows (k .counts)
+  abbrev pub TallyRows : Type 0
+  TallyRows = Rows (k .counts)
 
   -- a row's fields, a u16 length with the name and the count, not judged
-  unfoldable pub fields : Form KindRow
-  fields = into rowParts
-      (counted 2  -- name
+  unfoldable pub fields : Form TallyRow
+  fields = into rowShape
+      (prefixed 2  -- name
       ▹ k .count)
 
   -- what a row must be after those before it: its name rises, and its name and its count may stand in a tally
-  abbrev pub mayStand : KindRows → KindRow → Bool
+  abbrev pub mayStand : TallyRows → TallyRow → Bool
   mayStand seen r = rises seen (r .name) && (isName (r .name) && k .counts .stands (r .count))
 
-  unfoldable pub row : KindRows → Form KindRow
-  row seen = such (mayStand seen) malformed fields
+  unfoldable pub row : TallyRows → Form TallyRow
+  row seen = refine (mayStand seen) malformed fields
 
   -- document 01's tally: the mark, the u16 version, the u32 number of rows, and the rows
-  unfoldable pub tally : Form KindRows
+  unfoldable pub tally : Form TallyRows
   tally = headed tallyMark (k .version) malformed (listed 4 row)
 
   -- what stands before n rows
   abbrev pub headBytes : ℕ → List ℕ
-  headBytes n = tallyMark ++ (spell 2 (k .version) ++ spell 4 n)
+  headBytes n = tallyMark ++ (toBE 2 (k .version) ++ toBE 4 n)
 
   -- the rows of bytes that are a tally, with no byte after
-  unfoldable pub rowsOf : List ℕ → Option KindRows
+  unfoldable pub rowsOf : List ℕ → Option TallyRows
   rowsOf s = whole s (tally .read s)
 
   -- ---- no count above the limit, and no more rows than a u32 counts
-  abbrev pub limited : KindRows → Bool
+  abbrev pub limited : TallyRows → Bool
   limited [] = true
   limited (r ∷ l) = k .limit (r .count) && limited l
 
-  abbrev pub countable : KindRows → Bool
-  countable l = limited l && leb (length l) mostRows
+  abbrev pub countable : TallyRows → Bool
+  countable l = limited l && leb (length l) maxRows
 
 -- ---- version 1: one u64 to a row
 abbrev pub ones : Counts
@@ -118,18 +118,18 @@ ones = record {
   none-stands = refl;
 }
 
-abbrev pub most : ℕ  -- 2^64-1
-most = 18446744073709551615
+abbrev pub maxCount : ℕ  -- 2^64-1
+maxCount = 18446744073709551615
 
 pub u64-length : (c : ℕ) → length (u64 {ends = malformed} .encode c) ≡ 8
-unfolding number along run
-u64-length c = spell-length 8 c
+unfolding number iso run
+u64-length c = toBE-length 8 c
 
-pub u64-limit : (c : ℕ) → (leb c most ≡ true) ↔ u64 {ends = malformed} .Ok c
-unfolding number along
-u64-limit c = (λ h. (let p = leb-true c most h in omega arith), λ (h : c < 256 ^ 8). le-leb c most (omega arith))
+pub u64-limit : (c : ℕ) → (leb c maxCount ≡ true) ↔ u64 {ends = malformed} .Ok c
+unfolding number iso
+u64-limit c = (λ h. (let p = leb-true c maxCount h in omega arith), λ (h : c < 256 ^ 8). le-leb c maxCount (omega arith))
 
-abbrev pub one : Kind
+abbrev pub one : TallyKind
 one = record {
   counts = ones;
   version = 1;
@@ -137,7 +137,7 @@ one = record {
   count = u64;
   width = 8;
   count-length = u64-length;
-  limit = λ c. leb c most;
+  limit = λ c. leb c maxCount;
   limit-ok = u64-limit;
-  limit-part = λ c d h. let p = leb-true (c + d) most h in le-leb d most (omega arith);
+  limit-part = λ c d h. let p = leb-true (c + d) maxCount h in le-leb d maxCount (omega arith);
 }

@@ -8,25 +8,25 @@ use mathlib.Core.List.{List, [], _∷_, _++_}
 use mathlib.Core.Option.{some, Option·getD}
 use lib.ListN.{length, take, drop}
 use Rattle.wire.specs.Bytes.{Bytes}
-use Rattle.wire.specs.Answer.{Answer, good, refusal, mapAnswer, partOf, lent, noRoom, tooMany}
+use Rattle.wire.specs.Answer.{Answer, good, refusal, mapAnswer, bytesOf, lent, noRoom, tooMany}
 use Rattle.wire.specs.Walk.{GivesRows}
 use Rattle.tally.specs.Rows.{Counts, Rows, plus, countIn, Canonical}
-use Rattle.tally.specs.Tally.{Kind, KindRow, KindRows, fields, tally, rowsOf, countable}
+use Rattle.tally.specs.Tally.{TallyKind, TallyRow, TallyRows, fields, tally, rowsOf, countable}
 use Rattle.tally.specs.Operations.{rowsPart, frontOf, mergeOf}
 
 -- ---- Bytes are a tally exactly where they are those of rows as a tally has them, which can be counted.
-abbrev pub WellFormed : Kind → Type 0
-WellFormed k = (s : List ℕ) (l : KindRows k) → Bytes s
+abbrev pub WellFormed : TallyKind → Type 0
+WellFormed k = (s : List ℕ) (l : TallyRows k) → Bytes s
     → (rowsOf k s ≡ some l) ↔ (Canonical (k .counts) l × (countable k l ≡ true) × (s ≡ tally k .encode l))
 
 -- ---- Rows are taken from the front, and the rows behind a row are what remains.
 -- a row with its length
-abbrev pub rowShown : (k : Kind) → KindRow k → KindRow k × ℕ
+abbrev pub rowShown : (k : TallyKind) → TallyRow k → TallyRow k × ℕ
 rowShown k r = (r, length (fields k .encode r))
 
 -- The question for the front row, asked of a tally's rows and then each time of what remains, gives them one after the other and then 16.
-abbrev pub WalkGivesRows : Kind → Type 0
-WalkGivesRows k = (t : List ℕ) (l : KindRows k) → Bytes t → rowsOf k t ≡ some l → GivesRows (frontOf k) (rowShown k) (partOf (λ p. p) (rowsPart k t)) l
+abbrev pub WalkGivesRows : TallyKind → Type 0
+WalkGivesRows k = (t : List ℕ) (l : TallyRows k) → Bytes t → rowsOf k t ≡ some l → GivesRows (frontOf k) (rowShown k) (bytesOf (λ p. p) (rowsPart k t)) l
 
 -- ---- Sums add, name by name; rows as a tally has them are determined by their counts; so order and grouping of sums are free.
 pub record Sums (S : Counts) : Type 0 where
@@ -47,7 +47,7 @@ abbrev pub outcome : Answer (List ℕ) → List ℕ → Answer ℕ × List ℕ
 outcome x out = (mapAnswer length x, lent x out)
 
 -- the one that the contract of `merge` cites
-abbrev pub merged : Kind → Merger
+abbrev pub merged : TallyKind → Merger
 merged k a b out = outcome (mergeOf k (length out) a b) out
 
 -- one is taken out of a list, and that leaves another
@@ -67,21 +67,21 @@ pub data Merges (m : Merger) (room : ℕ) : List (List ℕ) → ℕ → List ℕ
       → Taken a ts us → Taken b us vs → length out ≡ room → m a b out .0 ≡ refusal number record₀ offset
       → Merges m room ts made log left → Merges m room ts made (number ∷ log) left
 
-module _ (k : Kind) where
+module _ (k : TallyKind) where
   -- a well-formed tally
   abbrev pub IsTally : List ℕ → Type 0
-  IsTally t = Bytes t × ((l : KindRows k) × (rowsOf k t ≡ some l))
+  IsTally t = Bytes t × ((l : TallyRows k) × (rowsOf k t ≡ some l))
 
   abbrev pub AllTallies : List (List ℕ) → Type 0
   AllTallies [] = Unit {0}
   AllTallies (t ∷ ts) = IsTally t × AllTallies ts
 
   -- its rows
-  abbrev pub rowsIn : List ℕ → KindRows k
+  abbrev pub rowsIn : List ℕ → TallyRows k
   rowsIn t = Option·getD (rowsOf k t) []
 
   -- document 01's sum of tallies
-  abbrev pub sumOf : List (List ℕ) → KindRows k
+  abbrev pub sumOf : List (List ℕ) → TallyRows k
   sumOf [] = []
   sumOf (t ∷ ts) = plus (k .counts) (rowsIn t) (sumOf ts)
 
@@ -91,7 +91,7 @@ module _ (k : Kind) where
   countAcross (t ∷ ts) n = k .counts .add (countIn (k .counts) (rowsIn t) n) (countAcross ts n)
 
   -- when it fits, in document 01's sense: no count above the limit, at most 2^32-1 rows and, written as a tally, no longer than the room
-  abbrev pub Fits : ℕ → KindRows k → Type 0
+  abbrev pub Fits : ℕ → TallyRows k → Type 0
   Fits room l = (countable k l ≡ true) × (length (tally k .encode l) ≤ room)
 
   -- a merge of well-formed tallies is refused for these alone

@@ -7,7 +7,7 @@ use mathlib.Core.Option.{Option, some, none}
 use Rattle.wire.specs.Order.{order, isBefore}
 use Rattle.wire.specs.Store.{stored}
 use Rattle.tally.specs.Rows.{Row, Canonical, isName}
-use Rattle.tally.specs.Tally.{Form, Kind, KindRows, whole, fields, limited, one}
+use Rattle.tally.specs.Tally.{Form, TallyKind, TallyRows, whole, fields, limited, one}
 
 -- a name after the last one, unless it is the first
 abbrev pub mayFollow : Bool → List ℕ → List ℕ → Bool
@@ -21,13 +21,13 @@ isSome none = false
 abbrev pub takes : {A : Type 0} → Form A → List ℕ → Bool
 takes f s = isSome (whole s (f .read s))
 
-module _ (k : Kind) where
-  abbrev pub rowsBytes : KindRows k → List ℕ
+module _ (k : TallyKind) where
+  abbrev pub rowsBytes : TallyRows k → List ℕ
   rowsBytes [] = []
   rowsBytes (r ∷ l) = fields k .encode r ++ rowsBytes l
 
   -- the bytes are these rows, as a tally has them, and nothing else
-  pub record Holds (s : List ℕ) (l : KindRows k) : Type 0 where
+  pub record Holds (s : List ℕ) (l : TallyRows k) : Type 0 where
     pub bytes : s ≡ rowsBytes l
     pub canonical : Canonical (k .counts) l
     pub limit : limited k l ≡ true

@@ -1,17 +1,17 @@
 // Whether bytes are a tally.
 use crate::head::stated_rows;
-use crate::rows::AROUND;
 use crate::rows::NAME_AT;
+use crate::rows::ROW_OVERHEAD;
 use crate::rows::RowRead;
 use crate::rows::front_row;
-use wire::heads::HEAD;
+use wire::heads::HEAD_LENGTH;
 use wire::heads::HeadRead;
 use wire::order::Order;
 use wire::order::compare;
 ghost use mathlib.Core.Path.{_≡_};
 ghost use Rattle.wire.specs.Format.{items};
 ghost use denote.Ref.{ptr};
-ghost use Rattle.wire.specs.Answer.{partOf};
+ghost use Rattle.wire.specs.Answer.{bytesOf};
 ghost use Rattle.wire.specs.Formats.{headLength};
 ghost use Rattle.wire.specs.Places.{placeIn, startTold};
 ghost use Rattle.tally.specs.Tally.{row, one};
@@ -57,7 +57,7 @@ fn are_rows(s: &[u8], count: u32) -> bool
         }
         last = name;
         first = false;
-        rest = &rest[n + AROUND..];
+        rest = &rest[n + ROW_OVERHEAD..];
         left -= 1;
     }
     rest.len() == 0
@@ -67,10 +67,10 @@ fn are_rows(s: &[u8], count: u32) -> bool
 pub fn check(t: &[u8]) -> CheckAnswer
     ensures { λ r. ⌜ toldCheck r ≡ checkOf one (now (t .entry)) ⌝ }
 {
-    let HeadRead::Number(count) = stated_rows(t) else {
+    let HeadRead::Count(count) = stated_rows(t) else {
         return CheckAnswer::Malformed;
     };
-    if are_rows(&t[HEAD..], count) {
+    if are_rows(&t[HEAD_LENGTH..], count) {
         CheckAnswer::Tally(count)
     } else {
         CheckAnswer::Malformed
@@ -79,11 +79,11 @@ pub fn check(t: &[u8]) -> CheckAnswer
 
 // The rows of a tally, to be taken from the front; an empty part where it is none.
 pub fn rows_of(t: &[u8]) -> &[u8]
-    ensures { λ r. ⌜ now r ≡ partOf (λ s. s) (rowsPart one (now (t .entry))) ⌝ }
+    ensures { λ r. ⌜ now r ≡ bytesOf (λ s. s) (rowsPart one (now (t .entry))) ⌝ }
     ensures { λ r. ⌜ ptr r ≡ placeIn (t .entry) (startTold (λ _. headLength) (rowsPart one (now (t .entry)))) ⌝ }
 {
     match check(t) {
-        CheckAnswer::Tally(_) => &t[HEAD..],
+        CheckAnswer::Tally(_) => &t[HEAD_LENGTH..],
         CheckAnswer::Malformed => &t[..0],
     }
 }

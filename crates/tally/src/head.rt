@@ -2,14 +2,14 @@
 use wire::heads::HeadRead;
 use wire::heads::read_head;
 ghost use mathlib.Core.Path.{_≡_};
-ghost use Rattle.wire.specs.Read.{found};
+ghost use Rattle.wire.specs.Read.{toOption};
 ghost use Rattle.wire.specs.Store.{stored};
 ghost use Rattle.wire.specs.Told.{toldHead};
 ghost use Rattle.tally.specs.Tally.{tallyHead, headBytes, one};
 
 // The number of rows that it states.
 pub(crate) fn stated_rows(t: &[u8]) -> HeadRead
-    ensures { λ r. ⌜ toldHead r ≡ found (tallyHead .read (now (t .entry))) ⌝ }
+    ensures { λ r. ⌜ toldHead r ≡ toOption (tallyHead .read (now (t .entry))) ⌝ }
 {
     read_head(t, b"TLY")
 }

@@ -2,5 +2,6 @@
 pub mod add;
 pub mod check;
 pub mod head;
+pub mod lookup;
 pub mod merge;
 pub mod rows;

@@ -2,14 +2,14 @@
 use crate::check::CheckAnswer;
 use crate::check::check;
 use crate::head::put_head;
-use crate::rows::AROUND;
 use crate::rows::COUNT_SIZE;
-use crate::rows::MOST;
-use crate::rows::MOST_ROWS;
+use crate::rows::MAX_COUNT;
+use crate::rows::MAX_ROWS;
 use crate::rows::NAME_AT;
+use crate::rows::ROW_OVERHEAD;
 use crate::rows::RowRead;
 use crate::rows::front_row;
-use wire::heads::HEAD;
+use wire::heads::HEAD_LENGTH;
 use wire::order::Order;
 use wire::order::compare;
 use wire::store::put_bytes;
@@ -22,10 +22,10 @@ ghost use Rattle.wire.specs.Answer.{lent, mapAnswer};
 ghost use Rattle.tally.specs.Tally.{one};
 ghost use Rattle.tally.specs.Operations.{mergeOf};
 ghost use Rattle.tally.specs.Told.{toldMerge};
-ghost use Rattle.tally.specs.Sums.{side, NextOf, MeasuredAs, putCounted, SumPut, MergedAs};
+ghost use Rattle.tally.specs.Sums.{side, SumRowIs, MeasuredAs, putWithCount, SumPut, MergedAs};
 
 // The next row of the sum of two lists of rows.
-pub enum Next {
+pub enum SumRow {
     End,
     // Its count would be too large.
     TooMany,
@@ -34,32 +34,32 @@ pub enum Next {
 }
 
 // The same where the first list is at its end.
-fn next_of_second(y: &[u8]) -> Next
-    ensures { λ r. ⌜ NextOf [] (now (y .entry)) r ⌝ }
+fn sum_row_of_second(y: &[u8]) -> SumRow
+    ensures { λ r. ⌜ SumRowIs [] (now (y .entry)) r ⌝ }
 {
     match front_row(y) {
-        RowRead::Malformed => Next::End,
-        RowRead::Row(m, d) => Next::Row(0, m + AROUND, m + AROUND, d),
+        RowRead::Malformed => SumRow::End,
+        RowRead::Row(m, d) => SumRow::Row(0, m + ROW_OVERHEAD, m + ROW_OVERHEAD, d),
     }
 }
 
-fn next_of(x: &[u8], y: &[u8]) -> Next
-    ensures { λ r. ⌜ NextOf (now (x .entry)) (now (y .entry)) r ⌝ }
+fn sum_row(x: &[u8], y: &[u8]) -> SumRow
+    ensures { λ r. ⌜ SumRowIs (now (x .entry)) (now (y .entry)) r ⌝ }
 {
     let RowRead::Row(n, c) = front_row(x) else {
-        return next_of_second(y);
+        return sum_row_of_second(y);
     };
     let RowRead::Row(m, d) = front_row(y) else {
-        return Next::Row(n + AROUND, 0, n + AROUND, c);
+        return SumRow::Row(n + ROW_OVERHEAD, 0, n + ROW_OVERHEAD, c);
     };
     match compare(&x[NAME_AT..n + NAME_AT], &y[NAME_AT..m + NAME_AT]) {
-        Order::Before => Next::Row(n + AROUND, 0, n + AROUND, c),
-        Order::After => Next::Row(0, m + AROUND, m + AROUND, d),
+        Order::Before => SumRow::Row(n + ROW_OVERHEAD, 0, n + ROW_OVERHEAD, c),
+        Order::After => SumRow::Row(0, m + ROW_OVERHEAD, m + ROW_OVERHEAD, d),
         Order::Same => {
-            if MOST - c < d {
-                return Next::TooMany;
+            if MAX_COUNT - c < d {
+                return SumRow::TooMany;
             }
-            Next::Row(n + AROUND, m + AROUND, n + AROUND, c + d)
+            SumRow::Row(n + ROW_OVERHEAD, m + ROW_OVERHEAD, n + ROW_OVERHEAD, c + d)
         }
     }
 }
@@ -78,14 +78,14 @@ fn measure(a: &[u8], b: &[u8]) -> Measured
     let mut rows: u64 = 0;
     let mut size: usize = 0;
     loop {
-        match next_of(x, y) {
-            Next::End => {
+        match sum_row(x, y) {
+            SumRow::End => {
                 return Measured::Rows(rows, size);
             }
-            Next::TooMany => {
+            SumRow::TooMany => {
                 return Measured::TooMany;
             }
-            Next::Row(first, second, n, _) => {
+            SumRow::Row(first, second, n, _) => {
                 x = &x[first..];
                 y = &y[second..];
                 rows += 1;
@@ -96,9 +96,9 @@ fn measure(a: &[u8], b: &[u8]) -> Measured
 }
 
 // The row of so many bytes at the front of s, with another count.
-fn put_counted(out: &mut [u8], at: usize, s: &[u8], size: usize, count: u64)
+fn put_with_count(out: &mut [u8], at: usize, s: &[u8], size: usize, count: u64)
     requires { ⌜ (8 ≤ size) × (size ≤ length (now s)) × (at + size < 2 ^ 64) ⌝ }
-    ensures { λ _. ⌜ now (out .exit) ≡ putCounted at (now (s .entry)) size count (now (out .entry)) ⌝ }
+    ensures { λ _. ⌜ now (out .exit) ≡ putWithCount at (now (s .entry)) size count (now (out .entry)) ⌝ }
 {
     let lead = size - COUNT_SIZE;
     put_bytes(out, at, &s[..lead]);
@@ -106,14 +106,14 @@ fn put_counted(out: &mut [u8], at: usize, s: &[u8], size: usize, count: u64)
 }
 
 // The next row of a sum, whose name stands in x, or in y where it takes the place of nothing in x.
-fn put_next(out: &mut [u8], at: usize, x: &[u8], y: &[u8], first: usize, size: usize, count: u64)
+fn put_sum_row(out: &mut [u8], at: usize, x: &[u8], y: &[u8], first: usize, size: usize, count: u64)
     requires { ⌜ (8 ≤ size) × (size ≤ length (side first (now x) (now y))) × (at + size < 2 ^ 64) ⌝ }
-    ensures { λ _. ⌜ now (out .exit) ≡ putCounted at (side first (now (x .entry)) (now (y .entry))) size count (now (out .entry)) ⌝ }
+    ensures { λ _. ⌜ now (out .exit) ≡ putWithCount at (side first (now (x .entry)) (now (y .entry))) size count (now (out .entry)) ⌝ }
 {
     if first == 0 {
-        put_counted(out, at, y, size, count);
+        put_with_count(out, at, y, size, count);
     } else {
-        put_counted(out, at, x, size, count);
+        put_with_count(out, at, x, size, count);
     }
 }
 
@@ -124,15 +124,15 @@ fn put_rows(out: &mut [u8], a: &[u8], b: &[u8])
     let mut y = b;
     let mut at: usize = 0;
     loop {
-        match next_of(x, y) {
-            Next::End => {
+        match sum_row(x, y) {
+            SumRow::End => {
                 return;
             }
-            Next::TooMany => {
+            SumRow::TooMany => {
                 return;
             }
-            Next::Row(first, second, size, count) => {
-                put_next(out, at, x, y, first, size, count);
+            SumRow::Row(first, second, size, count) => {
+                put_sum_row(out, at, x, y, first, size, count);
                 x = &x[first..];
                 y = &y[second..];
                 at += size;
@@ -156,18 +156,18 @@ fn merge_rows(a: &[u8], b: &[u8], out: &mut [u8]) -> MergeAnswer
     let Measured::Rows(rows, size) = measure(a, b) else {
         return MergeAnswer::TooMany;
     };
-    if (MOST_ROWS as u64) < rows {
+    if (MAX_ROWS as u64) < rows {
         return MergeAnswer::TooMany;
     }
-    if out.len() < HEAD {
+    if out.len() < HEAD_LENGTH {
         return MergeAnswer::NoRoom;
     }
-    if out.len() - HEAD < size {
+    if out.len() - HEAD_LENGTH < size {
         return MergeAnswer::NoRoom;
     }
     put_head(out, rows as u32);
-    put_rows(&mut out[HEAD..], a, b);
-    MergeAnswer::Merged(size + HEAD)
+    put_rows(&mut out[HEAD_LENGTH..], a, b);
+    MergeAnswer::Merged(size + HEAD_LENGTH)
 }
 
 // The sum of two tallies, by name. It is measured before a byte is written, so that a refusal leaves the output as it was.
@@ -181,5 +181,5 @@ pub fn merge(a: &[u8], b: &[u8], out: &mut [u8]) -> MergeAnswer
     let CheckAnswer::Tally(_) = check(b) else {
         return MergeAnswer::Malformed;
     };
-    merge_rows(&a[HEAD..], &b[HEAD..], out)
+    merge_rows(&a[HEAD_LENGTH..], &b[HEAD_LENGTH..], out)
 }

@@ -1,8 +1,8 @@
 // Rows of a tally, from the front of a part: the front row's count, its name as a part of what was given, and the rows behind it handed on
 // as what remains. A call that hands back a part hands back an empty one when refused; its number is asked by the row's own question.
-use wire::fields::Counted;
+use wire::fields::Run;
 use wire::fields::U64;
-use wire::fields::counted16_at;
+use wire::fields::run16_at;
 use wire::fields::u64_at;
 use wire::store::put_bytes;
 use wire::store::put_u16;
@@ -11,11 +11,11 @@ ghost use mathlib.Core.Path.{_≡_};
 ghost use mathlib.Core.List.{[]};
 ghost use Prim.Native.Nat.{ℕ};
 ghost use denote.Ref.{ptr};
-ghost use Rattle.wire.specs.Answer.{mapAnswer, partOf};
+ghost use Rattle.wire.specs.Answer.{mapAnswer, bytesOf};
 ghost use Rattle.wire.specs.Places.{placeIn, startTold};
-ghost use Rattle.wire.specs.Read.{found};
+ghost use Rattle.wire.specs.Read.{toOption};
 ghost use Rattle.wire.specs.Walk.{rowsBehind};
-ghost use Rattle.tally.specs.Tally.{KindRow, row, one};
+ghost use Rattle.tally.specs.Tally.{TallyRow, row, one};
 ghost use Rattle.tally.specs.Operations.{frontOf};
 ghost use Rattle.tally.specs.Told.{toldRow, toldFront, shownRow};
 ghost use Rattle.tally.specs.Walks.{rowStored};
@@ -25,14 +25,14 @@ pub const NAME_AT: usize = 2;
 
 pub const COUNT_SIZE: usize = 8;
 
-pub const AROUND: usize = 10;
+pub const ROW_OVERHEAD: usize = 10;
 
 // The longest name, the largest count and the most rows.
-pub const LONGEST: usize = 65535;
+pub const MAX_NAME_LENGTH: usize = 65535;
 
-pub const MOST: u64 = 18446744073709551615;
+pub const MAX_COUNT: u64 = 18446744073709551615;
 
-pub const MOST_ROWS: u32 = 4294967295;
+pub const MAX_ROWS: u32 = 4294967295;
 
 // The length of the name and the count, or that no row stands there.
 pub enum RowRead {
@@ -42,9 +42,9 @@ pub enum RowRead {
 
 // The row at the front of a part, judged alone.
 pub fn front_row(s: &[u8]) -> RowRead
-    ensures { λ r. ⌜ toldRow (now (s .entry)) r ≡ found (row one [] .read (now (s .entry))) ⌝ }
+    ensures { λ r. ⌜ toldRow (now (s .entry)) r ≡ toOption (row one [] .read (now (s .entry))) ⌝ }
 {
-    let Counted::Bytes(n) = counted16_at(s, 0) else {
+    let Run::Bytes(n) = run16_at(s, 0) else {
         return RowRead::Malformed;
     };
     let U64::Value(count) = u64_at(s, n + NAME_AT) else {
@@ -71,14 +71,14 @@ pub fn row_of(part: &[u8]) -> RowAnswer
         return RowAnswer::NoSuchRow;
     }
     match front_row(part) {
-        RowRead::Row(n, count) => RowAnswer::Row(count, n + AROUND),
+        RowRead::Row(n, count) => RowAnswer::Row(count, n + ROW_OVERHEAD),
         RowRead::Malformed => RowAnswer::Malformed,
     }
 }
 
 // The name in the front row.
 pub fn name_of(part: &[u8]) -> &[u8]
-    ensures { λ r. ⌜ now r ≡ partOf (λ (x : KindRow one × ℕ). x .0 .name) (frontOf one (now (part .entry))) ⌝ }
+    ensures { λ r. ⌜ now r ≡ bytesOf (λ (x : TallyRow one × ℕ). x .0 .name) (frontOf one (now (part .entry))) ⌝ }
     ensures { λ r. ⌜ ptr r ≡ placeIn (part .entry) (startTold (λ _. 2) (frontOf one (now (part .entry)))) ⌝ }
 {
     match front_row(part) {
@@ -90,10 +90,10 @@ pub fn name_of(part: &[u8]) -> &[u8]
 // What remains behind the front row.
 pub fn behind_row(part: &[u8]) -> &[u8]
     ensures { λ r. ⌜ now r ≡ rowsBehind (now (part .entry)) (frontOf one (now (part .entry))) ⌝ }
-    ensures { λ r. ⌜ ptr r ≡ placeIn (part .entry) (startTold (λ (x : KindRow one × ℕ). x .1) (frontOf one (now (part .entry)))) ⌝ }
+    ensures { λ r. ⌜ ptr r ≡ placeIn (part .entry) (startTold (λ (x : TallyRow one × ℕ). x .1) (frontOf one (now (part .entry)))) ⌝ }
 {
     match front_row(part) {
-        RowRead::Row(n, _) => &part[n + AROUND..],
+        RowRead::Row(n, _) => &part[n + ROW_OVERHEAD..],
         RowRead::Malformed => &part[..0],
     }
 }
@@ -102,13 +102,13 @@ pub fn behind_row(part: &[u8]) -> &[u8]
 pub fn put_row(out: &mut [u8], at: usize, name: &[u8], count: u64)
     ensures { λ _. ⌜ now (out .exit) ≡ rowStored at (record { name = now (name .entry); count = count }) (now (out .entry)) ⌝ }
 {
-    if LONGEST < name.len() {
+    if MAX_NAME_LENGTH < name.len() {
         return;
     }
     if out.len() < at {
         return;
     }
-    if out.len() - at < name.len() + AROUND {
+    if out.len() - at < name.len() + ROW_OVERHEAD {
         return;
     }
     put_u16(out, at, name.len() as u16);

@@ -34,6 +34,6 @@ every-format f = record {
   writes-back = writes-back f;
   reads-back = reads-back f;
   local = local f;
-  firm = f .firm;
+  stableRefusal = f .stableRefusal;
   prefix-free = prefix-free f;
 }

@@ -6,18 +6,18 @@ use native.Mathlib.Nat.{add-zero, zero-add, add-assoc}
 use native.Mathlib.Numerals.{sub-one}
 use native.Mathlib.Omega.{arith}
 use lib.ListN.{drop}
-use Rattle.wire.specs.Read.{Read, done, refused, onward}
+use Rattle.wire.specs.Read.{Read, done, refused, shift}
 use Rattle.wire.specs.Format.{Format, items, readItems}
 
 -- what is left, told after the items `pre`, which took `at` bytes
 abbrev pub after : {E A : Type 0} → List A → ℕ → Read E (List A) → Read E (List A)
-after pre at r = onward at (λ l. pre ++ l) r
+after pre at r = shift at (λ l. pre ++ l) r
 
 after-none : {E A : Type 0} (r : Read E (List A)) → after [] 0 r ≡ r
 after-none (done l n) = rw zero-add
 after-none (refused e p) = rw zero-add
 
-after-one : {E A : Type 0} (pre : List A) (at n : ℕ) (a : A) (r : Read E (List A)) → after pre at (onward n (λ l. a ∷ l) r) ≡ after (pre ++ a ∷ []) (at + n) r
+after-one : {E A : Type 0} (pre : List A) (at n : ℕ) (a : A) (r : Read E (List A)) → after pre at (shift n (λ l. a ∷ l) r) ≡ after (pre ++ a ∷ []) (at + n) r
 after-one pre at n a (done l m) = rw (append-assoc, add-assoc)
 after-one pre at n a (refused e p) = rw add-assoc
 

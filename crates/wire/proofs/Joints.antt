@@ -4,8 +4,8 @@ use mathlib.Core.Path.{_≡_, refl, ap, sym, _∙_}
 use mathlib.Core.List.{List}
 use mathlib.Core.Bool.{Bool, true}
 use lib.ListN.{drop}
-use Rattle.wire.specs.Read.{Read, done, refused, mapRead, onward, bind-done, cond-done}
-use Rattle.wire.specs.Format.{Format, tested, such, _⨾_, pair, along, items}
+use Rattle.wire.specs.Read.{Read, done, refused, mapRead, shift, bind-done, cond-done}
+use Rattle.wire.specs.Format.{Format, tested, refine, _⨾_, pair, iso, items}
 use Rattle.wire.specs.Formats.{_▹_, number, listed}
 
 module _ {E : Type 0} {ends : E} {A B : Type 0} (f : Format E ends A) (g : Format E ends B) (s : List ℕ) where
@@ -13,19 +13,19 @@ module _ {E : Type 0} {ends : E} {A B : Type 0} (f : Format E ends A) (g : Forma
   unfolding _⨾_
   then-refused h = rw h
 
-  pub then-done : {a : A} {n : ℕ} {r : Read E B} → f .read s ≡ done a n → g .read (drop n s) ≡ r → (f ▹ g) .read s ≡ onward n (pair a) r
+  pub then-done : {a : A} {n : ℕ} {r : Read E B} → f .read s ≡ done a n → g .read (drop n s) ≡ r → (f ▹ g) .read s ≡ shift n (pair a) r
   unfolding _⨾_
   then-done h k = rw (h, k)
 
-pub such-done : {E : Type 0} {ends : E} {A : Type 0} (test : A → Bool) (e : E) (f : Format E ends A) (s : List ℕ) {a : A} {n : ℕ} → such test e f .read s ≡ done a n → f .read s ≡ done a n
-unfolding such
-such-done test e f s {a} {n} h =
+pub refine-done : {E : Type 0} {ends : E} {A : Type 0} (test : A → Bool) (e : E) (f : Format E ends A) (s : List ℕ) {a : A} {n : ℕ} → refine test e f .read s ≡ done a n → f .read s ≡ done a n
+unfolding refine
+refine-done test e f s {a} {n} h =
     let x = bind-done (f .read s) (tested test e) a n h in
     x .2 ∙ cond-done (test (x .0)) (done (x .0) (x .1)) e 0 a n (x .3) .1
 
-pub such-passes : {E : Type 0} {ends : E} {A : Type 0} (test : A → Bool) (e : E) (f : Format E ends A) (s : List ℕ) {a : A} {n : ℕ} → such test e f .read s ≡ done a n → test a ≡ true
-unfolding such
-such-passes test e f s {a} {n} h =
+pub refine-passes : {E : Type 0} {ends : E} {A : Type 0} (test : A → Bool) (e : E) (f : Format E ends A) (s : List ℕ) {a : A} {n : ℕ} → refine test e f .read s ≡ done a n → test a ≡ true
+unfolding refine
+refine-passes test e f s {a} {n} h =
     let x = bind-done (f .read s) (tested test e) a n h in
     let y = cond-done (test (x .0)) (done (x .0) (x .1)) e 0 a n (x .3) in
     let same : x .0 ≡ a = cc (y .1) in
@@ -33,13 +33,13 @@ such-passes test e f s {a} {n} h =
 
 module _ {E : Type 0} {ends : E} {A : Type 0} (k : ℕ) (item : List A → Format E ends A) (s : List ℕ) where
   pub listed-refused : {e : E} {p : ℕ} → number {ends = ends} k .read s ≡ refused e p → listed k item .read s ≡ refused e p
-  unfolding listed along _⨾_
+  unfolding listed iso _⨾_
   listed-refused h = rw h
 
-  pub listed-done : {count n : ℕ} → number {ends = ends} k .read s ≡ done count n → listed k item .read s ≡ onward n (λ l. l) (items item count .read (drop n s))
-  unfolding listed along _⨾_
+  pub listed-done : {count n : ℕ} → number {ends = ends} k .read s ≡ done count n → listed k item .read s ≡ shift n (λ l. l) (items item count .read (drop n s))
+  unfolding listed iso _⨾_
   listed-done {count} {n} h = rw h (go (items item count .read (drop n s)))
     where
-      go : (r : Read E (List A)) → mapRead (λ (x : ℕ × List A). x .1) (onward n (pair count) r) ≡ onward n (λ l. l) r
+      go : (r : Read E (List A)) → mapRead (λ (x : ℕ × List A). x .1) (shift n (pair count) r) ≡ shift n (λ l. l) r
       go (done l m) = refl
       go (refused e p) = refl

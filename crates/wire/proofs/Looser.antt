@@ -8,8 +8,8 @@ use mathlib.Core.Bool.{Bool, true, false, cond}
 use lib.ListN.{length, drop}
 use lib.Seq.{drop-append-seam}
 use Rattle.wire.specs.Bytes.{Bytes}
-use Rattle.wire.specs.Read.{Read, done, refused, bind, mapRead, onward, never, same-refusal, bind-done, map-done, map-refused, onward-done, onward-refused, cond-done}
-use Rattle.wire.specs.Format.{Format, tested, such, _⨾_, next, pair, along, items, readItems, encodeItems, local}
+use Rattle.wire.specs.Read.{Read, done, refused, bind, mapRead, shift, not-done, same-refusal, bind-done, map-done, map-refused, shift-done, shift-refused, cond-done}
+use Rattle.wire.specs.Format.{Format, tested, refine, _⨾_, next, pair, iso, items, readItems, encodeItems, local}
 use Rattle.wire.specs.Formats.{number, listed}
 use Rattle.wire.proofs.EveryFormat.{every-format}
 
@@ -24,22 +24,22 @@ looser-self f = record { same = λ a. refl; takes = λ s a n h. h; refuses = λ 
 
 -- a test is dropped
 module _ {E : Type 0} {ends : E} {A : Type 0} (test : A → Bool) (e : E) (f : Format E ends A) (other : e ≡ ends → ⊥) where
-  such-refused : (s : List ℕ) (k : E) (p : ℕ) (r : Read E A) → f .read s ≡ r → bind r (tested test e) ≡ refused k p → (f .read s ≡ refused k p) ⊎ (k ≡ ends → ⊥)
-  such-refused s k p (done a n) h g = go (test a) g
+  refine-refused : (s : List ℕ) (k : E) (p : ℕ) (r : Read E A) → f .read s ≡ r → bind r (tested test e) ≡ refused k p → (f .read s ≡ refused k p) ⊎ (k ≡ ends → ⊥)
+  refine-refused s k p (done a n) h g = go (test a) g
     where
       go : (b : Bool) → cond b (done a n) (refused e 0) ≡ refused k p → (f .read s ≡ refused k p) ⊎ (k ≡ ends → ⊥)
-      go true z = never (sym z)
+      go true z = not-done (sym z)
       go false z = inr (λ w. let x : e ≡ k = cc in other (x ∙ w))
-  such-refused s k p (refused k₁ p₁) h g = inl (h ∙ same-refusal g)
+  refine-refused s k p (refused k₁ p₁) h g = inl (h ∙ same-refusal g)
 
-  pub looser-such : Looser (such test e f) f
-  unfolding such
-  looser-such = record {
+  pub looser-refine : Looser (refine test e f) f
+  unfolding refine
+  looser-refine = record {
     same = λ a. refl;
     takes = λ s a n h.
         let x = bind-done (f .read s) (tested test e) a n h in
         x .2 ∙ cond-done (test (x .0)) (done (x .0) (x .1)) e 0 a n (x .3) .1;
-    refuses = λ s k p h. such-refused s k p (f .read s) refl h;
+    refuses = λ s k p h. refine-refused s k p (f .read s) refl h;
   }
 
 -- looser than what is looser
@@ -59,12 +59,12 @@ module _ {E : Type 0} {ends : E} {A B : Type 0} (f g : Format E ends A) (h k : A
   then-takes : (s : List ℕ) (x : A × B) (n : ℕ) → bind (f .read s) (next h s) ≡ done x n → bind (g .read s) (next k s) ≡ done x n
   then-takes s x n z =
       let y = bind-done (f .read s) (next h s) x n z in
-      let w = onward-done (y .1) (pair (y .0)) (h (y .0) .read (drop (y .1) s)) x n (y .3) in
+      let w = shift-done (y .1) (pair (y .0)) (h (y .0) .read (drop (y .1) s)) x n (y .3) in
       rw (l .takes s (y .0) (y .1) (y .2), m (y .0) .takes (drop (y .1) s) (w .0) (w .1) (w .2), w .3, w .4)
 
   then-refuses : (s : List ℕ) (e : E) (p : ℕ) (r : Read E A) → f .read s ≡ r → bind r (next h s) ≡ refused e p → (bind (g .read s) (next k s) ≡ refused e p) ⊎ (e ≡ ends → ⊥)
   then-refuses s e p (done a n) z w =
-      let x = onward-refused n (pair a) (h a .read (drop n s)) e p w in
+      let x = shift-refused n (pair a) (h a .read (drop n s)) e p w in
       go (x .0) (x .2) (m a .refuses (drop n s) e (x .0) (x .1))
     where
       go : (q : ℕ) → n + q ≡ p → (k a .read (drop n s) ≡ refused e q) ⊎ (e ≡ ends → ⊥) → (bind (g .read s) (next k s) ≡ refused e p) ⊎ (e ≡ ends → ⊥)
@@ -88,16 +88,16 @@ module _ {E : Type 0} {ends : E} {A B : Type 0} (f g : Format E ends A) (h k : A
 module _ {E : Type 0} {ends : E} {A B : Type 0} (OkF OkG : B → Type 0) (to : A → B) (from : B → A) (f g : Format E ends A) (l : Looser f g)
     (thereF : (b : B) → OkF b → f .Ok (from b) × (to (from b) ≡ b)) (backF : (a : A) → f .Ok a → OkF (to a) × (from (to a) ≡ a))
     (thereG : (b : B) → OkG b → g .Ok (from b) × (to (from b) ≡ b)) (backG : (a : A) → g .Ok a → OkG (to a) × (from (to a) ≡ a)) where
-  along-refuses : (s : List ℕ) (e : E) (p : ℕ) → (g .read s ≡ refused e p) ⊎ (e ≡ ends → ⊥) → (mapRead to (g .read s) ≡ refused e p) ⊎ (e ≡ ends → ⊥)
-  along-refuses s e p (inl z) = inl (rw z)
-  along-refuses s e p (inr z) = inr z
+  iso-refuses : (s : List ℕ) (e : E) (p : ℕ) → (g .read s ≡ refused e p) ⊎ (e ≡ ends → ⊥) → (mapRead to (g .read s) ≡ refused e p) ⊎ (e ≡ ends → ⊥)
+  iso-refuses s e p (inl z) = inl (rw z)
+  iso-refuses s e p (inr z) = inr z
 
-  pub looser-along : Looser (along OkF to from f thereF backF) (along OkG to from g thereG backG)
-  unfolding along
-  looser-along = record {
+  pub looser-iso : Looser (iso OkF to from f thereF backF) (iso OkG to from g thereG backG)
+  unfolding iso
+  looser-iso = record {
     same = λ b. l .same (from b);
     takes = λ s b n h. let x = map-done to (f .read s) b n h in rw (l .takes s (x .0) n (x .1), x .2);
-    refuses = λ s e p h. along-refuses s e p (l .refuses s e p (map-refused to (f .read s) e p h));
+    refuses = λ s e p h. iso-refuses s e p (l .refuses s e p (map-refused to (f .read s) e p h));
   }
 
 pub looser-cond : {E : Type 0} {ends : E} {A : Type 0} {f g h k : Format E ends A} (b : Bool) → Looser f g → Looser h k → Looser (cond b f h) (cond b g k)
@@ -112,19 +112,19 @@ module _ {E : Type 0} {ends : E} {A : Type 0} (item loose : List A → Format E 
 
   -- the items behind the first
   abbrev more : (List A → Format E ends A) → ℕ → List A → List ℕ → A → ℕ → Read E (List A)
-  more f k seen s a n = onward n (λ l. a ∷ l) (readItems f k (a ∷ seen) (drop n s))
+  more f k seen s a n = shift n (λ l. a ∷ l) (readItems f k (a ∷ seen) (drop n s))
 
   items-takes : (k : ℕ) (seen : List A) (s : List ℕ) (a : List A) (n : ℕ) → readItems item k seen s ≡ done a n → readItems loose k seen s ≡ done a n
   unfolding readItems
   items-takes zero seen s a n h = h
   items-takes (suc k) seen s a n h =
       let y = bind-done (item seen .read s) (more item k seen s) a n h in
-      let w = onward-done (y .1) (λ l. y .0 ∷ l) (readItems item k (y .0 ∷ seen) (drop (y .1) s)) a n (y .3) in
+      let w = shift-done (y .1) (λ l. y .0 ∷ l) (readItems item k (y .0 ∷ seen) (drop (y .1) s)) a n (y .3) in
       rw (l seen .takes s (y .0) (y .1) (y .2), items-takes k (y .0 ∷ seen) (drop (y .1) s) (w .0) (w .1) (w .2), w .3, w .4)
 
   items-refuses : (k : ℕ) (seen : List A) (s : List ℕ) (e : E) (p : ℕ) → readItems item k seen s ≡ refused e p → (readItems loose k seen s ≡ refused e p) ⊎ (e ≡ ends → ⊥)
   unfolding readItems
-  items-refuses zero seen s e p h = never (sym h)
+  items-refuses zero seen s e p h = not-done (sym h)
   items-refuses (suc k) seen s e p h = go (item seen .read s) refl h (λ a n. items-refuses k (a ∷ seen) (drop n s) e)
     where
       out : (q n : ℕ) (a : A) → item seen .read s ≡ done a n → n + q ≡ p → (readItems loose k (a ∷ seen) (drop n s) ≡ refused e q) ⊎ (e ≡ ends → ⊥)
@@ -140,7 +140,7 @@ module _ {E : Type 0} {ends : E} {A : Type 0} (item loose : List A → Format E 
           → ((a : A) (n q : ℕ) → readItems item k (a ∷ seen) (drop n s) ≡ refused e q → (readItems loose k (a ∷ seen) (drop n s) ≡ refused e q) ⊎ (e ≡ ends → ⊥))
           → (bind (loose seen .read s) (more loose k seen s) ≡ refused e p) ⊎ (e ≡ ends → ⊥)
       go (done a n) z g ih =
-          let x = onward-refused n (λ l. a ∷ l) (readItems item k (a ∷ seen) (drop n s)) e p g in
+          let x = shift-refused n (λ l. a ∷ l) (readItems item k (a ∷ seen) (drop n s)) e p g in
           out (x .0) n a z (x .2) (ih a n (x .0) (x .1))
       go (refused e₁ p₁) z g ih = first (l seen .refuses s e p (z ∙ same-refusal g))
 
@@ -150,7 +150,7 @@ module _ {E : Type 0} {ends : E} {A : Type 0} (item loose : List A → Format E 
 
   pub looser-listed : (k : ℕ) → Looser (listed k item) (listed k loose)
   unfolding listed
-  looser-listed k = looser-along _ _ _ _ _ _ (looser-then (number k) (number k) (items item) (items loose) (looser-self (number k)) looser-items) _ _ _ _
+  looser-listed k = looser-iso _ _ _ _ _ _ (looser-then (number k) (number k) (items item) (items loose) (looser-self (number k)) looser-items) _ _ _ _
 
 -- what the stricter one can write, the looser one can
 pub looser-ok : {E : Type 0} {ends : E} {A : Type 0} {f g : Format E ends A} → Looser f g → (a : A) → f .Ok a → g .Ok a
@@ -170,11 +170,11 @@ module _ {E : Type 0} {ends : E} {A : Type 0} {strict loose : Format E ends A} (
 
   stays-by : (t : List ℕ) (r : Read E A) → strict .read (strict .encode a) ≡ r → strict .read (strict .encode a ++ t) ≡ r
   stays-by t (done c n) h = local strict (strict .encode a) t c n bytes h
-  stays-by t (refused e p) h = go (l .refuses (strict .encode a) e p h) (strict .firm (strict .encode a) t e p bytes h)
+  stays-by t (refused e p) h = go (l .refuses (strict .encode a) e p h) (strict .stableRefusal (strict .encode a) t e p bytes h)
     where
       go : (loose .read (strict .encode a) ≡ refused e p) ⊎ (e ≡ ends → ⊥) → (e ≡ ends) ⊎ (strict .read (strict .encode a ++ t) ≡ refused e p)
           → strict .read (strict .encode a ++ t) ≡ refused e p
-      go (inl z) w = never (sym z ∙ alone)
+      go (inl z) w = not-done (sym z ∙ alone)
       go (inr z) (inl w) = absurd (z w)
       go (inr z) (inr w) = w
 
@@ -191,7 +191,7 @@ settled-ok f a ok = settled (looser-self f) a ok
 
 -- what is said of two values, one behind the other: n bytes are the first's
 abbrev pub followed : {E A B C : Type 0} → Read E A → ℕ → (B → C) → Read E B → Read E C
-followed (done a m) n to r = onward n to r
+followed (done a m) n to r = shift n to r
 followed (refused e p) n to r = refused e p
 
 module _ {E : Type 0} {ends : E} {A B : Type 0} (f : Format E ends A) (g : A → Format E ends B) (a : A) (b : B) (w : Settled f a) where
@@ -206,6 +206,6 @@ module _ {E : Type 0} {ends : E} {A B : Type 0} (f : Format E ends A) (g : A →
   unfolding _⨾_
   behind t = rw (w .stays t) (behind-by t (f .read (f .encode a)) refl)
 
-  pub said-then : (f ⨾ g) .read ((f ⨾ g) .encode (pair a b)) ≡ followed (f .read (f .encode a)) (length (f .encode a)) (pair a) (g a .read (g a .encode b))
+  pub verdictOn-then : (f ⨾ g) .read ((f ⨾ g) .encode (pair a b)) ≡ followed (f .read (f .encode a)) (length (f .encode a)) (pair a) (g a .read (g a .encode b))
   unfolding _⨾_
-  said-then = behind (g a .encode b)
+  verdictOn-then = behind (g a .encode b)

@@ -10,10 +10,11 @@ use lib.Dec.{ltb}
 use lib.ListN.{length, getD, drop, drop-of-length-le, length-drop}
 use lib.Seq.{drop-cons, drop-drop}
 use borrow.Author.Tests.{lt-ltb, le-ltb, ltb-true, ltb-false}
-use Rattle.wire.specs.Bytes.{Bytes, spell, bytes-drop}
-use Rattle.wire.specs.Format.{run, along, ends-in}
+use Rattle.wire.specs.Bytes.{Bytes, toBE, bytes-drop}
+use Rattle.wire.specs.Format.{run, iso, ends-in}
 use Rattle.wire.specs.Formats.{number, u64}
-use Rattle.wire.specs.Order.{order, flip, order-flip}
+use Rattle.wire.specs.Order.{order}
+use Rattle.wire.proofs.TotalOrder.{flip, order-flip}
 use Rattle.wire.specs.Told.{short, toldU64}
 use Rattle.wire.specs.declared.fields.U64.the-variants as u64s
 use Rattle.wire.specs.declared.order.Order.the-variants.{Before, Same, After}
@@ -47,36 +48,36 @@ order-front [] u w = refl
 order-front (x ∷ p) u w = rw (le-ltb x x (omega arith)) (order-front p u w)
 
 -- numbers of k bytes are in the order of their bytes
-order-spelt : (k x y : ℕ) (u w : List ℕ) → x < y → y < 256 ^ k → order (spell k x ++ u) (spell k y ++ w) ≡ Before
-order-spelt zero x y u w h l = absurd (omega arith)
-order-spelt (suc k) x y u w h l = go (ltb (x / 256) (y / 256)) refl (order-spelt k (x / 256) (y / 256) (x % 256 ∷ u) (y % 256 ∷ w))
+order-fromBE : (k x y : ℕ) (u w : List ℕ) → x < y → y < 256 ^ k → order (toBE k x ++ u) (toBE k y ++ w) ≡ Before
+order-fromBE zero x y u w h l = absurd (omega arith)
+order-fromBE (suc k) x y u w h l = go (ltb (x / 256) (y / 256)) refl (order-fromBE k (x / 256) (y / 256) (x % 256 ∷ u) (y % 256 ∷ w))
   where
     high : y / 256 < 256 ^ k
     high = let p : y < 256 ^ k * 256 = rw pow-suc at l in omega arith
 
-    apart : order (spell (suc k) x ++ u) (spell (suc k) y ++ w) ≡ order (spell k (x / 256) ++ (x % 256 ∷ u)) (spell k (y / 256) ++ (y % 256 ∷ w))
-    apart = ap₂ order (append-assoc (spell k (x / 256)) (x % 256 ∷ []) u) (append-assoc (spell k (y / 256)) (y % 256 ∷ []) w)
+    apart : order (toBE (suc k) x ++ u) (toBE (suc k) y ++ w) ≡ order (toBE k (x / 256) ++ (x % 256 ∷ u)) (toBE k (y / 256) ++ (y % 256 ∷ w))
+    apart = ap₂ order (append-assoc (toBE k (x / 256)) (x % 256 ∷ []) u) (append-assoc (toBE k (y / 256)) (y % 256 ∷ []) w)
 
     go : (b : Bool) → ltb (x / 256) (y / 256) ≡ b
-        → (x / 256 < y / 256 → y / 256 < 256 ^ k → order (spell k (x / 256) ++ (x % 256 ∷ u)) (spell k (y / 256) ++ (y % 256 ∷ w)) ≡ Before)
-        → order (spell (suc k) x ++ u) (spell (suc k) y ++ w) ≡ Before
+        → (x / 256 < y / 256 → y / 256 < 256 ^ k → order (toBE k (x / 256) ++ (x % 256 ∷ u)) (toBE k (y / 256) ++ (y % 256 ∷ w)) ≡ Before)
+        → order (toBE (suc k) x ++ u) (toBE (suc k) y ++ w) ≡ Before
     go true e ih = apart ∙ ih (ltb-true (x / 256) (y / 256) e) high
     go false e ih =
         let p = ltb-false (x / 256) (y / 256) e in
         let q : x / 256 ≡ y / 256 = omega arith in
         let r : x % 256 < y % 256 = omega arith in
-        let same : order (spell k (x / 256) ++ (x % 256 ∷ u)) (spell k (y / 256) ++ (y % 256 ∷ w)) ≡ order (x % 256 ∷ u) (y % 256 ∷ w) =
-        rw q (order-front (spell k (y / 256)) (x % 256 ∷ u) (y % 256 ∷ w)) in
+        let same : order (toBE k (x / 256) ++ (x % 256 ∷ u)) (toBE k (y / 256) ++ (y % 256 ∷ w)) ≡ order (x % 256 ∷ u) (y % 256 ∷ w) =
+        rw q (order-front (toBE k (y / 256)) (x % 256 ∷ u) (y % 256 ∷ w)) in
         apart ∙ same ∙ rw (lt-ltb (x % 256) (y % 256) r)
 
 -- the number that stands at a place
 pub record Word (a : List ℕ) (i x : ℕ) : Type 0 where
-  pub front : drop i a ≡ spell 8 x ++ drop (i + 8) a
+  pub front : drop i a ≡ toBE 8 x ++ drop (i + 8) a
   pub small : x < 256 ^ 8
   pub inside : i + 8 ≤ length a
 
 pub word-at : (a : List ℕ) (i x : ℕ) → Bytes a → toldU64 (u64s.Value x) ≡ u64 {ends = short} .read (drop i a) → Word a i x
-unfolding number along run
+unfolding number iso run
 word-at a i x b h =
     let k = u64 {ends = short} .backward (drop i a) x 8 (bytes-drop i a b) (sym h) in
     let l : 8 ≤ length (drop i a) = ends-in (u64 {ends = short}) {s = drop i a} (sym h) in
@@ -88,12 +89,12 @@ word-at a i x b h =
 
 module _ {a b : List ℕ} {i x y : ℕ} (p : Word a i x) (q : Word b i y) where
   pub words-less : x < y → order (drop i a) (drop i b) ≡ Before
-  words-less h = rw (p .front, q .front) (order-spelt 8 x y (drop (i + 8) a) (drop (i + 8) b) h (q .small))
+  words-less h = rw (p .front, q .front) (order-fromBE 8 x y (drop (i + 8) a) (drop (i + 8) b) h (q .small))
 
   pub words-more : y < x → order (drop i a) (drop i b) ≡ After
   words-more h =
-      let less : order (drop i b) (drop i a) ≡ Before = rw (p .front, q .front) (order-spelt 8 y x (drop (i + 8) b) (drop (i + 8) a) h (p .small)) in
+      let less : order (drop i b) (drop i a) ≡ Before = rw (p .front, q .front) (order-fromBE 8 y x (drop (i + 8) b) (drop (i + 8) a) h (p .small)) in
       order-flip (drop i b) (drop i a) ∙ ap flip less
 
   pub words-on : y ≤ x → x ≤ y → order (drop i a) (drop i b) ≡ order (drop (i + 8) a) (drop (i + 8) b)
-  words-on h k = let e : x ≡ y = omega arith in rw (p .front, q .front, e) (order-front (spell 8 y) (drop (i + 8) a) (drop (i + 8) b))
+  words-on h k = let e : x ≡ y = omega arith in rw (p .front, q .front, e) (order-front (toBE 8 y) (drop (i + 8) a) (drop (i + 8) b))

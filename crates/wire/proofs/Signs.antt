@@ -12,7 +12,7 @@ use mir.Val.{Fits, SFits, hbits, toZ, ofZ}
 use mir.ValLaws.{toZ-ofZ, toZ-pos}
 use borrow.Author.Tests.{lt-ltb, le-ltb, leb-false}
 use Rattle.wire.specs.Choice.{no-true}
-use Rattle.wire.specs.Ints.{int-equal, minus-is}
+use Rattle.wire.proofs.Ints.{int-equal, minus-is}
 use Rattle.wire.specs.Formats.{signedOf, unsignedOf, unsigned-signed}
 
 -- -1 less m

@@ -13,14 +13,14 @@ abbrev pub Bytes : List ℕ → Type 0
 Bytes s = (i : ℕ) → getD s i 0 < 256
 
 -- v in k bytes
-abbrev pub spell : ℕ → ℕ → List ℕ
-spell zero v = []
-spell (suc k) v = spell k (v / 256) ++ v % 256 ∷ []
+abbrev pub toBE : ℕ → ℕ → List ℕ
+toBE zero v = []
+toBE (suc k) v = toBE k (v / 256) ++ v % 256 ∷ []
 
 -- the number that bytes spell, after the digits of v
-abbrev pub spelt : ℕ → List ℕ → ℕ
-spelt v [] = v
-spelt v (b ∷ l) = spelt (v * 256 + b) l
+abbrev pub fromBE : ℕ → List ℕ → ℕ
+fromBE v [] = v
+fromBE v (b ∷ l) = fromBE (v * 256 + b) l
 
 -- ---- lists of bytes
 pub bytes-nil : Bytes []
@@ -45,45 +45,45 @@ bytes-take (suc n) (x ∷ s) b zero = b zero
 bytes-take (suc n) (x ∷ s) b (suc i) = bytes-take n s (λ j. b (suc j)) i
 
 -- ---- numbers
-pub spell-length : (k v : ℕ) → length (spell k v) ≡ k
-spell-length zero v = refl
-spell-length (suc k) v = rw (length-append, spell-length k (v / 256)) (omega arith)
+pub toBE-length : (k v : ℕ) → length (toBE k v) ≡ k
+toBE-length zero v = refl
+toBE-length (suc k) v = rw (length-append, toBE-length k (v / 256)) (omega arith)
 
-pub spell-bytes : (k v : ℕ) → Bytes (spell k v)
-spell-bytes zero v = bytes-nil
-spell-bytes (suc k) v = bytes-append (spell k (v / 256)) (v % 256 ∷ []) (spell-bytes k (v / 256)) (bytes-cons (v % 256) [] (mod-lt v (lit< tt)) bytes-nil)
+pub toBE-bytes : (k v : ℕ) → Bytes (toBE k v)
+toBE-bytes zero v = bytes-nil
+toBE-bytes (suc k) v = bytes-append (toBE k (v / 256)) (v % 256 ∷ []) (toBE-bytes k (v / 256)) (bytes-cons (v % 256) [] (mod-lt v (lit< tt)) bytes-nil)
 
-pub spelt-last : (v : ℕ) (l : List ℕ) (b : ℕ) → spelt v (l ++ b ∷ []) ≡ spelt v l * 256 + b
-spelt-last v [] b = refl
-spelt-last v (x ∷ l) b = spelt-last (v * 256 + x) l b
+pub fromBE-last : (v : ℕ) (l : List ℕ) (b : ℕ) → fromBE v (l ++ b ∷ []) ≡ fromBE v l * 256 + b
+fromBE-last v [] b = refl
+fromBE-last v (x ∷ l) b = fromBE-last (v * 256 + x) l b
 
 -- what is written in k bytes is read back
-pub spelt-spell : (k v : ℕ) → v < 256 ^ k → spelt 0 (spell k v) ≡ v
-spelt-spell zero v h = omega arith
-spelt-spell (suc k) v h =
+pub fromBE-toBE : (k v : ℕ) → v < 256 ^ k → fromBE 0 (toBE k v) ≡ v
+fromBE-toBE zero v h = omega arith
+fromBE-toBE (suc k) v h =
     let p : v < 256 ^ k * 256 = rw pow-suc at h in
-    rw (spelt-last 0 (spell k (v / 256)) (v % 256), spelt-spell k (v / 256) (omega arith)) (omega arith)
+    rw (fromBE-last 0 (toBE k (v / 256)) (v % 256), fromBE-toBE k (v / 256) (omega arith)) (omega arith)
 
 -- the last of k + 1 bytes
 module _ (k : ℕ) (l : List ℕ) (h : length l ≡ suc k) where
   last-apart : l ≡ take k l ++ getD l k 0 ∷ []
   last-apart = sym (take-all (suc k) l (omega arith)) ∙ take-suc l k 0 (omega arith)
 
-  spelt-apart : spelt 0 l ≡ spelt 0 (take k l) * 256 + getD l k 0
-  spelt-apart = ap (spelt 0) last-apart ∙ spelt-last 0 (take k l) (getD l k 0)
+  fromBE-apart : fromBE 0 l ≡ fromBE 0 (take k l) * 256 + getD l k 0
+  fromBE-apart = ap (fromBE 0) last-apart ∙ fromBE-last 0 (take k l) (getD l k 0)
 
 -- k bytes are those of the number that they spell
-pub spell-spelt : (k : ℕ) (l : List ℕ) → length l ≡ k → Bytes l → spell k (spelt 0 l) ≡ l
-spell-spelt zero [] h b = refl
-spell-spelt zero (x ∷ l) h b = absurd (omega arith)
-spell-spelt (suc k) l h b =
-    let low : spelt 0 l % 256 ≡ getD l k 0 = omega (arith, spelt-apart k l h, b k) in
-    let high : spelt 0 l / 256 ≡ spelt 0 (take k l) = omega (arith, spelt-apart k l h, b k) in
-    rw (high, low, spell-spelt k (take k l) (length-take-le k l (omega arith)) (bytes-take k l b)) (sym (last-apart k l h))
+pub toBE-fromBE : (k : ℕ) (l : List ℕ) → length l ≡ k → Bytes l → toBE k (fromBE 0 l) ≡ l
+toBE-fromBE zero [] h b = refl
+toBE-fromBE zero (x ∷ l) h b = absurd (omega arith)
+toBE-fromBE (suc k) l h b =
+    let low : fromBE 0 l % 256 ≡ getD l k 0 = omega (arith, fromBE-apart k l h, b k) in
+    let high : fromBE 0 l / 256 ≡ fromBE 0 (take k l) = omega (arith, fromBE-apart k l h, b k) in
+    rw (high, low, toBE-fromBE k (take k l) (length-take-le k l (omega arith)) (bytes-take k l b)) (sym (last-apart k l h))
 
-pub spelt-below : (k : ℕ) (l : List ℕ) → length l ≡ k → Bytes l → spelt 0 l < 256 ^ k
-spelt-below zero [] h b = lit< tt
-spelt-below zero (x ∷ l) h b = absurd (omega arith)
-spelt-below (suc k) l h b =
-    let less = spelt-below k (take k l) (length-take-le k l (omega arith)) (bytes-take k l b) in
-    rw pow-suc (omega (arith, spelt-apart k l h, b k))
+pub fromBE-below : (k : ℕ) (l : List ℕ) → length l ≡ k → Bytes l → fromBE 0 l < 256 ^ k
+fromBE-below zero [] h b = lit< tt
+fromBE-below zero (x ∷ l) h b = absurd (omega arith)
+fromBE-below (suc k) l h b =
+    let less = fromBE-below k (take k l) (length-take-le k l (omega arith)) (bytes-take k l b) in
+    rw pow-suc (omega (arith, fromBE-apart k l h, b k))

@@ -18,6 +18,6 @@ pub record EveryFormat {E : Type 0} {ends : E} {A : Type 0} (f : Format E ends A
   -- bytes behind what was read change nothing
   pub local : (s t : List ℕ) (a : A) (n : ℕ) → Bytes s → f .read s ≡ done a n → f .read (s ++ t) ≡ done a n
   -- nor do bytes behind a refusal, unless it was for want of bytes
-  pub firm : (s t : List ℕ) (e : E) (p : ℕ) → Bytes s → f .read s ≡ refused e p → (e ≡ ends) ⊎ (f .read (s ++ t) ≡ refused e p)
+  pub stableRefusal : (s t : List ℕ) (e : E) (p : ℕ) → Bytes s → f .read s ≡ refused e p → (e ≡ ends) ⊎ (f .read (s ++ t) ≡ refused e p)
   -- no value's bytes begin another's
   pub prefix-free : (a b : A) (t u : List ℕ) → f .Ok a → f .Ok b → f .encode a ++ t ≡ f .encode b ++ u → a ≡ b

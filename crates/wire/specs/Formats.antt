@@ -19,22 +19,22 @@ use lib.IntN.{ℤ, pos, negsuc}
 use lib.Signed.{mag}
 use lib.ListN.{length}
 use borrow.Author.Tests.{eqb-true, lt-ltb, le-ltb, ltb-true, ltb-false}
-use Rattle.wire.specs.Bytes.{Bytes, spell, spelt, spell-length, spell-bytes, spelt-spell, spell-spelt, spelt-below}
+use Rattle.wire.specs.Bytes.{Bytes, toBE, fromBE, toBE-length, toBE-bytes, fromBE-toBE, toBE-fromBE, fromBE-below}
 use Rattle.wire.specs.Marks.{starts, starts-whole}
-use Rattle.wire.specs.Format.{Format, run, nothing, such, _⨾_, along, items, items-length, pair}
+use Rattle.wire.specs.Format.{Format, run, nothing, refine, _⨾_, iso, items, items-length, pair}
 
 -- ---- numbers
-pub number-there : {E : Type 0} (ends : E) (k v : ℕ) → v < 256 ^ k → run {ends = ends} k .Ok (spell k v) × (spelt 0 (spell k v) ≡ v)
+pub number-there : {E : Type 0} (ends : E) (k v : ℕ) → v < 256 ^ k → run {ends = ends} k .Ok (toBE k v) × (fromBE 0 (toBE k v) ≡ v)
 unfolding run
-number-there ends k v h = ((spell-length k v, spell-bytes k v), spelt-spell k v h)
+number-there ends k v h = ((toBE-length k v, toBE-bytes k v), fromBE-toBE k v h)
 
-pub number-back : {E : Type 0} (ends : E) (k : ℕ) (l : List ℕ) → run {ends = ends} k .Ok l → (spelt 0 l < 256 ^ k) × (spell k (spelt 0 l) ≡ l)
+pub number-back : {E : Type 0} (ends : E) (k : ℕ) (l : List ℕ) → run {ends = ends} k .Ok l → (fromBE 0 l < 256 ^ k) × (toBE k (fromBE 0 l) ≡ l)
 unfolding run
-number-back ends k l h = (spelt-below k l (h .0) (h .1), spell-spelt k l (h .0) (h .1))
+number-back ends k l h = (fromBE-below k l (h .0) (h .1), toBE-fromBE k l (h .0) (h .1))
 
 -- a number of k bytes
 unfoldable pub number : {E : Type 0} {ends : E} → ℕ → Format E ends ℕ
-number {ends = ends} k = along (λ v. v < 256 ^ k) (spelt 0) (spell k) (run k) (number-there ends k) (number-back ends k)
+number {ends = ends} k = iso (λ v. v < 256 ^ k) (fromBE 0) (toBE k) (run k) (number-there ends k) (number-back ends k)
 
 abbrev pub u8 : {E : Type 0} {ends : E} → Format E ends ℕ
 u8 = number 1
@@ -76,16 +76,16 @@ unsigned-signed half n h = go (ltb n half) refl
 
 module _ {E : Type 0} (ends : E) (k half : ℕ) (e : 256 ^ k ≡ half + half) where
   pub signed-there : (z : ℤ) → mag z < half → number {ends = ends} k .Ok (unsignedOf half z) × (signedOf half (unsignedOf half z) ≡ z)
-  unfolding number along
+  unfolding number iso
   signed-there z h = (rw e (unsigned-below half z h), signed-unsigned half z h)
 
   pub signed-back : (n : ℕ) → number {ends = ends} k .Ok n → (mag (signedOf half n) < half) × (unsignedOf half (signedOf half n) ≡ n)
-  unfolding number along
+  unfolding number iso
   signed-back n h = unsigned-signed half n (rw e at h)
 
 -- a signed number of k bytes, which hold 2·half numbers: -half to half - 1
 unfoldable pub signed : {E : Type 0} {ends : E} (k half : ℕ) → 256 ^ k ≡ half + half → Format E ends ℤ
-signed {ends = ends} k half e = along (λ z. mag z < half) (signedOf half) (unsignedOf half) (number k) (signed-there ends k half e) (signed-back ends k half e)
+signed {ends = ends} k half e = iso (λ z. mag z < half) (signedOf half) (unsignedOf half) (number k) (signed-there ends k half e) (signed-back ends k half e)
 
 abbrev pub half32 : ℕ
 half32 = 2147483648
@@ -116,56 +116,56 @@ module _ {E : Type 0} {ends : E} {A B : Type 0} (g : Format E ends A) (v : A) (f
 
 -- g, which has the one value v, then f
 unfoldable pub behind : {E : Type 0} {ends : E} {A B : Type 0} (g : Format E ends A) (v : A) → ((a : A) → g .Ok a → v ≡ a) → Format E ends B → Format E ends B
-behind {A = A} {B = B} g v only f = along (λ b. g .Ok v × f .Ok b) (λ (x : A × B). x .1) (pair v) (g ▹ f) (behind-there g v f) (behind-back g v f only)
+behind {A = A} {B = B} g v only f = iso (λ b. g .Ok v × f .Ok b) (λ (x : A × B). x .1) (pair v) (g ▹ f) (behind-there g v f) (behind-back g v f only)
 
-pub fixed-only : {E : Type 0} (ends : E) (k v : ℕ) (e : E) (n : ℕ) → such (λ n. eqb n v) e (number {ends = ends} k) .Ok n → v ≡ n
-unfolding such
+pub fixed-only : {E : Type 0} (ends : E) (k v : ℕ) (e : E) (n : ℕ) → refine (λ n. eqb n v) e (number {ends = ends} k) .Ok n → v ≡ n
+unfolding refine
 fixed-only ends k v e n h = sym (eqb-true n v (h .1))
 
 -- the number v in k bytes, else the fault e; then f
 abbrev pub fixed : {E : Type 0} {ends : E} {A : Type 0} → ℕ → ℕ → E → Format E ends A → Format E ends A
-fixed {ends = ends} k v e f = behind (such (λ n. eqb n v) e (number k)) v (fixed-only ends k v e) f
+fixed {ends = ends} k v e f = behind (refine (λ n. eqb n v) e (number k)) v (fixed-only ends k v e) f
 
-pub mark-only : {E : Type 0} (ends : E) (m : List ℕ) (e : E) (l : List ℕ) → such (starts m) e (run {ends = ends} (length m)) .Ok l → m ≡ l
-unfolding such run
+pub mark-only : {E : Type 0} (ends : E) (m : List ℕ) (e : E) (l : List ℕ) → refine (starts m) e (run {ends = ends} (length m)) .Ok l → m ≡ l
+unfolding refine run
 mark-only ends m e l h = starts-whole m l (h .1) (h .0 .0)
 
 -- the bytes of the mark m, else the fault e; then f
 abbrev pub mark : {E : Type 0} {ends : E} {A : Type 0} → List ℕ → E → Format E ends A → Format E ends A
-mark {ends = ends} m e f = behind (such (starts m) e (run (length m))) m (mark-only ends m e) f
+mark {ends = ends} m e f = behind (refine (starts m) e (run (length m))) m (mark-only ends m e) f
 
 -- ---- counted runs and lists
 module _ {E : Type 0} (ends : E) (k : ℕ) where
-  pub counted-there : (l : List ℕ) → (length l < 256 ^ k) × Bytes l → (number {ends = ends} k ⨾ run) .Ok (pair (length l) l) × (l ≡ l)
-  unfolding _⨾_ run number along
-  counted-there l h = ((h .0, (refl, h .1)), refl)
+  pub prefixed-there : (l : List ℕ) → (length l < 256 ^ k) × Bytes l → (number {ends = ends} k ⨾ run) .Ok (pair (length l) l) × (l ≡ l)
+  unfolding _⨾_ run number iso
+  prefixed-there l h = ((h .0, (refl, h .1)), refl)
 
-  pub counted-back : (x : ℕ × List ℕ) → (number {ends = ends} k ⨾ run) .Ok x → ((length (x .1) < 256 ^ k) × Bytes (x .1)) × (pair (length (x .1)) (x .1) ≡ x)
-  unfolding _⨾_ run number along
-  counted-back x h = let e = h .1 .0 in ((rw e (h .0), h .1 .1), ap (λ (n : ℕ). pair n (x .1)) e)
+  pub prefixed-back : (x : ℕ × List ℕ) → (number {ends = ends} k ⨾ run) .Ok x → ((length (x .1) < 256 ^ k) × Bytes (x .1)) × (pair (length (x .1)) (x .1) ≡ x)
+  unfolding _⨾_ run number iso
+  prefixed-back x h = let e = h .1 .0 in ((rw e (h .0), h .1 .1), ap (λ (n : ℕ). pair n (x .1)) e)
 
 -- a length of k bytes, and then so many bytes
-unfoldable pub counted : {E : Type 0} {ends : E} → ℕ → Format E ends (List ℕ)
-counted {ends = ends} k =
-    along (λ l. (length l < 256 ^ k) × Bytes l) (λ (x : ℕ × List ℕ). x .1) (λ l. pair (length l) l) (number k ⨾ run) (counted-there ends k) (counted-back ends k)
+unfoldable pub prefixed : {E : Type 0} {ends : E} → ℕ → Format E ends (List ℕ)
+prefixed {ends = ends} k =
+    iso (λ l. (length l < 256 ^ k) × Bytes l) (λ (x : ℕ × List ℕ). x .1) (λ l. pair (length l) l) (number k ⨾ run) (prefixed-there ends k) (prefixed-back ends k)
 
 module _ {E : Type 0} {ends : E} {A : Type 0} (k : ℕ) (item : List A → Format E ends A) where
   abbrev pub OkListed : List A → Type 0
   OkListed l = (length l < 256 ^ k) × items item (length l) .Ok l
 
   pub listed-there : (l : List A) → OkListed l → (number k ⨾ items item) .Ok (pair (length l) l) × (l ≡ l)
-  unfolding _⨾_ number along
+  unfolding _⨾_ number iso
   listed-there l h = (h, refl)
 
   pub listed-back : (x : ℕ × List A) → (number k ⨾ items item) .Ok x → OkListed (x .1) × (pair (length (x .1)) (x .1) ≡ x)
-  unfolding _⨾_ number along items
+  unfolding _⨾_ number iso items
   listed-back x h =
       let e : length (x .1) ≡ x .0 = items-length item (x .0) [] (x .1) (h .1) in
       (rw e (h .0, h .1), ap (λ (n : ℕ). pair n (x .1)) e)
 
 -- a count of k bytes, and then so many items, each told those before it, the last one first
 unfoldable pub listed : {E : Type 0} {ends : E} {A : Type 0} → ℕ → (List A → Format E ends A) → Format E ends (List A)
-listed {A = A} k item = along (OkListed k item) (λ (x : ℕ × List A). x .1) (λ l. pair (length l) l) (number k ⨾ items item) (listed-there k item) (listed-back k item)
+listed {A = A} k item = iso (OkListed k item) (λ (x : ℕ × List A). x .1) (λ l. pair (length l) l) (number k ⨾ items item) (listed-there k item) (listed-back k item)
 
 -- n of the same
 abbrev pub times : {E : Type 0} {ends : E} {A : Type 0} → ℕ → Format E ends A → Format E ends (List A)
@@ -198,4 +198,4 @@ pub record Shape (A B : Type 0) : Type 0 where
 
 -- the same bytes, as the record
 abbrev pub into : {E : Type 0} {ends : E} {A B : Type 0} → Shape A B → Format E ends A → Format E ends B
-into k f = along (λ b. f .Ok (k .parts b)) (k .make) (k .parts) f (λ b h. (h, k .there b)) (λ a h. (subst⁻¹ (f .Ok) (k .back a) h, k .back a))
+into k f = iso (λ b. f .Ok (k .parts b)) (k .make) (k .parts) f (λ b h. (h, k .there b)) (λ a h. (subst⁻¹ (f .Ok) (k .back a) h, k .back a))

@@ -1,9 +1,7 @@
 -- Where a part of a caller's bytes lies: document 01, 'Reading, looking, writing', "comes back as a part of the caller's block" and "as the very
 -- bytes in the caller's block". The pointer of a reference is an allocation and an offset in it.
 use Prim.Native.Nat.{ℕ, _+_}
-use mathlib.Core.Path.{_≡_, ap}
 use mathlib.Core.List.{List}
-use native.Mathlib.Omega.{arith}
 use denote.Ref.{RefT, ptr}
 use Rattle.wire.specs.Answer.{Answer, good, refusal}
 
@@ -15,12 +13,3 @@ placeIn s n = (ptr s .0, ptr s .1 + n)
 abbrev pub startTold : {A : Type 0} → (A → ℕ) → Answer A → ℕ
 startTold start (good a) = start a
 startTold start (refusal n r o) = 0
-
--- ---- laws
-module _ (s : RefT (List ℕ)) where
-  -- the place as a part of s has it
-  pub place-is : {n m : ℕ} → n ≡ m → (ptr s .0, n + ptr s .1) ≡ placeIn s m
-  place-is {n} {m} e = let h : n + ptr s .1 ≡ ptr s .1 + m = omega (arith, e) in ap (λ (o : ℕ). (ptr s .0, o)) h
-
-  pub place-first : {n : ℕ} → 0 ≡ n → ptr s ≡ placeIn s n
-  place-first {n} e = let h : ptr s .1 ≡ ptr s .1 + n = omega (arith, e) in ap (λ (o : ℕ). (ptr s .0, o)) h

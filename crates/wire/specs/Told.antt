@@ -20,8 +20,8 @@ use Rattle.wire.specs.declared.fields.S32.{S32}
 use Rattle.wire.specs.declared.fields.S32.the-variants as s32
 use Rattle.wire.specs.declared.fields.S64.{S64}
 use Rattle.wire.specs.declared.fields.S64.the-variants as s64
-use Rattle.wire.specs.declared.fields.Counted.{Counted}
-use Rattle.wire.specs.declared.fields.Counted.the-variants as run
+use Rattle.wire.specs.declared.fields.Run.{Run}
+use Rattle.wire.specs.declared.fields.Run.the-variants as run
 use Rattle.wire.specs.declared.heads.HeadRead.{HeadRead}
 use Rattle.wire.specs.declared.heads.HeadRead.the-variants as heads
 
@@ -57,9 +57,9 @@ toldS64 (s64.Value z) = done z 8
 toldS64 s64.Ends = refused short 0
 
 -- a run at the front of s, behind its length of k bytes
-abbrev pub toldCounted : ℕ → List ℕ → Counted → Read Short (List ℕ)
-toldCounted k s (run.Bytes n) = done (take n (drop k s)) (k + n)
-toldCounted k s (run.Ends p) = refused short p
+abbrev pub toldRun : ℕ → List ℕ → Run → Read Short (List ℕ)
+toldRun k s (run.Bytes n) = done (take n (drop k s)) (k + n)
+toldRun k s (run.Ends p) = refused short p
 
 -- the number of k bytes at the front of s, and its range
 abbrev pub Below : ℕ → U64 → Type 0
@@ -72,5 +72,5 @@ pub record NumberAt (k : ℕ) (s : List ℕ) (r : U64) : Type 0 where
 
 -- the number that a head states and where the head ends; of what is no head no place is told
 abbrev pub toldHead : HeadRead → Option (ℕ × ℕ)
-toldHead (heads.Number n) = some (n, headLength)
+toldHead (heads.Count n) = some (n, headLength)
 toldHead heads.Malformed = none

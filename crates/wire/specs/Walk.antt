@@ -1,10 +1,10 @@
 -- Rows taken from the front of a part: document 01, 'Reading, looking, writing', "the rows behind a row are handed on as what remains".
 use Prim.Native.Nat.{ℕ, zero, suc}
-use mathlib.Core.Path.{_≡_, refl, ap, ap₂}
+use mathlib.Core.Path.{_≡_}
 use mathlib.Core.List.{List, [], _∷_, _++_, map}
 use lib.ListN.{length, drop}
 use Rattle.wire.specs.Read.{Read, done, refused}
-use Rattle.wire.specs.Answer.{Answer, good, plain, partOf, noSuch}
+use Rattle.wire.specs.Answer.{Answer, good, plain, bytesOf, noSuch}
 
 -- the rows that can be read from the front, each by itself, at most k
 abbrev pub rowThen : {E A : Type 0} → Read E A → (ℕ → List A) → List A
@@ -17,7 +17,7 @@ rowsRead read (suc k) s = rowThen (read s) (λ n. rowsRead read k (drop n s))
 
 -- the rows behind the front row, which are handed on as what remains; none when the question for it is refused
 abbrev pub rowsBehind : {A : Type 0} → List ℕ → Answer (A × ℕ) → List ℕ
-rowsBehind {A} s a = partOf (λ (x : A × ℕ). drop (x .1) s) a
+rowsBehind {A} s a = bytesOf (λ (x : A × ℕ). drop (x .1) s) a
 
 -- What a caller sees who looks n times at a part: at the part itself, and then each time at what remains behind the row before.
 unfoldable pub walk : {A : Type 0} → (List ℕ → List ℕ) → (List ℕ → A) → ℕ → List ℕ → List A
@@ -28,20 +28,3 @@ walk behind look (suc n) s = look s ∷ walk behind look n (behind s)
 -- other, and then 16.
 abbrev pub GivesRows : {A B : Type 0} → (List ℕ → Answer (B × ℕ)) → (A → B × ℕ) → List ℕ → List A → Type 0
 GivesRows {A} ask shown s rows = walk (λ p. rowsBehind p (ask p)) ask (suc (length rows)) s ≡ map (λ (r : A). good (shown r)) rows ++ plain noSuch ∷ []
-
--- ---- laws
--- `Held s l` says that the part s holds the rows l and nothing else.
-module _ {A B : Type 0} (Held : List ℕ → List A → Type 0) (behind : List ℕ → List ℕ) (look : List ℕ → B) (shown : A → B)
-    (nothing : (s : List ℕ) → Held s [] → s ≡ [])
-    (front : (s : List ℕ) (a : A) (l : List A) → Held s (a ∷ l) → look s ≡ shown a)
-    (rest : (s : List ℕ) (a : A) (l : List A) → Held s (a ∷ l) → Held (behind s) l) where
-  pub walk-rows : (s : List ℕ) (l : List A) → Held s l → walk behind look (length l) s ≡ map shown l
-  unfolding walk
-  walk-rows s [] h = refl
-  walk-rows s (a ∷ l) h = ap₂ (λ (x : B) (y : List B). x ∷ y) (front s a l h) (walk-rows (behind s) l (rest s a l h))
-
-  -- and what is seen behind the last
-  pub walk-ends : (s : List ℕ) (l : List A) → Held s l → walk behind look (suc (length l)) s ≡ map shown l ++ look [] ∷ []
-  unfolding walk
-  walk-ends s [] h = ap (λ (t : List ℕ). look t ∷ []) (nothing s h)
-  walk-ends s (a ∷ l) h = ap₂ (λ (x : B) (y : List B). x ∷ y) (front s a l h) (walk-ends (behind s) l (rest s a l h))

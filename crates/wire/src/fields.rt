@@ -2,8 +2,8 @@
 ghost use mathlib.Core.Path.{_≡_};
 ghost use Prim.Native.Nat.{_+_, _^_, _<_, _≤_};
 ghost use lib.ListN.{drop};
-ghost use Rattle.wire.specs.Formats.{u8, u16, u32, u64, s32, s64, counted, signedOf};
-ghost use Rattle.wire.specs.Told.{short, toldU8, toldU16, toldU32, toldU64, toldS32, toldS64, toldCounted, NumberAt};
+ghost use Rattle.wire.specs.Formats.{u8, u16, u32, u64, s32, s64, prefixed, signedOf};
+ghost use Rattle.wire.specs.Told.{short, toldU8, toldU16, toldU32, toldU64, toldS32, toldS64, toldRun, NumberAt};
 
 // Half of what 32 and 64 bits hold: from here on a number stands for a negative one.
 const HALF_32: u64 = 2147483648;
@@ -42,7 +42,7 @@ pub enum S64 {
 }
 
 // A run of bytes behind its length: how many bytes it has, or the place in the field at which the bytes end.
-pub enum Counted {
+pub enum Run {
     Bytes(usize),
     Ends(usize),
 }
@@ -140,33 +140,33 @@ pub fn s64_at(s: &[u8], at: usize) -> S64
 }
 
 // A run behind its length of k bytes.
-fn counted_at(s: &[u8], at: usize, k: usize) -> Counted
+fn run_at(s: &[u8], at: usize, k: usize) -> Run
     requires { ⌜ (0 < k) × (k ≤ 8) ⌝ }
-    ensures { λ r. ⌜ toldCounted k (drop at (now (s .entry))) r ≡ counted {ends = short} k .read (drop at (now (s .entry))) ⌝ }
+    ensures { λ r. ⌜ toldRun k (drop at (now (s .entry))) r ≡ prefixed {ends = short} k .read (drop at (now (s .entry))) ⌝ }
 {
     match number_at(s, at, k) {
-        U64::Ends => Counted::Ends(0),
+        U64::Ends => Run::Ends(0),
         U64::Value(v) => {
             let n = v as usize;
             if s.len() - at - k < n {
-                Counted::Ends(k)
+                Run::Ends(k)
             } else {
-                Counted::Bytes(n)
+                Run::Bytes(n)
             }
         }
     }
 }
 
 // A run behind a u16 length.
-pub fn counted16_at(s: &[u8], at: usize) -> Counted
-    ensures { λ r. ⌜ toldCounted 2 (drop at (now (s .entry))) r ≡ counted {ends = short} 2 .read (drop at (now (s .entry))) ⌝ }
+pub fn run16_at(s: &[u8], at: usize) -> Run
+    ensures { λ r. ⌜ toldRun 2 (drop at (now (s .entry))) r ≡ prefixed {ends = short} 2 .read (drop at (now (s .entry))) ⌝ }
 {
-    counted_at(s, at, 2)
+    run_at(s, at, 2)
 }
 
 // A run behind a u32 length.
-pub fn counted32_at(s: &[u8], at: usize) -> Counted
-    ensures { λ r. ⌜ toldCounted 4 (drop at (now (s .entry))) r ≡ counted {ends = short} 4 .read (drop at (now (s .entry))) ⌝ }
+pub fn run32_at(s: &[u8], at: usize) -> Run
+    ensures { λ r. ⌜ toldRun 4 (drop at (now (s .entry))) r ≡ prefixed {ends = short} 4 .read (drop at (now (s .entry))) ⌝ }
 {
-    counted_at(s, at, 4)
+    run_at(s, at, 4)
 }

@@ -8,7 +8,7 @@ use crate::store::put_bytes;
 use crate::store::put_u16;
 use crate::store::put_u32;
 ghost use mathlib.Core.Path.{_≡_};
-ghost use Rattle.wire.specs.Read.{found};
+ghost use Rattle.wire.specs.Read.{toOption};
 ghost use Rattle.wire.specs.Formats.{head};
 ghost use Rattle.wire.specs.Store.{stored};
 ghost use Rattle.wire.specs.Told.{short, toldHead};
@@ -18,19 +18,19 @@ pub const VERSION: u16 = 1;
 // Where the parts of a head stand, and where it ends.
 pub const VERSION_AT: usize = 3;
 
-pub const NUMBER_AT: usize = 5;
+pub const COUNT_AT: usize = 5;
 
-pub const HEAD: usize = 9;
+pub const HEAD_LENGTH: usize = 9;
 
 // The number that a head states, or that there is no head.
 pub enum HeadRead {
-    Number(u32),
+    Count(u32),
     Malformed,
 }
 
 // The number that the head with this mark states.
 pub fn read_head(s: &[u8], mark: &[u8; 3]) -> HeadRead
-    ensures { λ r. ⌜ toldHead r ≡ found (head {ends = short} (now (mark .entry)) .read (now (s .entry))) ⌝ }
+    ensures { λ r. ⌜ toldHead r ≡ toOption (head {ends = short} (now (mark .entry)) .read (now (s .entry))) ⌝ }
 {
     if !mark_at(s, 0, mark) {
         return HeadRead::Malformed;
@@ -41,8 +41,8 @@ pub fn read_head(s: &[u8], mark: &[u8; 3]) -> HeadRead
     if version != VERSION {
         return HeadRead::Malformed;
     }
-    match u32_at(s, NUMBER_AT) {
-        U32::Value(number) => HeadRead::Number(number),
+    match u32_at(s, COUNT_AT) {
+        U32::Value(number) => HeadRead::Count(number),
         U32::Ends => HeadRead::Malformed,
     }
 }
@@ -53,10 +53,10 @@ pub fn put_head(out: &mut [u8], mark: &[u8; 3], number: u32)
 {
     // A slice of an array tells proofs its length.
     let bytes: &[u8] = mark;
-    if out.len() < HEAD {
+    if out.len() < HEAD_LENGTH {
         return;
     }
     put_bytes(out, 0, bytes);
     put_u16(out, VERSION_AT, VERSION);
-    put_u32(out, NUMBER_AT, number);
+    put_u32(out, COUNT_AT, number);
 }

@@ -3,4 +3,5 @@ pub mod fields;
 pub mod heads;
 pub mod marks;
 pub mod order;
+pub mod ranges;
 pub mod store;

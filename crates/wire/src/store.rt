@@ -3,14 +3,14 @@ use crate::fields::HALF_64;
 ghost use mathlib.Core.Path.{_≡_};
 ghost use Prim.Native.Nat.{_≤_, _<_, _^_};
 ghost use lib.Signed.{mag};
-ghost use Rattle.wire.specs.Bytes.{spell};
+ghost use Rattle.wire.specs.Bytes.{toBE};
 ghost use Rattle.wire.specs.Formats.{u8, u16, u32, u64, s64, unsignedOf};
 ghost use Rattle.wire.specs.Store.{stored, movedBack};
 ghost use Rattle.wire.specs.Told.{short};
 
 // The number v in k bytes, the last byte first: one loop for every width.
 fn put_number(out: &mut [u8], at: usize, k: usize, v: u64)
-    ensures { λ _. ⌜ now (out .exit) ≡ stored at (spell k v) (now (out .entry)) ⌝ }
+    ensures { λ _. ⌜ now (out .exit) ≡ stored at (toBE k v) (now (out .entry)) ⌝ }
 {
     if out.len() < at {
         return;

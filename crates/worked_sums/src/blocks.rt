@@ -1,10 +1,10 @@
 // The blocks of the sums.
+use block_writer::write::WriteAnswer;
+use block_writer::write::write;
 use mapblock::head::Head;
-use mapblock::head::Part;
-use mapblock::head::cut;
 use mapblock::nodes::NODES;
-use writer::write::WriteAnswer;
-use writer::write::write;
+use wire::ranges::Range;
+use wire::ranges::slice_of;
 ghost use Prim.Native.Nat.{_≤_};
 ghost use lib.ListN.{length};
 
@@ -56,9 +56,9 @@ pub(crate) fn put_block(head: Head, nodes: Nodes, names: &[u8], out: &mut [u8]) 
 
 // The first n bytes of a buffer.
 pub(crate) fn front(s: &[u8], n: usize) -> &[u8] {
-    cut(
+    slice_of(
         s,
-        Part {
+        Range {
             start: 0,
             length: n,
         },

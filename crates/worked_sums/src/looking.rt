@@ -11,6 +11,8 @@ use crate::printing::say_number;
 use crate::printing::say_text;
 use crate::printing::say_verdict;
 use anowhetele::metering::anow_tally_block;
+use block_writer::write::WriteAnswer;
+use block_writer::write::write;
 use mapblock::node::node_name;
 use mapblock::nodes::NODES;
 use mapblock::read::metadata_section;
@@ -29,16 +31,14 @@ use mapblock::row_questions::object_content_of;
 use position::key::Coordinates;
 use position::lot::Lot;
 use position::lot::LotAnswer;
-use position::node::NodeAnswer;
-use position::node::node;
+use position::node::NodeCoordinatesAnswer;
+use position::node::node_coordinates;
 use position::span::Span;
 use position::span::SpanAnswer;
 use tally::check::rows_of;
 use tally::rows::RowAnswer;
 use tally::rows::behind_row;
 use tally::rows::row_of;
-use writer::write::WriteAnswer;
-use writer::write::write;
 
 // Two names, a static object and a timer.
 const NAMES: [u8; 16] = *b"\x00\x00\x00\x03air\x00\x01\x00\x05stone";
@@ -172,16 +172,16 @@ fn tally_rows(block: &[u8]) {
 // Where the node at an index of the block at (-1, 0, 0) stands, or the number of its refusal.
 fn node_line(asked: &[u8], index: usize, x: i32, y: i32, z: i32) {
     say(asked);
-    match node(Coordinates { x: -1, y: 0, z: 0 }, index) {
-        NodeAnswer::At(at) => {
+    match node_coordinates(Coordinates { x: -1, y: 0, z: 0 }, index) {
+        NodeCoordinatesAnswer::At(at) => {
             say_coordinate(b"x ", at.x);
             say_coordinate(b", y ", at.y);
             say_coordinate(b", z ", at.z);
             say(b"; ");
             say_verdict((at.x == x) & ((at.y == y) & (at.z == z)));
         }
-        NodeAnswer::OutOfRange => say(b"9\n"),
-        NodeAnswer::NoSuchNode => say(b"16\n"),
+        NodeCoordinatesAnswer::OutOfRange => say(b"9\n"),
+        NodeCoordinatesAnswer::NoSuchNode => say(b"16\n"),
     }
 }
 

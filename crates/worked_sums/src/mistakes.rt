@@ -106,7 +106,7 @@ fn keys(asked: &[u8], key: i64, next: i64, expected: &[u8]) {
     two_blocks(asked, key, next, &AIR, expected);
 }
 
-fn saved(asked: &[u8], timestamp: u32, span: Span, expected: &[u8]) {
+fn saved_line(asked: &[u8], timestamp: u32, span: Span, expected: &[u8]) {
     one_block(
         asked,
         head(29, 0, timestamp),
@@ -135,20 +135,20 @@ fn keys_and_seconds() {
     keys(b"keys 10 and 9", 10, 9, refused);
     keys(b"keys -10 and -9", -10, -9, both);
     keys(b"keys -9 and -10", -9, -10, refused);
-    saved(b"saved at 999998, span 0 to 1000000", 999_998, first, one);
-    saved(
+    saved_line(b"saved at 999998, span 0 to 1000000", 999_998, first, one);
+    saved_line(
         b"saved at 999998, span 1000000 to 2000000",
         999_998,
         second,
         none,
     );
-    saved(
+    saved_line(
         b"saved at 1000000, span 0 to 1000000",
         1_000_000,
         first,
         none,
     );
-    saved(
+    saved_line(
         b"saved at 1000000, span 1000000 to 2000000",
         1_000_000,
         second,

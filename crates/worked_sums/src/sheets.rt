@@ -7,11 +7,11 @@ use crate::blocks::head;
 use crate::blocks::put_block;
 use anowhetele::answer::AnowAnswer;
 use anowhetele::metering::anow_tally_sheet;
-use meter::records::BLOCK_AT;
-use meter::records::LENGTH_AT;
 use position::lot::Lot;
 use position::span::Span;
-use wire::heads::HEAD;
+use sheet::records::BLOCK_AT;
+use sheet::records::LENGTH_AT;
+use wire::heads::HEAD_LENGTH;
 use wire::heads::put_head;
 use wire::store::put_bytes;
 use wire::store::put_s64;
@@ -36,7 +36,7 @@ pub(crate) fn tally_two(key: i64, next: i64, names: &[u8], out: &mut [u8]) -> An
     let mut sheet = [0u8; 2 * ROOM];
     let mut spare = [0u8; 256];
     put_head(&mut sheet, b"WSH", 2);
-    let middle = put_record(&mut sheet, HEAD, key, &AIR);
+    let middle = put_record(&mut sheet, HEAD_LENGTH, key, &AIR);
     let end = put_record(&mut sheet, middle, next, names);
     anow_tally_sheet(
         front(&sheet, end),

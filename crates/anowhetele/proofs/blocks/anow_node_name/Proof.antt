@@ -1,13 +1,13 @@
 use borrow.Author.Needs.{needs}
 use Rattle.wire.proofs.Steps.{told-as}
 use Rattle.anowhetele.specs.Blocks.{noNode, handedNode}
-use Rattle.mapblock.specs.Questions.{toldNode}
+use Rattle.mapblock.specs.Questions.{toldNodeName}
 use mathlib.Core.Path.{ap, _∙_}
 use Rattle.anowhetele.proofs.blocks.anow_node_name.Statement.{statement}
 use Rattle.anowhetele.proofs.blocks.anow_node_name.Tie as tie
 
-node-requires : tie.Need-node-requires
-node-requires c κs = search needs
+locate-node-name-requires : tie.Need-locate-node-name-requires
+locate-node-name-requires c κs = search needs
 
 enum-known-name : tie.Need-enum-known-name
 enum-known-name c = search needs
@@ -34,19 +34,19 @@ no-node-requires-2 : tie.Need-no-node-requires-2
 no-node-requires-2 c κs = search needs
 
 returns : tie.Need-returns
-returns c = rw (c .done .ensures) (ap handedNode (told-as toldNode (c .before .before .before .before .node .ensures) (c .before .before .name .given .1)))
+returns c = rw (c .done .ensures) (ap handedNode (told-as toldNodeName (c .before .before .before .before .locate-node-name .ensures) (c .before .before .name .given .1)))
 
 returns-2 : tie.Need-returns-2
-returns-2 c = c .no-node .ensures ∙ ap noNode (c .before .plain .ensures) ∙ ap handedNode (told-as toldNode (c .before .before .before .before .node .ensures) (c .before .before .enum-told .given .1))
+returns-2 c = c .no-node .ensures ∙ ap noNode (c .before .plain .ensures) ∙ ap handedNode (told-as toldNodeName (c .before .before .before .before .locate-node-name .ensures) (c .before .before .enum-told .given .1))
 
 returns-3 : tie.Need-returns-3
-returns-3 c = c .no-node2 .ensures ∙ ap noNode (c .before .refused .ensures) ∙ ap handedNode (told-as toldNode (c .before .before .before .before .before .node .ensures) (c .before .before .before .f .given .1))
+returns-3 c = c .no-node2 .ensures ∙ ap noNode (c .before .refused .ensures) ∙ ap handedNode (told-as toldNodeName (c .before .before .before .before .before .locate-node-name .ensures) (c .before .before .before .f .given .1))
 
 pub anow-node-name-spec : {M : Type 1} → statement M
 anow-node-name-spec =
     tie.close
     (tie.spec
-    node-requires
+    locate-node-name-requires
     enum-known-name
     done-requires
     enum-told

@@ -6,7 +6,7 @@ use Rattle.wire.specs.Answer.{Answered}
 use Rattle.wire.proofs.Steps.{told-as}
 use Rattle.meter.specs.Counting.{byOne}
 use Rattle.meter.specs.Tallying.{tallyBlockOf}
-use Rattle.meter.specs.Adding.{part}
+use Rattle.position.specs.Parts.{partAt}
 use Rattle.meter.specs.Told.{toldBlock}
 use Rattle.anowhetele.specs.Answers.{handed}
 use borrow.Author.Needs.{needs}
@@ -15,7 +15,7 @@ use Rattle.anowhetele.proofs.metering.anow_tally_block.Tie as tie
 
 -- what `tally_block` told of a key whose bits it was handed
 told : (c : tie.After-tally-block)
-    → Answered (toldBlock (c .tally-block .result)) (now (c .before .before .before .before .args .out)) (c .tally-block .last .1 .1 .1 .1 .0) (tallyBlockOf byOne (c .before .before .before .before .args .key) (now (c .before .before .before .before .args .block)) (part (c .before .before .before .before .args .lot) (c .before .before .before .before .args .span)) (length (now (c .before .before .before .before .args .out))))
+    → Answered (toldBlock (c .tally-block .result)) (now (c .before .before .before .before .args .out)) (c .tally-block .last .1 .1 .1 .0) (tallyBlockOf byOne (c .before .before .before .before .args .key) (now (c .before .before .before .before .args .block)) (partAt (c .before .before .before .before .args .lot) (c .before .before .before .before .args .span)) (length (now (c .before .before .before .before .args .out))))
 told c = simp (toZ-ofZ, c .before .before .before .before .fits .key) at (c .tally-block .ensures)
 
 tally-block-requires : tie.Need-tally-block-requires

@@ -1,6 +1,6 @@
 use mathlib.Core.Path.{ap, sym, _∙_}
-use Rattle.meter.specs.Records.{faultNumber, faultOffset}
-use Rattle.meter.specs.declared.records.RecordFault.{RecordFault}
+use Rattle.sheet.specs.Records.{faultNumber, faultOffset}
+use Rattle.sheet.specs.declared.records.RecordFault.{RecordFault}
 use Rattle.anowhetele.specs.Answers.{refusedWith}
 use borrow.Author.Needs.{needs}
 use Rattle.anowhetele.proofs.metering.record_refused.Statement.{statement}

@@ -1,7 +1,7 @@
 use borrow.Author.Needs.{needs}
 use mathlib.Core.Path.{ap}
 use Rattle.wire.proofs.Steps.{told-as}
-use Rattle.writer.specs.Write.{toldWrite}
+use Rattle.block_writer.specs.Write.{toldWrite}
 use Rattle.anowhetele.specs.Answers.{handed}
 use Rattle.anowhetele.proofs.writing.anow_write.Statement.{statement}
 use Rattle.anowhetele.proofs.writing.anow_write.Tie as tie

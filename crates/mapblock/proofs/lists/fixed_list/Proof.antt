@@ -6,7 +6,7 @@ use denote.Ref.{now}
 use Rattle.wire.specs.Formats.{listed, fixed}
 use Rattle.wire.specs.Read.{done, refused}
 use Rattle.wire.specs.Told.{toldU8}
-use Rattle.mapblock.specs.Kinds.{rowAfter}
+use Rattle.mapblock.specs.ListKinds.{rowAfter}
 use Rattle.mapblock.specs.Told.{ended}
 use Rattle.mapblock.specs.declared.fault.Fault.the-variants as fault
 use Rattle.wire.proofs.Fixed.{fixed-refused, fixed-other}

@@ -5,7 +5,7 @@ use native.Mathlib.Omega.{arith}
 use denote.Ref.{now}
 use lib.ListN.{take, drop, length-drop}
 use Rattle.wire.specs.Read.{done, refused}
-use Rattle.wire.specs.Told.{toldU16, toldCounted}
+use Rattle.wire.specs.Told.{toldU16, toldRun}
 use Rattle.mapblock.specs.declared.fault.Fault.the-variants as fault
 use Rattle.mapblock.proofs.Leaves.{by-number, by-counted}
 use Rattle.mapblock.proofs.Readings.{num, text, within}
@@ -19,12 +19,12 @@ kind c = by-number 2 _ toldU16 (c .before .before .before .u16-at .ensures) (c .
 
 no-content : (c : tie.After-known-told2) → let s = now (c .before .before .before .before .before .before .before .before .before .args .s) in
     text 2 .read (drop 4 s) ≡ refused fault.Ends (c .before .p .given .0 .0)
-no-content c = by-counted 2 _ (toldCounted 2 _) (c .before .before .before .counted16-at .ensures) (c .before .p .given .1)
+no-content c = by-counted 2 _ (toldRun 2 _) (c .before .before .before .run16-at .ensures) (c .before .p .given .1)
 
 content : (c : tie.After-known-told3) → let s = now (c .before .before .before .before .before .before .before .before .before .args .s) in
     let n = c .before .n .given .0 .0 in
     text 2 .read (drop 4 s) ≡ done (take n (drop 2 (drop 4 s))) (2 + n)
-content c = by-counted 2 _ (toldCounted 2 _) (c .before .before .before .counted16-at .ensures) (c .before .n .given .1)
+content c = by-counted 2 _ (toldRun 2 _) (c .before .before .before .run16-at .ensures) (c .before .n .given .1)
 
 u16-at-requires : tie.Need-u16-at-requires
 u16-at-requires c κs = search needs
@@ -40,8 +40,8 @@ returns c =
     let p = c .before .before .before .before .pre in
     kind-ends _ _ (p .1) (p .0) (by-number 2 _ toldU16 (c .before .before .u16-at .ensures) (c .enum-told .given .1))
 
-counted16-at-requires : tie.Need-counted16-at-requires
-counted16-at-requires c κs = search needs
+run16-at-requires : tie.Need-run16-at-requires
+run16-at-requires c κs = search needs
 
 enum-known-p : tie.Need-enum-known-p
 enum-known-p c = search needs
@@ -73,7 +73,7 @@ old-row-spec =
     enum-known-kind
     enum-told
     returns
-    counted16-at-requires
+    run16-at-requires
     enum-known-p
     add-t13
     enum-known-n

@@ -4,7 +4,7 @@ use mathlib.Core.Path.{_≡_, ap, sym, _∙_}
 use native.Mathlib.Omega.{arith}
 use denote.Ref.{now}
 use Rattle.wire.specs.Read.{done, refused}
-use Rattle.wire.specs.Lists.{rest-is}
+use Rattle.wire.proofs.Lists.{rest-is}
 use Rattle.mapblock.specs.Layout.{variable}
 use Rattle.mapblock.specs.Told.{toldReach, ended}
 use Rattle.mapblock.proofs.Readings.{ended-done, Reading, reading-start, reading-inside, reading-place, reading-end, reading-refused, reading-on}

@@ -7,7 +7,7 @@ use Rattle.mapblock.specs.Told.{toldName}
 use Rattle.mapblock.specs.Table.{unmarked, frontRows}
 use Rattle.mapblock.specs.Rows.{nameFields}
 use Rattle.mapblock.specs.Layout.{all, nameRow}
-use Rattle.wire.specs.Lists.{rest-is}
+use Rattle.wire.proofs.Lists.{rest-is}
 use lib.ListN.{length, length-drop}
 use denote.Ref.{now}
 use native.Mathlib.Nat.{le-refl}

@@ -22,7 +22,7 @@ element-copy-out-if1 c = omega arith
 
 returns : tie.Need-returns Inv-loop μ-loop
 returns c e =
-    let never : _≡_ {A = ℕ} 0 1 = cc e in
+    let not-done : _≡_ {A = ℕ} 0 1 = cc e in
     absurd (omega arith)
 
 add-id : tie.Need-add-id Inv-loop μ-loop

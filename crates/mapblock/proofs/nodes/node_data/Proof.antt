@@ -4,8 +4,8 @@ use native.Mathlib.Omega.{arith}
 use borrow.Author.Needs.{needs}
 use denote.Ref.{now}
 use lib.ListN.{length, drop, length-drop}
-use Rattle.wire.specs.Lists.{rest-is}
-use Rattle.wire.specs.Read.{done, onward, reach}
+use Rattle.wire.proofs.Lists.{rest-is}
+use Rattle.wire.specs.Read.{done, shift, reach}
 use Rattle.wire.specs.Formats.{u8}
 use Rattle.wire.specs.Told.{toldU8}
 use Rattle.mapblock.specs.Layout.{nodes, params}
@@ -31,7 +31,7 @@ start c = c .before .before .before .before .before .before .before .before .bef
 long : (c : tie.Else2) → 2 ≤ length (now (start c .args .s))
 long c = read-behind u8 1 (now (start c .args .s)) (second (c .before)) (omega arith)
 
-ready : (c : tie.Else2) → let a = start c .args in ended (nodes (a .version) .read (now (a .s))) ≡ onward 2 (λ x. x) (ended (params (a .version) .read (drop 2 (now (a .s)))))
+ready : (c : tie.Else2) → let a = start c .args in ended (nodes (a .version) .read (now (a .s))) ≡ shift 2 (λ x. x) (ended (params (a .version) .read (drop 2 (now (a .s)))))
 ready c = let a = start c .args in nodes-on (a .version) (now (a .s)) (first (c .before .before .before .before .before .before .before)) (omega arith) (second (c .before)) (omega arith)
 
 told : (c : tie.After-params) {r : Reach} → c .params .result ≡ r → let a = start (c .before .before) .args in toldReach r ≡ ended (params (a .version) .read (drop 2 (now (a .s))))
@@ -42,8 +42,8 @@ reached c e =
     let a = start (c .before .before) .args in
     omega (arith, told-in (λ _. tt) (params (a .version)) (drop 2 (now (a .s))) (told c e), length-drop 2 (now (a .s)), long (c .before .before))
 
-answer : (c : tie.After-params) {r : Reach} → c .params .result ≡ r → let a = start (c .before .before) .args in onward 2 (λ x. x) (toldReach r) ≡ ended (nodes (a .version) .read (now (a .s)))
-answer c e = ap (onward 2 (λ x. x)) (told c e) ∙ sym (ready (c .before .before))
+answer : (c : tie.After-params) {r : Reach} → c .params .result ≡ r → let a = start (c .before .before) .args in shift 2 (λ x. x) (toldReach r) ≡ ended (nodes (a .version) .read (now (a .s)))
+answer c e = ap (shift 2 (λ x. x)) (told c e) ∙ sym (ready (c .before .before))
 
 u8-at-requires : tie.Need-u8-at-requires
 u8-at-requires c κs = search needs

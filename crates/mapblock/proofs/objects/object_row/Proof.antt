@@ -3,9 +3,9 @@ use Rattle.mapblock.proofs.Leaves.{by-number, by-signed, by-counted, to
 use lib.Dec.{lit<}
 use Rattle.mapblock.proofs.OtherRows.{object-no-kind, object-no-x, object-no-y, object-no-z, object-no-content, object-done}
 use Rattle.mapblock.specs.declared.fault.Fault.the-variants as fault
-use Rattle.wire.specs.Formats.{u8, s32, half32, counted}
+use Rattle.wire.specs.Formats.{u8, s32, half32, prefixed}
 use Rattle.wire.specs.Read.{done}
-use Rattle.wire.specs.Told.{toldU8, toldS32, toldCounted}
+use Rattle.wire.specs.Told.{toldU8, toldS32, toldRun}
 use mir.ValLaws.{toZ-ofZ}
 use mir.Syntax.{w32}
 use lib.ListN.{drop}
@@ -76,8 +76,8 @@ enum-told-4 c = search needs
 returns-4 : tie.Need-returns-4
 returns-4 c = object-no-z _ (kind-is (c .before .before .before .before .before .before .before .before .before .before .before .before)) (x-is (c .before .before .before .before .before .before .before .before)) (y-is (c .before .before .before .before)) (by-signed 4 half32 refl _ toldS32 (c .before .before .s32-at3 .ensures) (c .enum-told4 .given .1))
 
-counted16-at-requires : tie.Need-counted16-at-requires
-counted16-at-requires c κs = search needs
+run16-at-requires : tie.Need-run16-at-requires
+run16-at-requires c κs = search needs
 
 enum-known-p : tie.Need-enum-known-p
 enum-known-p c = search needs
@@ -85,7 +85,7 @@ enum-known-p c = search needs
 add-t20 : tie.Need-add-t20
 add-t20 c =
     let s = now (c .before .before .before .before .before .before .before .before .before .before .before .before .before .before .before .before .before .before .before .before .before .args .s) in
-    omega (arith, told-behind (counted 2) 13 s (by-counted 2 (drop 13 s) (toldCounted 2 (drop 13 s)) (c .before .before .before .counted16-at .ensures) (c .before .p .given .1)) (read-behind s32 9 s (z-is (c .before .before .before .before .before)) (lit< tt)))
+    omega (arith, told-behind (prefixed 2) 13 s (by-counted 2 (drop 13 s) (toldRun 2 (drop 13 s)) (c .before .before .before .run16-at .ensures) (c .before .p .given .1)) (read-behind s32 9 s (z-is (c .before .before .before .before .before)) (lit< tt)))
 
 enum-known-n : tie.Need-enum-known-n
 enum-known-n c = search needs
@@ -93,15 +93,15 @@ enum-known-n c = search needs
 add-t22 : tie.Need-add-t22
 add-t22 c =
     let s = now (c .before .before .before .before .before .before .before .before .before .before .before .before .before .before .before .before .before .before .before .before .before .args .s) in
-    omega (arith, told-behind (counted 2) 13 s (by-counted 2 (drop 13 s) (toldCounted 2 (drop 13 s)) (c .before .before .before .counted16-at .ensures) (c .before .n .given .1)) (read-behind s32 9 s (z-is (c .before .before .before .before .before)) (lit< tt)))
+    omega (arith, told-behind (prefixed 2) 13 s (by-counted 2 (drop 13 s) (toldRun 2 (drop 13 s)) (c .before .before .before .run16-at .ensures) (c .before .n .given .1)) (read-behind s32 9 s (z-is (c .before .before .before .before .before)) (lit< tt)))
 
 returns-5 : tie.Need-returns-5
-returns-5 c = object-no-content _ (kind-is (c .before .before .before .before .before .before .before .before .before .before .before .before .before .before .before .before .before)) (x-is (c .before .before .before .before .before .before .before .before .before .before .before .before .before)) (y-is (c .before .before .before .before .before .before .before .before .before)) (z-is (c .before .before .before .before .before)) (by-counted 2 _ (toldCounted 2 _) (c .before .before .before .counted16-at .ensures) (c .before .p .given .1))
+returns-5 c = object-no-content _ (kind-is (c .before .before .before .before .before .before .before .before .before .before .before .before .before .before .before .before .before)) (x-is (c .before .before .before .before .before .before .before .before .before .before .before .before .before)) (y-is (c .before .before .before .before .before .before .before .before .before)) (z-is (c .before .before .before .before .before)) (by-counted 2 _ (toldRun 2 _) (c .before .before .before .run16-at .ensures) (c .before .p .given .1))
 
 returns-6 : tie.Need-returns-6
 returns-6 c =
     rw (toZ-ofZ w32 _ (record { sfits = c .before .before .before .before .before .before .before .before .before .before .before .before .known-told2 .given .0 .1 }), toZ-ofZ w32 _ (record { sfits = c .before .before .before .before .before .before .before .before .known-told3 .given .0 .1 }), toZ-ofZ w32 _ (record { sfits = c .before .before .before .before .known-told4 .given .0 .1 }))
-    (object-done _ (kind-is (c .before .before .before .before .before .before .before .before .before .before .before .before .before .before .before .before .before)) (x-is (c .before .before .before .before .before .before .before .before .before .before .before .before .before)) (y-is (c .before .before .before .before .before .before .before .before .before)) (z-is (c .before .before .before .before .before)) (by-counted 2 _ (toldCounted 2 _) (c .before .before .before .counted16-at .ensures) (c .before .n .given .1)))
+    (object-done _ (kind-is (c .before .before .before .before .before .before .before .before .before .before .before .before .before .before .before .before .before)) (x-is (c .before .before .before .before .before .before .before .before .before .before .before .before .before)) (y-is (c .before .before .before .before .before .before .before .before .before)) (z-is (c .before .before .before .before .before)) (by-counted 2 _ (toldRun 2 _) (c .before .before .before .run16-at .ensures) (c .before .n .given .1)))
 
 pub object-row-spec : {M : Type 1} → statement M
 object-row-spec =
@@ -123,7 +123,7 @@ object-row-spec =
     enum-known-z
     enum-told-4
     returns-4
-    counted16-at-requires
+    run16-at-requires
     enum-known-p
     add-t20
     enum-known-n

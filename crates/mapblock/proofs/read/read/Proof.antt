@@ -5,7 +5,7 @@ use mathlib.Core.Bool.{true}
 use native.Mathlib.Omega.{arith}
 use lib.ListN.{length, length-drop}
 use denote.Ref.{now}
-use Rattle.wire.specs.Lists.{rest-is}
+use Rattle.wire.proofs.Lists.{rest-is}
 use Rattle.wire.specs.Answer.{Answer}
 use Rattle.mapblock.specs.Data.{Nodes, Block}
 use Rattle.mapblock.specs.Questions.{areWhole, blockOf, readOf}

@@ -7,7 +7,7 @@ use denote.Ref.{now}
 use Rattle.mapblock.specs.Layout.{metadataRow}
 use Rattle.mapblock.specs.Rows.{metadataFields}
 use Rattle.mapblock.specs.AskedRows.{toldMetadataRow}
-use Rattle.mapblock.proofs.AskedParts.{none-behind, no-metadata, row-fits, behind-told, version-was}
+use Rattle.mapblock.proofs.AskedRanges.{none-behind, no-metadata, row-fits, behind-told, version-was}
 use Rattle.mapblock.proofs.row_questions.behind_metadata_row.Statement.{statement}
 use Rattle.mapblock.proofs.row_questions.behind_metadata_row.Tie as tie
 

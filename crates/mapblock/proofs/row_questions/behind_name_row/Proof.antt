@@ -7,7 +7,7 @@ use denote.Ref.{now}
 use Rattle.mapblock.specs.Layout.{all, nameRow}
 use Rattle.mapblock.specs.Rows.{nameFields}
 use Rattle.mapblock.specs.AskedRows.{toldNameRow}
-use Rattle.mapblock.proofs.AskedParts.{none-behind, no-name, row-fits, behind-told}
+use Rattle.mapblock.proofs.AskedRanges.{none-behind, no-name, row-fits, behind-told}
 use Rattle.mapblock.proofs.row_questions.behind_name_row.Statement.{statement}
 use Rattle.mapblock.proofs.row_questions.behind_name_row.Tie as tie
 

@@ -6,7 +6,7 @@ use denote.Ref.{now}
 use Rattle.mapblock.specs.Layout.{objectRow}
 use Rattle.mapblock.specs.Rows.{objectFields}
 use Rattle.mapblock.specs.AskedRows.{toldObjectRow}
-use Rattle.mapblock.proofs.AskedParts.{none-behind, no-object, row-fits, behind-told}
+use Rattle.mapblock.proofs.AskedRanges.{none-behind, no-object, row-fits, behind-told}
 use Rattle.mapblock.proofs.row_questions.behind_object_row.Statement.{statement}
 use Rattle.mapblock.proofs.row_questions.behind_object_row.Tie as tie
 

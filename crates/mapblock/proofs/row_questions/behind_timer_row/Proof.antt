@@ -7,7 +7,7 @@ use denote.Ref.{now}
 use Rattle.mapblock.specs.Layout.{timerRow}
 use Rattle.mapblock.specs.Rows.{timerFields}
 use Rattle.mapblock.specs.AskedRows.{toldTimerRow}
-use Rattle.mapblock.proofs.AskedParts.{none-behind, no-timer, row-fits, behind-told}
+use Rattle.mapblock.proofs.AskedRanges.{none-behind, no-timer, row-fits, behind-told}
 use Rattle.mapblock.proofs.row_questions.behind_timer_row.Statement.{statement}
 use Rattle.mapblock.proofs.row_questions.behind_timer_row.Tie as tie
 

@@ -1,5 +1,5 @@
 use borrow.Author.Needs.{needs}
-use Rattle.mapblock.proofs.AskedParts.{asked-none, asked-row, version-other, version-good}
+use Rattle.mapblock.proofs.AskedRanges.{asked-none, asked-row, version-other, version-good}
 use Rattle.mapblock.specs.Told.{toldMetadata}
 use Rattle.mapblock.specs.Rows.{metadataFields}
 use Rattle.mapblock.specs.Layout.{metadataRow}

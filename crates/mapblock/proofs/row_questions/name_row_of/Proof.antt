@@ -6,7 +6,7 @@ use Rattle.wire.specs.Read.{mapRead}
 use Rattle.mapblock.specs.Layout.{all, nameRow}
 use Rattle.mapblock.specs.Rows.{nameFields}
 use Rattle.mapblock.specs.Told.{toldName}
-use Rattle.mapblock.proofs.AskedParts.{asked-none, asked-row}
+use Rattle.mapblock.proofs.AskedRanges.{asked-none, asked-row}
 use Rattle.mapblock.proofs.row_questions.name_row_of.Statement.{statement}
 use Rattle.mapblock.proofs.row_questions.name_row_of.Tie as tie
 

@@ -5,7 +5,7 @@ use Rattle.wire.specs.Read.{mapRead}
 use Rattle.mapblock.specs.Layout.{objectRow}
 use Rattle.mapblock.specs.Rows.{objectFields}
 use Rattle.mapblock.specs.Told.{toldObject}
-use Rattle.mapblock.proofs.AskedParts.{asked-none, asked-row}
+use Rattle.mapblock.proofs.AskedRanges.{asked-none, asked-row}
 use Rattle.mapblock.proofs.row_questions.object_row_of.Statement.{statement}
 use Rattle.mapblock.proofs.row_questions.object_row_of.Tie as tie
 

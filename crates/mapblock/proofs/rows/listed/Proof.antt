@@ -6,7 +6,7 @@ use denote.Ref.{now}
 use Rattle.wire.specs.Formats.{listed}
 use Rattle.wire.specs.Read.{done, refused}
 use Rattle.wire.specs.Told.{toldU16}
-use Rattle.mapblock.specs.Kinds.{rowAfter}
+use Rattle.mapblock.specs.ListKinds.{rowAfter}
 use Rattle.mapblock.specs.Told.{ended}
 use Rattle.mapblock.proofs.Leaves.{by-number}
 use Rattle.wire.proofs.Joints.{listed-refused}

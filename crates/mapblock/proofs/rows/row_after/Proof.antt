@@ -5,15 +5,15 @@ use mathlib.Core.List.{[], _∷_}
 use native.Mathlib.Omega.{arith}
 use denote.Enum.Declared.{tagOf}
 use types.Run.{OneOf}
-use Rattle.mapblock.specs.declared.rows.Kind.{Kind}
-use Rattle.mapblock.specs.declared.rows.Kind.the-variants as kind
-use Rattle.mapblock.proofs.rows.Kind.{the-type}
+use Rattle.mapblock.specs.declared.rows.ListKind.{ListKind}
+use Rattle.mapblock.specs.declared.rows.ListKind.the-variants as kind
+use Rattle.mapblock.proofs.rows.ListKind.{the-type}
 use Rattle.mapblock.proofs.RowLists.{row-stops, row-goes, row-bare}
 use Rattle.mapblock.proofs.rows.row_after.Statement.{statement}
 use Rattle.mapblock.proofs.rows.row_after.Tie as tie
 
 -- the kinds that have positions
-placed : (k : Kind) → OneOf (0 ∷ 2 ∷ []) (tagOf the-type k) → k ≡ kind.Objects → ⊥
+placed : (k : ListKind) → OneOf (0 ∷ 2 ∷ []) (tagOf the-type k) → k ≡ kind.Objects → ⊥
 placed k o e = ⊎-elim (λ w. omega (arith, ap (tagOf the-type) e)) (λ w. omega (arith, ap (tagOf the-type) e)) o
 
 enum-told : tie.Need-enum-told

@@ -2,7 +2,7 @@ use borrow.Author.Needs.{needs}
 use mathlib.Core.Path.{ap, sym, _∙_}
 use Rattle.mapblock.specs.Rows.{metadataFields, objectFields, timerFields}
 use Rattle.mapblock.specs.Told.{toldMetadata, toldObject, toldTimer}
-use Rattle.mapblock.specs.declared.rows.Kind.the-variants as kind
+use Rattle.mapblock.specs.declared.rows.ListKind.the-variants as kind
 use Rattle.mapblock.proofs.RowLists.{row-told}
 use Rattle.mapblock.proofs.rows.row_alone.Statement.{statement}
 use Rattle.mapblock.proofs.rows.row_alone.Tie as tie

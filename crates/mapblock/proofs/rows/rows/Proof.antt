@@ -4,7 +4,7 @@ use mathlib.Core.Path.{_≡_}
 use native.Mathlib.Omega.{arith}
 use denote.Ref.{now}
 use Rattle.wire.specs.Read.{done, refused}
-use Rattle.mapblock.specs.Kinds.{rowAfter}
+use Rattle.mapblock.specs.ListKinds.{rowAfter}
 use Rattle.mapblock.specs.Told.{ended}
 use Rattle.mapblock.proofs.Readings.{reading-inside, reading-place, reading-end, reading-refused}
 use Rattle.mapblock.proofs.RowLists.{Walk, walk-start, walk-told, walk-on}

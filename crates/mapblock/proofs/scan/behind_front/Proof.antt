@@ -1,13 +1,12 @@
 use borrow.Author.Needs.{needs}
-use Rattle.mapblock.proofs.SoFar.{names-room}
+use Rattle.mapblock.proofs.WithoutLateTimers.{names-room, middle-inside, upto-new}
 use Prim.Native.Nat.{_+_, _≤_}
 use Rattle.mapblock.proofs.Rests.{front-inside, no-middle, sized}
-use Rattle.mapblock.proofs.SoFar.{middle-inside, upto-new}
 use Rattle.mapblock.proofs.Readings.{within}
 use Rattle.mapblock.specs.Table.{freeIn}
 use Rattle.mapblock.specs.Scan.{middle, MiddleIs}
 use Rattle.wire.specs.Read.{refused}
-use Rattle.wire.specs.Lists.{rest-is}
+use Rattle.wire.proofs.Lists.{rest-is}
 use Rattle.wire.specs.Bytes.{Bytes}
 use lib.ListN.{length, drop, length-drop}
 use denote.Ref.{now}
@@ -67,8 +66,8 @@ rows-of-requires c κs =
     let l : c .before .before .before .before .before .before .before .before .before .args .w .lists ≤ length (now (c .before .before .before .before .before .before .before .before .before .args .s)) = omega (arith, front-inside _ _ _ _ (c .before .before .before .before .before .before .before .before .before .pre .1), c .before .before .before .before .before .before .before .before .before .pre .1 .ends) in
     (omega arith, omega (arith, c .before .before .before .before .before .before .before .before .before .good .0 .0))
 
-so-far-requires : tie.Need-so-far-requires
-so-far-requires c κs = sized _ _ _ _ (c .before .before .before .before .before .before .before .before .before .before .pre .1) _ (lists-are (c .before .before .before .before .before)) (bytes (c .before .before .before .before .before .before .before .before .before)) (c .before .before .before .before .before .before .before .before .before .before .good .0 .0)
+without-late-timers-requires : tie.Need-without-late-timers-requires
+without-late-timers-requires c κs = sized _ _ _ _ (c .before .before .before .before .before .before .before .before .before .before .pre .1) _ (lists-are (c .before .before .before .before .before)) (bytes (c .before .before .before .before .before .before .before .before .before)) (c .before .before .before .before .before .before .before .before .before .before .good .0 .0)
 
 add-ending : tie.Need-add-ending
 add-ending c = omega (arith, inside (c .before .before .before .before .before .before .before), c .before .before .before .before .before .before .before .before .before .before .before .before .good .0 .0)
@@ -80,13 +79,13 @@ add-ending-3 : tie.Need-add-ending-3
 add-ending-3 c = omega (arith, inside (c .before .before .before .before .before .before .before .before .before), c .before .before .before .before .before .before .before .before .before .before .before .before .before .before .good .0 .0)
 
 ending-requires : tie.Need-ending-requires
-ending-requires c κs = (freeIn (c .before .before .before .before .before .before .before .before .before .before .before .before .before .before .before .pre .0), rw (c .before .before .before .before .so-far .ensures, c .before .before .before .before .before .rows-of .ensures) (upto-new _ _ _ _ (c .before .before .before .before .before .before .before .before .before .before .before .before .before .before .before .pre .1) _ (lists-are (c .before .before .before .before .before .before .before .before .before .before)) (bytes (c .before .before .before .before .before .before .before .before .before .before .before .before .before .before)) (omega (arith, c .before .before .before .before .before .before .before .if1 .left))))
+ending-requires c κs = (freeIn (c .before .before .before .before .before .before .before .before .before .before .before .before .before .before .before .pre .0), rw (c .before .before .before .before .without-late-timers .ensures, c .before .before .before .before .before .rows-of .ensures) (upto-new _ _ _ _ (c .before .before .before .before .before .before .before .before .before .before .before .before .before .before .before .pre .1) _ (lists-are (c .before .before .before .before .before .before .before .before .before .before)) (bytes (c .before .before .before .before .before .before .before .before .before .before .before .before .before .before)) (omega (arith, c .before .before .before .before .before .before .before .if1 .left))))
 
 returns-2 : tie.Need-returns-2
 returns-2 c = ((λ t F. no-middle t _ _ _ F (no-lists (c .before))), refl)
 
 returns-3 : tie.Need-returns-3
-returns-3 c = ((λ t F. c .ending .ensures (freeIn t) (rw (c .before .before .before .before .before .so-far .ensures, c .before .before .before .before .before .before .rows-of .ensures) (upto-new t _ _ _ F _ (lists-are (c .before .before .before .before .before .before .before .before .before .before .before)) (bytes (c .before .before .before .before .before .before .before .before .before .before .before .before .before .before .before)) (omega (arith, c .before .before .before .before .before .before .before .before .if1 .left))))), refl)
+returns-3 c = ((λ t F. c .ending .ensures (freeIn t) (rw (c .before .before .before .before .before .without-late-timers .ensures, c .before .before .before .before .before .before .rows-of .ensures) (upto-new t _ _ _ F _ (lists-are (c .before .before .before .before .before .before .before .before .before .before .before)) (bytes (c .before .before .before .before .before .before .before .before .before .before .before .before .before .before .before)) (omega (arith, c .before .before .before .before .before .before .before .before .if1 .left))))), refl)
 
 pub behind-front-spec : {M : Type 1} → statement M
 behind-front-spec =
@@ -103,7 +102,7 @@ behind-front-spec =
     returns
     sub-rows-of
     rows-of-requires
-    so-far-requires
+    without-late-timers-requires
     add-ending
     add-ending-2
     add-ending-3

@@ -1,17 +1,16 @@
 use borrow.Author.Needs.{needs}
 use Rattle.wire.specs.Bytes.{Bytes, bytes-drop}
 use Prim.Native.Nat.{_*_, _<_, _≤_}
-use Rattle.mapblock.specs.Layout.{width}
-use Rattle.mapblock.specs.Params.{bareIn, strayIn}
+use Rattle.mapblock.specs.Layout.{width, lateTimers}
+use Rattle.mapblock.specs.Params.{unmarkedIn, firstUnmappedIn}
 use mathlib.Core.Option.{some}
 use Rattle.mapblock.proofs.Firsts.{first-below}
-use Rattle.mapblock.proofs.Endings.{late-long, stray-there, width-place}
-use Rattle.mapblock.proofs.Verdicts.{late-refused, late-inside, late-after, late-stray, late-done}
+use Rattle.mapblock.proofs.Endings.{late-long, firstUnmapped-there, width-place}
+use Rattle.mapblock.proofs.Verdicts.{late-refused, late-inside, late-after, late-firstUnmapped, late-done}
 use Rattle.mapblock.proofs.Readings.{within-ended}
-use Rattle.mapblock.specs.Told.{ended, toldReach, toldStray}
-use Rattle.mapblock.specs.Layout.{lateTimers}
+use Rattle.mapblock.specs.Told.{ended, toldReach, toldUnmapped}
 use Rattle.wire.specs.Read.{done}
-use Rattle.wire.specs.Lists.{rest-is}
+use Rattle.wire.proofs.Lists.{rest-is}
 use lib.ListN.{drop, length-drop}
 use denote.Ref.{now}
 use native.Mathlib.Omega.{arith}
@@ -20,16 +19,16 @@ use Rattle.mapblock.proofs.scan.ending.Statement.{statement}
 use Rattle.mapblock.proofs.scan.ending.Tie as tie
 
 -- the first node that is not mapped
-stray-is : (c : tie.After-i) → let a = c .before .before .before .before .before .before .before .before .before .before .before .before .args in some (c .i .given .0 .0) ≡ strayIn (a .w .head .version) (drop (a .w .lists) (now (a .s))) (now (a .ids))
-stray-is c =
+firstUnmapped-is : (c : tie.After-i) → let a = c .before .before .before .before .before .before .before .before .before .before .before .before .args in some (c .i .given .0 .0) ≡ firstUnmappedIn (a .w .head .version) (drop (a .w .lists) (now (a .s))) (now (a .ids))
+firstUnmapped-is c =
     let a = c .before .before .before .before .before .before .before .before .before .before .before .before .args in
     let u = c .before .before .before .before .before .before .before .before .before .before .before .before .pre .1 in
-    rw (rest-is (a .w .lists) (now (a .s))) at (sym (ap toldStray (c .i .given .1)) ∙ c .before .before .first-stray .ensures)
-    ∙ stray-there (a .w .head .version) (now (a .s)) (now (a .ids)) (a .w .lists) (a .at) (u .long) (u .inside)
+    rw (rest-is (a .w .lists) (now (a .s))) at (sym (ap toldUnmapped (c .i .given .1)) ∙ c .before .before .first-unmapped .ensures)
+    ∙ firstUnmapped-there (a .w .head .version) (now (a .s)) (now (a .ids)) (a .w .lists) (a .at) (u .long) (u .inside)
 
-stray-at : (c : tie.After-i) → let a = c .before .before .before .before .before .before .before .before .before .before .before .before .args in let v = a .w .head .version in
+firstUnmapped-at : (c : tie.After-i) → let a = c .before .before .before .before .before .before .before .before .before .before .before .before .args in let v = a .w .head .version in
     (width v * c .i .given .0 .0 < 8192) × (width v * c .i .given .0 .0 ≤ 4096 * width v)
-stray-at c = let a = c .before .before .before .before .before .before .before .before .before .before .before .before .args in width-place (a .w .head .version) (c .i .given .0 .0) (omega (arith, first-below (bareIn (a .w .head .version) (drop (a .w .lists) (now (a .s))) (now (a .ids))) 4096 0 (stray-is c)))
+firstUnmapped-at c = let a = c .before .before .before .before .before .before .before .before .before .before .before .before .args in width-place (a .w .head .version) (c .i .given .0 .0) (omega (arith, first-below (unmarkedIn (a .w .head .version) (drop (a .w .lists) (now (a .s))) (now (a .ids))) 4096 0 (firstUnmapped-is c)))
 
 -- the late timers that were read
 late-is : (c : tie.After-n) → let a = c .before .before .before .before .before .before .args in done tt (c .n .given .0 .0) ≡ ended (lateTimers (a .w .head .version) .read (drop (a .at) (now (a .s))))
@@ -69,17 +68,17 @@ add-t23 c = search needs
 returns : tie.Need-returns
 returns c = λ free u. late-after u (late-is (c .before .before)) (c .if1 .taken)
 
-sub-first-stray : tie.Need-sub-first-stray
-sub-first-stray c = search needs
+sub-first-unmapped : tie.Need-sub-first-unmapped
+sub-first-unmapped c = search needs
 
-part-first-stray-start : tie.Need-part-first-stray-start
-part-first-stray-start c = search needs
+part-first-unmapped-start : tie.Need-part-first-unmapped-start
+part-first-unmapped-start c = search needs
 
-part-first-stray-end : tie.Need-part-first-stray-end
-part-first-stray-end c = search needs
+part-first-unmapped-end : tie.Need-part-first-unmapped-end
+part-first-unmapped-end c = search needs
 
-first-stray-requires : tie.Need-first-stray-requires
-first-stray-requires c κs = search needs
+first-unmapped-requires : tie.Need-first-unmapped-requires
+first-unmapped-requires c κs = search needs
 
 enum-known-i : tie.Need-enum-known-i
 enum-known-i c = search needs
@@ -88,18 +87,18 @@ width-requires : tie.Need-width-requires
 width-requires c κs = search needs
 
 mul-t31 : tie.Need-mul-t31
-mul-t31 c = rw (c .width .ensures) (omega (arith, stray-at (c .before .before) .0))
+mul-t31 c = rw (c .width .ensures) (omega (arith, firstUnmapped-at (c .before .before) .0))
 
 add-t32 : tie.Need-add-t32
 add-t32 c =
     let u = c .before .before .before .before .before .before .before .before .before .before .before .before .before .before .pre .1 in
-    rw (c .width .ensures) (omega (arith, stray-at (c .before .before) .1, u .long, u .inside))
+    rw (c .width .ensures) (omega (arith, firstUnmapped-at (c .before .before) .1, u .long, u .inside))
 
 enum-told : tie.Need-enum-told
 enum-told c = search needs
 
-with-late-requires : tie.Need-with-late-requires
-with-late-requires c κs =
+with-late-timers-requires : tie.Need-with-late-timers-requires
+with-late-timers-requires c κs =
     let a = c .before .before .before .before .before .before .before .before .before .before .before .before .args in
     let s = now (a .s) in
     let b : Bytes s = λ i. c .before .before .before .before .before .before .before .before .before .before .before .shared-slice-known .given i .fits in
@@ -117,16 +116,16 @@ returns-2 c =
 returns-3 : tie.Need-returns-3
 returns-3 c =
     let b : Bytes (now (c .before .before .before .before .before .before .before .before .before .before .before .before .before .before .args .s)) = λ i. c .before .before .before .before .before .before .before .before .before .before .before .before .before .shared-slice-known .given i .fits in
-    λ free u. rw (c .width .ensures) (late-stray u (late-is (c .before .before .before .before .before .before .before .before)) b (c .before .before .before .before .before .before .if1 .left) (stray-is (c .before .before)))
+    λ free u. rw (c .width .ensures) (late-firstUnmapped u (late-is (c .before .before .before .before .before .before .before .before)) b (c .before .before .before .before .before .before .if1 .left) (firstUnmapped-is (c .before .before)))
 
 returns-4 : tie.Need-returns-4
 returns-4 c =
     let a = c .before .before .before .before .before .before .before .before .before .before .before .before .before .args in
     let q = c .before .before .before .before .before .before .before .before .before .before .before .before .before .pre .1 in
     let b : Bytes (now (a .s)) = λ i. c .before .before .before .before .before .before .before .before .before .before .before .before .shared-slice-known .given i .fits in
-    let e = rw (rest-is (a .w .lists) (now (a .s))) at (sym (ap toldStray (c .before .enum-told .given .1)) ∙ c .before .before .before .first-stray .ensures)
-    ∙ stray-there (a .w .head .version) (now (a .s)) (now (a .ids)) (a .w .lists) (a .at) (q .long) (q .inside) in
-    λ free u. rw (c .with-late .ensures) (late-done u (late-is (c .before .before .before .before .before .before .before)) b (c .before .before .before .before .before .if1 .left) e)
+    let e = rw (rest-is (a .w .lists) (now (a .s))) at (sym (ap toldUnmapped (c .before .enum-told .given .1)) ∙ c .before .before .before .first-unmapped .ensures)
+    ∙ firstUnmapped-there (a .w .head .version) (now (a .s)) (now (a .ids)) (a .w .lists) (a .at) (q .long) (q .inside) in
+    λ free u. rw (c .with-late-timers .ensures) (late-done u (late-is (c .before .before .before .before .before .before .before)) b (c .before .before .before .before .before .if1 .left) e)
 
 pub ending-spec : {M : Type 1} → statement M
 ending-spec =
@@ -142,16 +141,16 @@ ending-spec =
     add-if1
     add-t23
     returns
-    sub-first-stray
-    part-first-stray-start
-    part-first-stray-end
-    first-stray-requires
+    sub-first-unmapped
+    part-first-unmapped-start
+    part-first-unmapped-end
+    first-unmapped-requires
     enum-known-i
     width-requires
     mul-t31
     add-t32
     enum-told
-    with-late-requires
+    with-late-timers-requires
     add-t34
     returns-2
     returns-3

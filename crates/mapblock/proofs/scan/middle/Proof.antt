@@ -6,7 +6,7 @@ use Rattle.mapblock.proofs.Leaves.{told-in}
 use Rattle.mapblock.specs.Told.{ended, timerByte, toldReach, toldEarly}
 use Rattle.mapblock.specs.Layout.{metadata, earlyTimers, objects}
 use Rattle.wire.specs.Read.{done, mapRead}
-use Rattle.wire.specs.Lists.{rest-is}
+use Rattle.wire.proofs.Lists.{rest-is}
 use lib.ListN.{length, drop, length-drop}
 use denote.Ref.{now}
 use native.Mathlib.Omega.{arith}

@@ -3,47 +3,47 @@ use native.Mathlib.Omega.{arith}
 use borrow.Author.Needs.{needs}
 use denote.Ref.{now}
 use lib.ListN.{drop}
-use Rattle.wire.specs.Lists.{rest-is}
+use Rattle.wire.proofs.Lists.{rest-is}
 use Rattle.wire.specs.Read.{mapRead}
 use Rattle.wire.specs.Format.{ends-in}
-use Rattle.mapblock.specs.Layout.{opening, saved}
-use Rattle.mapblock.specs.Table.{freeIn, SavedMarked}
-use Rattle.mapblock.specs.Told.{toldReach, toldSaved, shownSaved}
+use Rattle.mapblock.specs.Layout.{opening, nameMapping}
+use Rattle.mapblock.specs.Table.{freeIn, NameMappingMarked}
+use Rattle.mapblock.specs.Told.{toldReach, toldMapping, shownMapping}
 use Rattle.mapblock.specs.declared.fault.Reach.{Reach}
-use Rattle.mapblock.specs.declared.names.SavedRead.{SavedRead}
+use Rattle.mapblock.specs.declared.names.NameMappingRead.{NameMappingRead}
 use Rattle.mapblock.proofs.Fronts.{NamesRead, opened-in, nodes-two, names-stop, names-read, names-in, rows-in, nodesThere, nodes-in, named-stops, named-told}
 use Rattle.mapblock.proofs.scan.named_front.Statement.{statement}
 use Rattle.mapblock.proofs.scan.named_front.Tie as tie
 
-abbrev start : tie.After-saved → tie.Start
+abbrev start : tie.After-name-mapping → tie.Start
 start c = c .before .before .before .before
 
 -- timestamp and names
-marked : (c : tie.After-saved) → let a = start c .args in SavedMarked (now (a .ids)) (c .saved .last .1 .0) (saved (freeIn (now (a .ids))) .read (drop (a .at) (now (a .s))))
-marked c = rw rest-is at (c .saved .ensures .1)
+marked : (c : tie.After-name-mapping) → let a = start c .args in NameMappingMarked (now (a .ids)) (c .name-mapping .last .1 .0) (nameMapping (freeIn (now (a .ids))) .read (drop (a .at) (now (a .s))))
+marked c = rw rest-is at (c .name-mapping .ensures .1)
 
-told : (c : tie.After-saved) {r : SavedRead} → c .saved .result ≡ r → let a = start c .args in toldSaved r ≡ mapRead shownSaved (saved (freeIn (now (a .ids))) .read (drop (a .at) (now (a .s))))
-told c e = sym (ap toldSaved e) ∙ (rw rest-is at (c .saved .ensures .0))
+told : (c : tie.After-name-mapping) {r : NameMappingRead} → c .name-mapping .result ≡ r → let a = start c .args in toldMapping r ≡ mapRead shownMapping (nameMapping (freeIn (now (a .ids))) .read (drop (a .at) (now (a .s))))
+told c e = sym (ap toldMapping e) ∙ (rw rest-is at (c .name-mapping .ensures .0))
 
 names : (c : tie.After-timestamp) → let a = start (c .before .before) .args in let r = c .timestamp .given .0 in
-    NamesRead (now (a .ids)) (c .before .before .saved .last .1 .0) (now (a .s)) (a .o) (a .at) (r .0) (r .1 .0) (r .1 .1 .0)
+    NamesRead (now (a .ids)) (c .before .before .name-mapping .last .1 .0) (now (a .s)) (a .o) (a .at) (r .0) (r .1 .0) (r .1 .1 .0)
 names c = let d = c .before .before in names-read _ _ _ (start d .pre .1) (start d .pre .0) (marked d) (told d (c .timestamp .given .1))
 
 -- node data
 nodes-told : (c : tie.After-node-data) {r : Reach} → c .node-data .result ≡ r → toldReach r ≡ nodesThere (names (c .before .before .before))
 nodes-told c e = sym (ap toldReach e) ∙ (rw rest-is at (c .node-data .ensures))
 
-sub-saved : tie.Need-sub-saved
-sub-saved c = ends-in opening (c .before .pre .1)
+sub-name-mapping : tie.Need-sub-name-mapping
+sub-name-mapping c = ends-in opening (c .before .pre .1)
 
-part-saved-start : tie.Need-part-saved-start
-part-saved-start c = ends-in opening (c .before .pre .1)
+part-name-mapping-start : tie.Need-part-name-mapping-start
+part-name-mapping-start c = ends-in opening (c .before .pre .1)
 
-part-saved-end : tie.Need-part-saved-end
-part-saved-end c = search needs
+part-name-mapping-end : tie.Need-part-name-mapping-end
+part-name-mapping-end c = search needs
 
-saved-requires : tie.Need-saved-requires
-saved-requires c κs = search needs
+name-mapping-requires : tie.Need-name-mapping-requires
+name-mapping-requires c κs = search needs
 
 enum-known-f : tie.Need-enum-known-f
 enum-known-f c = search needs
@@ -52,7 +52,7 @@ add-t20 : tie.Need-add-t20
 add-t20 c =
     let d = c .before .before .before in
     let a = start d .args in
-    omega (arith, opened-in shownSaved (saved (freeIn (now (a .ids)))) (now (a .s)) (start d .pre .1) (told d (c .before .f .given .1)))
+    omega (arith, opened-in shownMapping (nameMapping (freeIn (now (a .ids)))) (now (a .s)) (start d .pre .1) (told d (c .before .f .given .1)))
 
 enum-known-timestamp : tie.Need-enum-known-timestamp
 enum-known-timestamp c = search needs
@@ -126,10 +126,10 @@ pub named-front-spec : {M : Type 1} → statement M
 named-front-spec =
     tie.close
     (tie.spec
-    sub-saved
-    part-saved-start
-    part-saved-end
-    saved-requires
+    sub-name-mapping
+    part-name-mapping-start
+    part-name-mapping-end
+    name-mapping-requires
     enum-known-f
     add-t20
     enum-known-timestamp

@@ -1,14 +1,14 @@
 use borrow.Author.Needs.{needs}
 use Prim.Native.Nat.{_+_, _≤_}
 use Rattle.mapblock.proofs.Rests.{sized, no-names, names-long, names-upto, names-restored}
-use Rattle.mapblock.proofs.SoFar.{middle-inside}
+use Rattle.mapblock.proofs.WithoutLateTimers.{middle-inside}
 use Rattle.mapblock.proofs.Leaves.{told-in}
-use Rattle.mapblock.specs.Told.{shownSaved, toldSaved}
-use Rattle.mapblock.specs.Table.{freeIn, SavedMarked}
-use Rattle.mapblock.specs.Layout.{saved}
+use Rattle.mapblock.specs.Told.{shownMapping, toldMapping}
+use Rattle.mapblock.specs.Table.{freeIn, NameMappingMarked}
+use Rattle.mapblock.specs.Layout.{nameMapping}
 use Rattle.wire.specs.Format.{pair}
 use Rattle.wire.specs.Read.{done, mapRead, map-refused}
-use Rattle.wire.specs.Lists.{rest-is}
+use Rattle.wire.proofs.Lists.{rest-is}
 use Rattle.wire.specs.Bytes.{Bytes}
 use lib.ListN.{length, drop, length-drop}
 use denote.Ref.{now}
@@ -25,19 +25,19 @@ inside : (c : tie.After-shared-slice-known) → let a = c .before .args in a .w 
 inside c = let p = c .before .pre in middle-inside _ _ _ _ (p .1 .1) _ (p .2) (bytes c)
 
 -- the names that were read, and the table with them
-saved-is : (c : tie.After-timestamp) → let a = c .before .before .before .before .before .before .before .before .before .before .args in let at = a .w .end + a .m .metadata + a .m .early + a .m .objects in let g = c .timestamp .given .0 in
-    (done (pair (g .0) (g .1 .0)) (g .1 .1 .0) ≡ mapRead shownSaved (saved (freeIn (now (a .ids))) .read (drop at (now (a .s)))))
-    × SavedMarked (now (a .ids)) (c .before .before .saved .last .1 .0) (saved (freeIn (now (a .ids))) .read (drop at (now (a .s))))
-saved-is c =
+name-mapping-is : (c : tie.After-timestamp) → let a = c .before .before .before .before .before .before .before .before .before .before .args in let at = a .w .end + a .m .metadata + a .m .early + a .m .objects in let g = c .timestamp .given .0 in
+    (done (pair (g .0) (g .1 .0)) (g .1 .1 .0) ≡ mapRead shownMapping (nameMapping (freeIn (now (a .ids))) .read (drop at (now (a .s)))))
+    × NameMappingMarked (now (a .ids)) (c .before .before .name-mapping .last .1 .0) (nameMapping (freeIn (now (a .ids))) .read (drop at (now (a .s))))
+name-mapping-is c =
     let a = c .before .before .before .before .before .before .before .before .before .before .args in
-    let e = rw (rest-is (a .w .end + a .m .metadata + a .m .early + a .m .objects) (now (a .s))) at (c .before .before .saved .ensures) in
-    (sym (ap toldSaved (c .timestamp .given .1)) ∙ e .0, e .1)
+    let e = rw (rest-is (a .w .end + a .m .metadata + a .m .early + a .m .objects) (now (a .s))) at (c .before .before .name-mapping .ensures) in
+    (sym (ap toldMapping (c .timestamp .given .1)) ∙ e .0, e .1)
 
 names-are : (c : tie.After-timestamp) → let a = c .before .before .before .before .before .before .before .before .before .before .args in
     (7 ≤ c .timestamp .given .0 .1 .1 .0) × (a .w .end + a .m .metadata + a .m .early + a .m .objects + c .timestamp .given .0 .1 .1 .0 ≤ length (now (a .s)))
 names-are c =
     let p = c .before .before .before .before .before .before .before .before .before .before .pre in
-    names-long _ _ _ _ (p .1 .1) _ (p .2) (bytes (c .before .before .before .before .before .before .before .before .before)) (p .0) (saved-is c .0)
+    names-long _ _ _ _ (p .1 .1) _ (p .2) (bytes (c .before .before .before .before .before .before .before .before .before)) (p .0) (name-mapping-is c .0)
 
 add-at : tie.Need-add-at
 add-at c = omega (arith, inside (c .before .before))
@@ -48,17 +48,17 @@ add-at-2 c = omega (arith, inside (c .before .before .before))
 add-at-3 : tie.Need-add-at-3
 add-at-3 c = omega (arith, inside (c .before .before .before .before))
 
-sub-saved : tie.Need-sub-saved
-sub-saved c = inside (c .before .before .before .before)
+sub-name-mapping : tie.Need-sub-name-mapping
+sub-name-mapping c = inside (c .before .before .before .before)
 
-part-saved-start : tie.Need-part-saved-start
-part-saved-start c = inside (c .before .before .before .before)
+part-name-mapping-start : tie.Need-part-name-mapping-start
+part-name-mapping-start c = inside (c .before .before .before .before)
 
-part-saved-end : tie.Need-part-saved-end
-part-saved-end c = search needs
+part-name-mapping-end : tie.Need-part-name-mapping-end
+part-name-mapping-end c = search needs
 
-saved-requires : tie.Need-saved-requires
-saved-requires c κs = search needs
+name-mapping-requires : tie.Need-name-mapping-requires
+name-mapping-requires c κs = search needs
 
 enum-known-f : tie.Need-enum-known-f
 enum-known-f c = search needs
@@ -67,8 +67,8 @@ add-t21 : tie.Need-add-t21
 add-t21 c =
     let a = c .before .before .before .before .before .before .before .before .before .before .before .args in
     let s = now (a .s) in
-    let e = rw (rest-is _ s) at (sym (ap toldSaved (c .before .f .given .1)) ∙ c .before .before .before .saved .ensures .0) in
-    omega (arith, inside (c .before .before .before .before .before .before .before .before .before .before), length-drop (a .w .end + a .m .metadata + a .m .early + a .m .objects) s, told-in shownSaved (saved (freeIn (now (a .ids)))) (drop (a .w .end + a .m .metadata + a .m .early + a .m .objects) s) e)
+    let e = rw (rest-is _ s) at (sym (ap toldMapping (c .before .f .given .1)) ∙ c .before .before .before .name-mapping .ensures .0) in
+    omega (arith, inside (c .before .before .before .before .before .before .before .before .before .before), length-drop (a .w .end + a .m .metadata + a .m .early + a .m .objects) s, told-in shownMapping (nameMapping (freeIn (now (a .ids)))) (drop (a .w .end + a .m .metadata + a .m .early + a .m .objects) s) e)
 
 enum-known-timestamp : tie.Need-enum-known-timestamp
 enum-known-timestamp c = search needs
@@ -78,8 +78,8 @@ rows-of-requires c κs =
     let k = names-are (c .before) in
     (k .0, omega (arith, k .1, c .before .before .before .before .before .before .before .before .before .before .before .good .0 .0))
 
-so-far-requires : tie.Need-so-far-requires
-so-far-requires c κs = let p = c .before .before .before .before .before .before .before .before .before .before .before .before .pre in sized _ _ _ _ (p .1 .1) _ (p .2) (bytes (c .before .before .before .before .before .before .before .before .before .before .before)) (c .before .before .before .before .before .before .before .before .before .before .before .before .good .0 .0)
+without-late-timers-requires : tie.Need-without-late-timers-requires
+without-late-timers-requires c κs = let p = c .before .before .before .before .before .before .before .before .before .before .before .before .pre in sized _ _ _ _ (p .1 .1) _ (p .2) (bytes (c .before .before .before .before .before .before .before .before .before .before .before)) (c .before .before .before .before .before .before .before .before .before .before .before .before .good .0 .0)
 
 add-ending : tie.Need-add-ending
 add-ending c = omega (arith, names-are (c .before .before .before) .1, c .before .before .before .before .before .before .before .before .before .before .before .before .before .good .0 .0)
@@ -87,7 +87,7 @@ add-ending c = omega (arith, names-are (c .before .before .before) .1, c .before
 ending-requires : tie.Need-ending-requires
 ending-requires c κs =
     let p = c .before .before .before .before .before .before .before .before .before .before .before .before .before .before .pre in
-    (freeIn (p .1 .0), rw (c .before .so-far .ensures, c .before .before .rows-of .ensures) (names-upto _ _ _ _ (p .1 .1) _ (p .2) (bytes (c .before .before .before .before .before .before .before .before .before .before .before .before .before)) (p .0) (saved-is (c .before .before .before .before) .0) _ (saved-is (c .before .before .before .before) .1)))
+    (freeIn (p .1 .0), rw (c .before .without-late-timers .ensures, c .before .before .rows-of .ensures) (names-upto _ _ _ _ (p .1 .1) _ (p .2) (bytes (c .before .before .before .before .before .before .before .before .before .before .before .before .before)) (p .0) (name-mapping-is (c .before .before .before .before) .0) _ (name-mapping-is (c .before .before .before .before) .1)))
 
 add-unmark : tie.Need-add-unmark
 add-unmark c = omega (arith, names-are (c .before .before .before .before .before), c .before .before .before .before .before .before .before .before .before .before .before .before .before .before .before .good .0 .0)
@@ -109,18 +109,18 @@ returns c =
     let a = c .before .before .before .before .before .before .before .before .before .before .before .args in
     let p = c .before .before .before .before .before .before .before .before .before .before .before .pre in
     let at = a .w .end + a .m .metadata + a .m .early + a .m .objects in
-    let r = saved (freeIn (now (a .ids))) .read (drop at (now (a .s))) in
-    let e = rw (rest-is at (now (a .s))) at (c .before .before .before .saved .ensures) in
-    let k = sym (ap toldSaved (c .before .f .given .1)) ∙ e .0 in
-    ((λ t F. no-names t _ _ _ F _ (p .2) (bytes (c .before .before .before .before .before .before .before .before .before .before)) (p .0) k), rw (map-refused shownSaved r _ _ (sym k)) at (e .1))
+    let r = nameMapping (freeIn (now (a .ids))) .read (drop at (now (a .s))) in
+    let e = rw (rest-is at (now (a .s))) at (c .before .before .before .name-mapping .ensures) in
+    let k = sym (ap toldMapping (c .before .f .given .1)) ∙ e .0 in
+    ((λ t F. no-names t _ _ _ F _ (p .2) (bytes (c .before .before .before .before .before .before .before .before .before .before)) (p .0) k), rw (map-refused shownMapping r _ _ (sym k)) at (e .1))
 
 returns-2 : tie.Need-returns-2
 returns-2 c =
     let a = c .before .before .before .before .before .before .before .before .before .before .before .before .before .before .before .before .before .before .args in
     let p = c .before .before .before .before .before .before .before .before .before .before .before .before .before .before .before .before .before .before .pre in
     let at = a .w .end + a .m .metadata + a .m .early + a .m .objects in
-    let e = saved-is (c .before .before .before .before .before .before .before .before) in (
-      (λ t F. c .before .before .before .ending .ensures (freeIn t) (rw (c .before .before .before .before .before .so-far .ensures, c .before .before .before .before .before .before .rows-of .ensures) (names-upto t _ _ _ F _ (p .2) (bytes (c .before .before .before .before .before .before .before .before .before .before .before .before .before .before .before .before .before)) (p .0) (e .0) _ (e .1)))),
+    let e = name-mapping-is (c .before .before .before .before .before .before .before .before) in (
+      (λ t F. c .before .before .before .ending .ensures (freeIn t) (rw (c .before .before .before .before .before .without-late-timers .ensures, c .before .before .before .before .before .before .rows-of .ensures) (names-upto t _ _ _ F _ (p .2) (bytes (c .before .before .before .before .before .before .before .before .before .before .before .before .before .before .before .before .before)) (p .0) (e .0) _ (e .1)))),
       rw (rest-is (at + 7) (now (a .s))) at (c .unmark .ensures) ∙ names-restored _ _ _ _ (p .1 .1) _ (p .2) (bytes (c .before .before .before .before .before .before .before .before .before .before .before .before .before .before .before .before .before)) (p .0) (e .0) _ (e .1),
     )
 
@@ -131,15 +131,15 @@ names-behind-spec =
     add-at
     add-at-2
     add-at-3
-    sub-saved
-    part-saved-start
-    part-saved-end
-    saved-requires
+    sub-name-mapping
+    part-name-mapping-start
+    part-name-mapping-end
+    name-mapping-requires
     enum-known-f
     add-t21
     enum-known-timestamp
     rows-of-requires
-    so-far-requires
+    without-late-timers-requires
     add-ending
     ending-requires
     add-unmark

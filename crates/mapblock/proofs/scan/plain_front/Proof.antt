@@ -4,7 +4,7 @@ use native.Mathlib.Omega.{arith}
 use borrow.Author.Needs.{needs}
 use denote.Ref.{now}
 use lib.ListN.{length, drop}
-use Rattle.wire.specs.Lists.{rest-is}
+use Rattle.wire.proofs.Lists.{rest-is}
 use Rattle.wire.specs.Read.{reach}
 use Rattle.wire.specs.Format.{ends-in}
 use Rattle.mapblock.specs.Layout.{opening, nodes}

@@ -2,9 +2,9 @@ use borrow.Author.Needs.{needs}
 use Prim.Native.Nat.{_≤_}
 use Rattle.mapblock.proofs.Verdicts.{verdict-refused}
 use Rattle.mapblock.proofs.Rests.{front-inside, front-undone}
-use Rattle.mapblock.proofs.Uptos.{block-no-front}
+use Rattle.mapblock.proofs.ReadUpTo.{block-no-front}
 use Rattle.mapblock.specs.Scan.{FrontIs}
-use Rattle.wire.specs.Lists.{rest-is}
+use Rattle.wire.proofs.Lists.{rest-is}
 use lib.ListN.{length}
 use denote.Ref.{now}
 use native.Mathlib.Omega.{arith}

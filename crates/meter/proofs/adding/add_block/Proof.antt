@@ -3,8 +3,7 @@ use borrow.Author.Tests.{not-true, not-false}
 use native.Mathlib.Omega.{arith}
 use Rattle.mapblock.specs.Table.{unmarked}
 use Rattle.mapblock.proofs.NameWalks.{all-run}
-use Rattle.names.proofs.UsedWalk.{used-places}
-use Rattle.meter.specs.Adding.{part}
+use Rattle.census.proofs.UsedWalk.{used-places}
 use Rattle.meter.proofs.AddedBlock.{added-none, added-block}
 use borrow.Author.Needs.{needs}
 use Rattle.meter.proofs.adding.add_block.Statement.{statement}
@@ -14,13 +13,13 @@ has-requires : tie.Need-has-requires
 has-requires c κs = search needs
 
 returns : tie.Need-returns
-returns c = (refl, λ b R a. added-none (part (c .before .before .before .before .before .args .lot) (c .before .before .before .before .before .args .span)) (c .before .before .before .before .before .args .at) a (sym (c .before .has .ensures) ∙ not-true _ (c .if1 .taken)))
+returns c = (refl, λ b R a. added-none (c .before .before .before .before .before .before .args .part) (c .before .before .before .before .before .before .args .at) a (sym (c .before .has .ensures) ∙ not-true _ (c .if1 .taken)))
 
-cut-requires : tie.Need-cut-requires
-cut-requires c κs = search needs
+slice-of-requires : tie.Need-slice-of-requires
+slice-of-requires c κs = search needs
 
-cut-requires-2 : tie.Need-cut-requires-2
-cut-requires-2 c κs = search needs
+slice-of-requires-2 : tie.Need-slice-of-requires-2
+slice-of-requires-2 c κs = search needs
 
 count-in-requires : tie.Need-count-in-requires
 count-in-requires c κs = search needs
@@ -44,7 +43,7 @@ same-length : tie.Need-same-length
 same-length c = search needs
 
 returns-2 : tie.Need-returns-2
-returns-2 c = (c .before .before .before .before .add-used .ensures .0, λ b R a. added-block (part (c .before .before .before .before .before .before .before .before .before .before .before .before .before .before .before .before .before .before .before .before .before .before .before .before .before .before .args .lot) (c .before .before .before .before .before .before .before .before .before .before .before .before .before .before .before .before .before .before .before .before .before .before .before .before .before .before .args .span)) (c .before .before .before .before .before .before .before .before .before .before .before .before .before .before .before .before .before .before .before .before .before .before .before .before .before .before .args .at) (λ i. c .before .before .before .before .before .before .before .before .before .before .before .before .before .before .before .before .before .before .before .before .before .before .before .before .before .shared-slice-known .given i .fits) a (sym (c .before .before .before .before .before .before .before .before .before .before .before .before .before .before .before .before .before .before .before .before .before .before .has .ensures) ∙ not-false _ (c .before .before .before .before .before .before .before .before .before .before .before .before .before .before .before .before .before .before .before .before .before .if1 .left)) (c .before .before .before .before .before .before .before .before .before .before .before .before .before .before .before .before .before .before .before .cut .ensures .bytes) (c .before .before .before .before .before .before .before .before .before .before .before .before .before .before .before .before .before .before .cut2 .ensures .bytes) record { counts = c .before .before .before .before .before .before .before .before .before .before .before .before .before .before .before .before .count-in .ensures .0; uses = λ l r f. used-places _ _ r f (c .before .before .before .before .before .before .before .before .before .before .before .before .before .used .ensures .1); adds = c .before .before .before .before .add-used .ensures .1; clears = λ l r. c .clear .ensures ∙ ap (unmarked _) (all-run r) })
+returns-2 c = (c .before .before .before .before .add-used .ensures .0, λ b R a. added-block (c .before .before .before .before .before .before .before .before .before .before .before .before .before .before .before .before .before .before .before .before .before .before .before .before .before .before .before .args .part) (c .before .before .before .before .before .before .before .before .before .before .before .before .before .before .before .before .before .before .before .before .before .before .before .before .before .before .before .args .at) (λ i. c .before .before .before .before .before .before .before .before .before .before .before .before .before .before .before .before .before .before .before .before .before .before .before .before .before .before .shared-slice-known .given i .fits) a (sym (c .before .before .before .before .before .before .before .before .before .before .before .before .before .before .before .before .before .before .before .before .before .before .has .ensures) ∙ not-false _ (c .before .before .before .before .before .before .before .before .before .before .before .before .before .before .before .before .before .before .before .before .before .if1 .left)) (c .before .before .before .before .before .before .before .before .before .before .before .before .before .before .before .before .before .before .before .slice-of .ensures .bytes) (c .before .before .before .before .before .before .before .before .before .before .before .before .before .before .before .before .before .before .slice-of2 .ensures .bytes) record { counts = c .before .before .before .before .before .before .before .before .before .before .before .before .before .before .before .before .count-in .ensures .0; uses = λ l r f. used-places _ _ r f (c .before .before .before .before .before .before .before .before .before .before .before .before .before .used .ensures .1); adds = c .before .before .before .before .add-used .ensures .1; clears = λ l r. c .clear .ensures ∙ ap (unmarked _) (all-run r) })
 
 pub add-block-spec : {M : Type 1} → statement M
 add-block-spec =
@@ -52,8 +51,8 @@ add-block-spec =
     (tie.spec
     has-requires
     returns
-    cut-requires
-    cut-requires-2
+    slice-of-requires
+    slice-of-requires-2
     count-in-requires
     used-requires
     sized-requires

@@ -8,20 +8,19 @@ use lib.ListN.{length}
 use denote.Ref.{now}
 use mir.Syntax.{w64}
 use mir.ValLaws.{toZ-ofZ}
-use Rattle.meter.specs.Adding.{part}
-use Rattle.wire.specs.Read.{found}
+use Rattle.wire.specs.Read.{toOption}
 use Rattle.wire.proofs.Steps.{told-as}
-use Rattle.meter.specs.Records.{toldFrame}
-use Rattle.meter.specs.Sheet.{frame}
-use Rattle.meter.specs.Standing.{Part}
-use Rattle.meter.specs.declared.records.FrameRead.the-variants as frames
+use Rattle.sheet.specs.Records.{toldFrame}
+use Rattle.sheet.specs.Sheet.{frame}
+use Rattle.position.specs.declared.part.Part.{Part}
+use Rattle.sheet.specs.declared.records.FrameRead.the-variants as frames
 use Rattle.meter.proofs.Taking.{framed-as, framed-inside, told-misframed, told-refused, told-taken}
 use Rattle.meter.proofs.stream.take_record.Statement.{statement}
 use Rattle.meter.proofs.stream.take_record.Tie as tie
 
 -- the part, the bytes, and the record that stands at their front
 abbrev whole : tie.Start → Part
-whole s = part (s .args .lot) (s .args .span)
+whole s = s .args .part
 
 abbrev bytes : tie.Start → List ℕ
 bytes s = now (s .args .s)
@@ -32,7 +31,7 @@ key c = c .before .key .given .0 .0
 abbrev size : tie.After-known-told → ℕ
 size c = c .before .key .given .0 .1 .0
 
-framed : (c : tie.After-known-told) → toldFrame (bytes (c .before .before .before .before .before .before)) (frames.Record (key c) (size c)) ≡ found (frame .read (bytes (c .before .before .before .before .before .before)))
+framed : (c : tie.After-known-told) → toldFrame (bytes (c .before .before .before .before .before .before)) (frames.Record (key c) (size c)) ≡ toOption (frame .read (bytes (c .before .before .before .before .before .before)))
 framed c = told-as (toldFrame (bytes (c .before .before .before .before .before .before))) (c .before .before .before .frame .ensures) (c .before .key .given .1)
 
 inside : (c : tie.After-known-told) → size c + 12 ≤ length (bytes (c .before .before .before .before .before .before))
@@ -81,7 +80,7 @@ returns-2 c =
     let x = c .before .before .before .before .before in
     let m = x .before .before .before .before .before .before .before in
     let s = m .before .before .before .before .before .before in
-    (x .step .ensures .0, (x .step .ensures .1 .0, (tt, λ w k. told-refused (whole s) w (bytes s) (framed-as (bytes s) (key m) (size m) (framed m)) (x .step .last .1 .1 .1 .1 .1 .1 .1 .0) (x .step .last .1 .1 .1 .1 .1 .0) (x .step .result) (simp (toZ-ofZ w64 (key m) (record { sfits = m .known-told .given .0 .1 })) at (x .step .ensures .1 .1 w k)) (c .before .f .given .1))))
+    (x .step .ensures .0, (x .step .ensures .1 .0, (tt, λ w k. told-refused (whole s) w (bytes s) (framed-as (bytes s) (key m) (size m) (framed m)) (x .step .last .1 .1 .1 .1 .1 .1 .0) (x .step .last .1 .1 .1 .1 .0) (x .step .result) (simp (toZ-ofZ w64 (key m) (record { sfits = m .known-told .given .0 .1 })) at (x .step .ensures .1 .1 w k)) (c .before .f .given .1))))
 
 same-length-2 : tie.Need-same-length-2
 same-length-2 c = search needs
@@ -91,7 +90,7 @@ returns-3 c =
     let x = c .before .before .before .before .before in
     let m = x .before .before .before .before .before .before .before in
     let s = m .before .before .before .before .before .before in
-    (x .step .ensures .0, (x .step .ensures .1 .0, (inside m, λ w k. told-taken (whole s) w (bytes s) (framed-as (bytes s) (key m) (size m) (framed m)) (x .step .last .1 .1 .1 .1 .1 .1 .1 .0) (x .step .last .1 .1 .1 .1 .1 .0) (x .step .result) (simp (toZ-ofZ w64 (key m) (record { sfits = m .known-told .given .0 .1 })) at (x .step .ensures .1 .1 w k)) (c .before .next .given .1))))
+    (x .step .ensures .0, (x .step .ensures .1 .0, (inside m, λ w k. told-taken (whole s) w (bytes s) (framed-as (bytes s) (key m) (size m) (framed m)) (x .step .last .1 .1 .1 .1 .1 .1 .0) (x .step .last .1 .1 .1 .1 .0) (x .step .result) (simp (toZ-ofZ w64 (key m) (record { sfits = m .known-told .given .0 .1 })) at (x .step .ensures .1 .1 w k)) (c .before .next .given .1))))
 
 pub take-record-spec : {M : Type 1} → statement M
 take-record-spec =

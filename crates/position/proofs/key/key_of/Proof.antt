@@ -5,7 +5,7 @@ use native.Mathlib.Omega.{arith}
 use lib.IntN.{ℤ, pos, _+ℤ_, _*ℤ_}
 use mir.Syntax.{w64}
 use mir.Val.{SFits}
-use Rattle.wire.specs.Ints.{plus-is, times-is, fits-int}
+use Rattle.wire.proofs.Ints.{plus-is, times-is, fits-int}
 use Rattle.position.specs.Keys.{allInside, keyOf}
 use Rattle.position.proofs.Ranges.{all-inside}
 use Rattle.position.proofs.Keys.{key-is}

@@ -4,7 +4,7 @@ use native.Mathlib.Omega.{arith}
 use mir.Syntax.{w32}
 use mir.Val.{SFits}
 use mir.ValLaws.{toZ-ofZ, toZ-pos}
-use Rattle.wire.specs.Ints.{fits-int}
+use Rattle.wire.proofs.Ints.{fits-int}
 use Rattle.position.specs.Keys.{lowered}
 use Rattle.position.proofs.Keys.{lowered-is}
 use Rattle.position.proofs.key.low.Statement.{statement}

@@ -9,7 +9,7 @@ use mir.Facts.{fits-natAbs}
 use mir.Syntax.{w64}
 use mir.Val.{SFits, Fits, toZ, ofZ}
 use mir.ValLaws.{toZ-ofZ}
-use Rattle.wire.specs.Ints.{up, down, plus-is, fits-int, not-neg}
+use Rattle.wire.proofs.Ints.{up, down, plus-is, fits-int, not-neg}
 use Rattle.position.specs.Keys.{moved, isKey}
 use Rattle.position.proofs.Keys.{isKey-yes}
 use Rattle.position.proofs.key.shifted.Statement.{statement}

@@ -8,7 +8,7 @@ use Rattle.wire.proofs.Steps.{told-as}
 use Rattle.tally.specs.Told.{toldRow}
 use Rattle.tally.specs.declared.rows.RowRead.the-variants as rows
 use Rattle.tally.proofs.Held.{row-inside}
-use Rattle.tally.proofs.Nexts.{Front}
+use Rattle.tally.proofs.SumRows.{Front}
 use Rattle.report.proofs.Passing.{behind-short, Writing, writing-start, writing-room, writing-end, writing-on}
 use Rattle.report.proofs.lines.put_lines.Statement.{statement}
 use Rattle.report.proofs.lines.put_lines.Tie as tie

@@ -2,7 +2,7 @@ use borrow.Author.Needs.{needs}
 use Prim.Native.Nat.{ℕ}
 use mathlib.Core.Path.{refl}
 use lib.ListN.{length-replicate}
-use Rattle.meter.specs.Records.{clearTable}
+use Rattle.mapblock.specs.Table.{clearTable}
 use Rattle.sheetcount_lib.proofs.Whole.{if-read}
 use Rattle.sheetcount_lib.proofs.reading.count_sheet.Statement.{statement}
 use Rattle.sheetcount_lib.proofs.reading.count_sheet.Tie as tie

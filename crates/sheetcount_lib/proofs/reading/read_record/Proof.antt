@@ -9,8 +9,8 @@ use denote.Ref.{now}
 use Rattle.wire.specs.Answer.{good}
 use Rattle.wire.specs.Bytes.{Bytes, bytes-take}
 use Rattle.wire.proofs.Steps.{told-as}
-use Rattle.meter.specs.Program.{mostBlock, blockLengthOf, toldLength}
-use Rattle.meter.proofs.Sheetcount.{length-most}
+use Rattle.sheetcount_lib.specs.Program.{maxBlockLength, blockLengthOf, toldLength}
+use Rattle.sheetcount_lib.proofs.Sheetcount.{length-most}
 use Rattle.sheetcount_lib.specs.Reading.{longest}
 use Rattle.sheetcount_lib.proofs.Counts.{within-part, within-more, record-within}
 use Rattle.sheetcount_lib.proofs.reading.read_record.Statement.{statement}
@@ -36,7 +36,7 @@ judged h = bytes-take (head h) (filled (h .before .before .before .before)) (λ 
 told : (c : tie.After-known-told2) → blockLengthOf 0 (take (head (c .before .before .before .before .before)) (filled (c .before .before .before .before .before .before .before .before .before))) ≡ good (c .before .size .given .0 .0)
 told c = sym (told-as (toldLength 0) (c .before .before .before .block-length .ensures 0) (c .before .size .given .1))
 
-short : (c : tie.After-known-told2) → c .before .size .given .0 .0 ≤ mostBlock
+short : (c : tie.After-known-told2) → c .before .size .given .0 .0 ≤ maxBlockLength
 short c = length-most 0 _ _ (judged (c .before .before .before .before .before)) (told c)
 
 slice-relend-prefix-read-bytes : tie.Need-slice-relend-prefix-read-bytes

@@ -4,11 +4,11 @@ use mathlib.Core.List.{List}
 use native.Mathlib.Omega.{arith}
 use denote.Ref.{now}
 use lib.ListN.{length, take, drop, length-drop}
-use Rattle.wire.specs.Lists.{rest-is}
+use Rattle.wire.proofs.Lists.{rest-is}
 use Rattle.tally.specs.Rows.{Row}
-use Rattle.tally.specs.Sought.{Sought}
-use Rattle.tally.specs.declared.add.Found.the-variants as founds
-use Rattle.tally.proofs.Seeking.{sought-told}
+use Rattle.tally.specs.LookedUp.{LookedUp}
+use Rattle.tally.specs.declared.lookup.Lookup.the-variants as lookups
+use Rattle.tally.proofs.LookingUp.{looked-up-told}
 use Rattle.tally.proofs.Adding.{row-place, row-full, row-counted, new-place, new-many, new-full, new-added}
 use Rattle.tally.proofs.add.add_row.Statement.{statement}
 use Rattle.tally.proofs.add.add_row.Tie as tie
@@ -24,8 +24,8 @@ part s = take (s .args .used - 9) (drop 9 (now (s .args .buffer)))
 abbrev start₁ : tie.After-known-told → tie.Start
 start₁ c = c .before .before .before .before .before .before .before .before
 
-a-row : (c : tie.After-known-told) → Sought (part (start₁ c)) (now (start₁ c .args .name)) (founds.Row (c .before .at .given .0 .0) (c .before .at .given .0 .1 .0))
-a-row c = let s = start₁ c in sought-told (now (s .args .buffer)) 9 (s .args .used - 9) (now (s .args .name)) (λ i. c .before .before .before .before .before .before .before .slice-known .given i .fits) (c .before .before .before .seek .ensures) (c .before .at .given .1)
+a-row : (c : tie.After-known-told) → LookedUp (part (start₁ c)) (now (start₁ c .args .name)) (lookups.Present (c .before .at .given .0 .0) (c .before .at .given .0 .1 .0))
+a-row c = let s = start₁ c in looked-up-told (now (s .args .buffer)) 9 (s .args .used - 9) (now (s .args .name)) (λ i. c .before .before .before .before .before .before .before .slice-known .given i .fits) (c .before .before .before .look-up .ensures) (c .before .at .given .1)
 
 row-in : (c : tie.After-known-told) → (let s = start₁ c in c .before .at .given .0 .0 + (length (now (s .args .name)) + 10) + 9 ≤ s .args .used)
 row-in c = let s = start₁ c in row-place (now (s .args .buffer)) (s .args .used) (s .args .rows) (asked s) (s .pre) _ _ (a-row c)
@@ -33,23 +33,23 @@ row-in c = let s = start₁ c in row-place (now (s .args .buffer)) (s .args .use
 abbrev start₂ : tie.After-known-told2 → tie.Start
 start₂ c = c .before .before .before .before .before .before .before .before
 
-a-place : (c : tie.After-known-told2) → Sought (part (start₂ c)) (now (start₂ c .args .name)) (founds.Place (c .before .at2 .given .0 .0))
-a-place c = let s = start₂ c in sought-told (now (s .args .buffer)) 9 (s .args .used - 9) (now (s .args .name)) (λ i. c .before .before .before .before .before .before .before .slice-known .given i .fits) (c .before .before .before .seek .ensures) (c .before .at2 .given .1)
+a-place : (c : tie.After-known-told2) → LookedUp (part (start₂ c)) (now (start₂ c .args .name)) (lookups.Absent (c .before .at2 .given .0 .0))
+a-place c = let s = start₂ c in looked-up-told (now (s .args .buffer)) 9 (s .args .used - 9) (now (s .args .name)) (λ i. c .before .before .before .before .before .before .before .slice-known .given i .fits) (c .before .before .before .look-up .ensures) (c .before .at2 .given .1)
 
 place-in : (c : tie.After-known-told2) → (let s = start₂ c in c .before .at2 .given .0 .0 + 9 ≤ s .args .used)
 place-in c = let s = start₂ c in new-place (now (s .args .buffer)) (s .args .used) (s .args .rows) (asked s) (s .pre) _ (a-place c)
 
-sub-seek : tie.Need-sub-seek
-sub-seek c = search needs
+sub-look-up : tie.Need-sub-look-up
+sub-look-up c = search needs
 
-part-seek-start : tie.Need-part-seek-start
-part-seek-start c = search needs
+part-look-up-start : tie.Need-part-look-up-start
+part-look-up-start c = search needs
 
-part-seek-end : tie.Need-part-seek-end
-part-seek-end c = search needs
+part-look-up-end : tie.Need-part-look-up-end
+part-look-up-end c = search needs
 
-seek-requires : tie.Need-seek-requires
-seek-requires c κs = search needs
+look-up-requires : tie.Need-look-up-requires
+look-up-requires c κs = search needs
 
 enum-known-at : tie.Need-enum-known-at
 enum-known-at c = search needs
@@ -111,20 +111,20 @@ returns-3 c L e =
 add-place : tie.Need-add-place
 add-place c = omega (arith, place-in (c .before .before))
 
-sub-open-row : tie.Need-sub-open-row
-sub-open-row c = omega (arith, place-in (c .before .before))
+sub-insert-row : tie.Need-sub-insert-row
+sub-insert-row c = omega (arith, place-in (c .before .before))
 
-part-open-row-start : tie.Need-part-open-row-start
-part-open-row-start c = omega (arith, place-in (c .before .before))
+part-insert-row-start : tie.Need-part-insert-row-start
+part-insert-row-start c = omega (arith, place-in (c .before .before))
 
-part-open-row-end : tie.Need-part-open-row-end
-part-open-row-end c = search needs
+part-insert-row-end : tie.Need-part-insert-row-end
+part-insert-row-end c = search needs
 
-sub-open-row-2 : tie.Need-sub-open-row-2
-sub-open-row-2 c = place-in (c .before .before .before)
+sub-insert-row-2 : tie.Need-sub-insert-row-2
+sub-insert-row-2 c = place-in (c .before .before .before)
 
-open-row-requires : tie.Need-open-row-requires
-open-row-requires c κs =
+insert-row-requires : tie.Need-insert-row-requires
+insert-row-requires c κs =
     let k = c .before .before .before in
     let a = start₂ k .args in
     (start₂ k .pre .name, rw (rest-is (k .before .at2 .given .0 .0 + 9) (now (a .buffer)), length-drop) (omega (arith, place-in k)))
@@ -154,16 +154,16 @@ returns-5 : tie.Need-returns-5
 returns-5 c L e =
     let k = c .before .before .before .before .before .before .before .before .before .before in
     let s = start₂ k in
-    new-added (now (s .args .buffer)) (s .args .used) (s .args .rows) (asked s) (s .pre) (λ i. c .before .before .before .before .before .before .before .before .before .before .before .before .before .before .before .before .before .slice-known .given i .fits) L e _ (a-place k) (omega arith) _ (c .before .before .before .before .before .before .open-row .ensures) _ (omega arith) (omega arith) (c .before .before .put-u32 .ensures)
+    new-added (now (s .args .buffer)) (s .args .used) (s .args .rows) (asked s) (s .pre) (λ i. c .before .before .before .before .before .before .before .before .before .before .before .before .before .before .before .before .before .slice-known .given i .fits) L e _ (a-place k) (omega arith) _ (c .before .before .before .before .before .before .insert-row .ensures) _ (omega arith) (omega arith) (c .before .before .put-u32 .ensures)
 
 pub add-row-spec : {M : Type 1} → statement M
 add-row-spec =
     tie.close
     (tie.spec
-    sub-seek
-    part-seek-start
-    part-seek-end
-    seek-requires
+    sub-look-up
+    part-look-up-start
+    part-look-up-end
+    look-up-requires
     enum-known-at
     sub-if1
     same-length
@@ -181,11 +181,11 @@ add-row-spec =
     same-length-3
     returns-3
     add-place
-    sub-open-row
-    part-open-row-start
-    part-open-row-end
-    sub-open-row-2
-    open-row-requires
+    sub-insert-row
+    part-insert-row-start
+    part-insert-row-end
+    sub-insert-row-2
+    insert-row-requires
     add-put-u32
     put-u32-requires
     add-t28

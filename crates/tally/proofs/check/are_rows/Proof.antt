@@ -7,9 +7,9 @@ use native.Mathlib.Omega.{arith}
 use denote.Ref.{now}
 use borrow.Author.Tests.{not-true, not-false}
 use lib.ListN.{take, drop}
-use Rattle.wire.specs.Lists.{rest-is}
+use Rattle.wire.proofs.Lists.{rest-is}
 use Rattle.wire.proofs.Steps.{told-as}
-use Rattle.wire.specs.Read.{found}
+use Rattle.wire.specs.Read.{toOption}
 use Rattle.tally.specs.Tally.{row, one}
 use Rattle.tally.specs.Told.{toldRow}
 use Rattle.tally.specs.Walks.{mayFollow}
@@ -27,7 +27,7 @@ abbrev μ-loop : tie.MeasureT-loop
 μ-loop s count rest₀ last₀ first₀ left₀ rest last first left = left
 
 -- the front row, and whether its name may follow
-front : (c : tie.After-known-told Inv-loop μ-loop) → toldRow (now (c .before .before .before .before .before .loop .rest)) (rows.Row (c .before .n .given .0 .0) (c .before .n .given .0 .1 .0)) ≡ found (row one [] .read (now (c .before .before .before .before .before .loop .rest)))
+front : (c : tie.After-known-told Inv-loop μ-loop) → toldRow (now (c .before .before .before .before .before .loop .rest)) (rows.Row (c .before .n .given .0 .0) (c .before .n .given .0 .1 .0)) ≡ toOption (row one [] .read (now (c .before .before .before .before .before .loop .rest)))
 front c = told-as (toldRow _) (c .before .before .before .front-row .ensures) (c .before .n .given .1)
 
 follows : (c : tie.After-may-follow Inv-loop μ-loop) {b : Bool} → c .may-follow .result ≡ b → mayFollow (c .before .before .before .before .before .before .before .loop .first) (now (c .before .before .before .before .before .before .before .loop .last)) (take (c .before .before .before .n .given .0 .0) (drop 2 (now (c .before .before .before .before .before .before .before .loop .rest)))) ≡ b

@@ -1,13 +1,12 @@
-use mathlib.Core.Path.{_≡_, sym, _∙_}
+use mathlib.Core.Path.{_≡_, sym, _∙_, ap}
 use denote.Ref.{now}
-use Rattle.wire.specs.Lists.{rest-is}
-use Rattle.wire.specs.Read.{found}
+use Rattle.wire.proofs.Lists.{rest-is}
+use Rattle.wire.specs.Read.{toOption}
 use Rattle.wire.specs.Told.{toldHead}
 use Rattle.wire.proofs.Steps.{told-as}
 use Rattle.tally.specs.Walks.{takes}
 use Rattle.tally.specs.Tally.{tallyHead, row, one}
 use Rattle.wire.specs.Format.{items}
-use mathlib.Core.Path.{ap}
 use mathlib.Core.Bool.{Bool}
 use lib.ListN.{drop}
 use Rattle.wire.specs.declared.heads.HeadRead.the-variants as heads
@@ -18,7 +17,7 @@ use Rattle.tally.proofs.check.check.Statement.{statement}
 use Rattle.tally.proofs.check.check.Tie as tie
 
 -- the number of rows that the head states, and whether they are there
-rows : (c : tie.After-known-told) → toldHead (heads.Number (c .before .count .given .0 .0)) ≡ found (tallyHead .read (now (c .before .before .before .before .before .args .t)))
+rows : (c : tie.After-known-told) → toldHead (heads.Count (c .before .count .given .0 .0)) ≡ toOption (tallyHead .read (now (c .before .before .before .before .before .args .t)))
 rows c = told-as toldHead (c .before .before .before .stated-rows .ensures) (c .before .count .given .1)
 
 taken : (c : tie.After-are-rows) {b : Bool} → c .are-rows .result ≡ b → takes (items (row one) (c .before .before .before .count .given .0 .0)) (drop 9 (now (c .before .before .before .before .before .before .before .args .t))) ≡ b

@@ -2,9 +2,9 @@ use mathlib.Core.Path.{_∙_}
 use denote.Ref.{now}
 use Prim.Native.Nat.{_≤_}
 use lib.ListN.{length}
-use Rattle.wire.specs.Lists.{rest-is}
+use Rattle.wire.proofs.Lists.{rest-is}
 use Rattle.wire.specs.Formats.{headLength}
-use Rattle.wire.specs.Places.{place-is, place-first}
+use Rattle.wire.proofs.Places.{place-is, place-first}
 use Rattle.wire.proofs.Steps.{told-as}
 use Rattle.tally.specs.Told.{toldCheck}
 use Rattle.tally.proofs.Checks.{check-long, rows-there, rows-start, rows-nowhere, rows-first}

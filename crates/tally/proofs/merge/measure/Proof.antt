@@ -5,10 +5,10 @@ use mathlib.Core.Path.{subst}
 use native.Mathlib.Omega.{arith}
 use denote.Ref.{now}
 use lib.ListN.{length}
-use Rattle.tally.specs.Sums.{NextOf}
-use Rattle.tally.specs.declared.merge.Next.{Next}
-use Rattle.tally.specs.declared.merge.Next.the-variants as nexts
-use Rattle.tally.proofs.Nexts.{left-less}
+use Rattle.tally.specs.Sums.{SumRowIs}
+use Rattle.tally.specs.declared.merge.SumRow.{SumRow}
+use Rattle.tally.specs.declared.merge.SumRow.the-variants as sumRows
+use Rattle.tally.proofs.SumRows.{left-less}
 use Rattle.tally.proofs.Measuring.{Measuring, measuring-start, measuring-room, measuring-end, measuring-many, measuring-on}
 use Rattle.tally.proofs.merge.measure.Statement.{statement}
 use Rattle.tally.proofs.merge.measure.Tie as tie
@@ -20,29 +20,29 @@ abbrev μ-loop : tie.MeasureT-loop
 μ-loop a b x₀ y₀ rows₀ size₀ x y rows size = length x + length y
 
 -- the next row
-abbrev Here : tie.At-loop Inv-loop μ-loop → Next → Type 0
-Here l n = NextOf (now (l .loop .x)) (now (l .loop .y)) n
+abbrev Here : tie.At-loop Inv-loop μ-loop → SumRow → Type 0
+Here l n = SumRowIs (now (l .loop .x)) (now (l .loop .y)) n
 
-next : (c : tie.After-known-told Inv-loop μ-loop) → (let v = c .before .first .given .0 in Here (c .before .before .before .before) (nexts.Row (v .0) (v .1 .0) (v .1 .1 .0) (v .1 .1 .1 .0)))
-next c = subst (Here (c .before .before .before .before)) (c .before .first .given .1) (c .before .before .before .next-of .ensures)
+next : (c : tie.After-known-told Inv-loop μ-loop) → (let v = c .before .first .given .0 in Here (c .before .before .before .before) (sumRows.Row (v .0) (v .1 .0) (v .1 .1 .0) (v .1 .1 .1 .0)))
+next c = subst (Here (c .before .before .before .before)) (c .before .first .given .1) (c .before .before .before .sum-row .ensures)
 
 loop-holds : tie.Need-loop-holds Inv-loop μ-loop
 loop-holds c = measuring-start _ _
 
-next-of-requires : tie.Need-next-of-requires Inv-loop μ-loop
-next-of-requires c κs = search needs
+sum-row-requires : tie.Need-sum-row-requires Inv-loop μ-loop
+sum-row-requires c κs = search needs
 
 enum-told : tie.Need-enum-told Inv-loop μ-loop
 enum-told c = search needs
 
 returns : tie.Need-returns Inv-loop μ-loop
-returns c = measuring-end (c .before .before .before .loop .inv) (subst (Here (c .before .before .before)) (c .enum-told .given .1) (c .before .before .next-of .ensures))
+returns c = measuring-end (c .before .before .before .loop .inv) (subst (Here (c .before .before .before)) (c .enum-told .given .1) (c .before .before .sum-row .ensures))
 
 enum-told-2 : tie.Need-enum-told-2 Inv-loop μ-loop
 enum-told-2 c = search needs
 
 returns-2 : tie.Need-returns-2 Inv-loop μ-loop
-returns-2 c = measuring-many (c .before .before .before .loop .inv) (subst (Here (c .before .before .before)) (c .enum-told2 .given .1) (c .before .before .next-of .ensures))
+returns-2 c = measuring-many (c .before .before .before .loop .inv) (subst (Here (c .before .before .before)) (c .enum-told2 .given .1) (c .before .before .sum-row .ensures))
 
 enum-known-first : tie.Need-enum-known-first Inv-loop μ-loop
 enum-known-first c = search needs
@@ -84,7 +84,7 @@ measure-spec =
     Inv-loop
     μ-loop
     loop-holds
-    next-of-requires
+    sum-row-requires
     enum-told
     returns
     enum-told-2

@@ -5,10 +5,10 @@ use mathlib.Core.Path.{subst}
 use native.Mathlib.Omega.{arith}
 use denote.Ref.{now}
 use lib.ListN.{length}
-use Rattle.tally.specs.Sums.{NextOf}
-use Rattle.tally.specs.declared.merge.Next.{Next}
-use Rattle.tally.specs.declared.merge.Next.the-variants as nexts
-use Rattle.tally.proofs.Nexts.{left-less}
+use Rattle.tally.specs.Sums.{SumRowIs}
+use Rattle.tally.specs.declared.merge.SumRow.{SumRow}
+use Rattle.tally.specs.declared.merge.SumRow.the-variants as sumRows
+use Rattle.tally.proofs.SumRows.{left-less}
 use Rattle.tally.proofs.PutSums.{Writing, writing-start, writing-room, writing-end, writing-many, writing-on}
 use Rattle.tally.proofs.merge.put_rows.Statement.{statement}
 use Rattle.tally.proofs.merge.put_rows.Tie as tie
@@ -20,17 +20,17 @@ abbrev μ-loop : tie.MeasureT-loop
 μ-loop out₀ a b x₀ y₀ at₀ out x y at = length x + length y
 
 -- the next row
-abbrev Here : tie.At-loop Inv-loop μ-loop → Next → Type 0
-Here l n = NextOf (now (l .loop .x)) (now (l .loop .y)) n
+abbrev Here : tie.At-loop Inv-loop μ-loop → SumRow → Type 0
+Here l n = SumRowIs (now (l .loop .x)) (now (l .loop .y)) n
 
-next : (c : tie.After-known-told Inv-loop μ-loop) → (let v = c .before .first .given .0 in Here (c .before .before .before .before) (nexts.Row (v .0) (v .1 .0) (v .1 .1 .0) (v .1 .1 .1 .0)))
-next c = subst (Here (c .before .before .before .before)) (c .before .first .given .1) (c .before .before .before .next-of .ensures)
+next : (c : tie.After-known-told Inv-loop μ-loop) → (let v = c .before .first .given .0 in Here (c .before .before .before .before) (sumRows.Row (v .0) (v .1 .0) (v .1 .1 .0) (v .1 .1 .1 .0)))
+next c = subst (Here (c .before .before .before .before)) (c .before .first .given .1) (c .before .before .before .sum-row .ensures)
 
 loop-holds : tie.Need-loop-holds Inv-loop μ-loop
 loop-holds c = writing-start _ _ _
 
-next-of-requires : tie.Need-next-of-requires Inv-loop μ-loop
-next-of-requires c κs = search needs
+sum-row-requires : tie.Need-sum-row-requires Inv-loop μ-loop
+sum-row-requires c κs = search needs
 
 enum-told : tie.Need-enum-told Inv-loop μ-loop
 enum-told c = search needs
@@ -39,7 +39,7 @@ same-length : tie.Need-same-length Inv-loop μ-loop
 same-length c = c .before .before .before .loop .inv .same
 
 returns : tie.Need-returns Inv-loop μ-loop
-returns c = writing-end (c .before .before .before .loop .inv) (subst (Here (c .before .before .before)) (c .enum-told .given .1) (c .before .before .next-of .ensures))
+returns c = writing-end (c .before .before .before .loop .inv) (subst (Here (c .before .before .before)) (c .enum-told .given .1) (c .before .before .sum-row .ensures))
 
 enum-told-2 : tie.Need-enum-told-2 Inv-loop μ-loop
 enum-told-2 c = search needs
@@ -48,13 +48,13 @@ same-length-2 : tie.Need-same-length-2 Inv-loop μ-loop
 same-length-2 c = c .before .before .before .loop .inv .same
 
 returns-2 : tie.Need-returns-2 Inv-loop μ-loop
-returns-2 c = writing-many (c .before .before .before .loop .inv) (subst (Here (c .before .before .before)) (c .enum-told2 .given .1) (c .before .before .next-of .ensures))
+returns-2 c = writing-many (c .before .before .before .loop .inv) (subst (Here (c .before .before .before)) (c .enum-told2 .given .1) (c .before .before .sum-row .ensures))
 
 enum-known-first : tie.Need-enum-known-first Inv-loop μ-loop
 enum-known-first c = search needs
 
-put-next-requires : tie.Need-put-next-requires Inv-loop μ-loop
-put-next-requires c κs = let n = next (c .before) .0 in (omega (arith, n .long), n .side-in, omega (arith, writing-room (c .before .before .before .before .before .loop .inv) n, c .before .before .before .before .before .before .before .before .before .good))
+put-sum-row-requires : tie.Need-put-sum-row-requires Inv-loop μ-loop
+put-sum-row-requires c κs = let n = next (c .before) .0 in (omega (arith, n .long), n .side-in, omega (arith, writing-room (c .before .before .before .before .before .loop .inv) n, c .before .before .before .before .before .before .before .before .before .good))
 
 sub-x : tie.Need-sub-x Inv-loop μ-loop
 sub-x c = next (c .before .before .before .before) .0 .first-in
@@ -81,7 +81,7 @@ loop-less : tie.Need-loop-less Inv-loop μ-loop
 loop-less c = left-less (next (c .before .before .before .before .before .before) .0)
 
 loop-again : tie.Need-loop-again Inv-loop μ-loop
-loop-again c = writing-on (c .before .before .before .before .before .before .before .before .before .before .loop .inv) (next (c .before .before .before .before .before .before)) (omega (arith, c .before .before .before .before .before .before .known-told .given)) (c .before .before .before .before .put-next .ensures) (omega arith)
+loop-again c = writing-on (c .before .before .before .before .before .before .before .before .before .before .loop .inv) (next (c .before .before .before .before .before .before)) (omega (arith, c .before .before .before .before .before .before .known-told .given)) (c .before .before .before .before .put-sum-row .ensures) (omega arith)
 
 pub put-rows-spec : {M : Type 1} → statement M
 put-rows-spec =
@@ -90,7 +90,7 @@ put-rows-spec =
     Inv-loop
     μ-loop
     loop-holds
-    next-of-requires
+    sum-row-requires
     enum-told
     same-length
     returns
@@ -98,7 +98,7 @@ put-rows-spec =
     same-length-2
     returns-2
     enum-known-first
-    put-next-requires
+    put-sum-row-requires
     sub-x
     part-x-start
     part-x-end

@@ -2,12 +2,12 @@ use Prim.Native.Nat.{_+_}
 use native.Mathlib.Omega.{arith}
 use denote.Ref.{now}
 use Rattle.wire.specs.Bytes.{Bytes}
-use Rattle.wire.specs.Told.{short, toldCounted, toldU64}
-use Rattle.wire.specs.Formats.{counted, u64}
+use Rattle.wire.specs.Told.{short, toldRun, toldU64}
+use Rattle.wire.specs.Formats.{prefixed, u64}
 use Rattle.wire.proofs.Steps.{told-as}
 use mathlib.Core.Path.{_≡_}
 use lib.ListN.{drop}
-use Rattle.wire.specs.declared.fields.Counted.the-variants as runs
+use Rattle.wire.specs.declared.fields.Run.the-variants as runs
 use Rattle.wire.specs.declared.fields.U64.the-variants as u64s
 use Rattle.tally.proofs.FrontRows.{front-no-name, name-inside, front-no-count, front-none, front-some}
 use borrow.Author.Needs.{needs}
@@ -15,8 +15,8 @@ use Rattle.tally.proofs.rows.front_row.Statement.{statement}
 use Rattle.tally.proofs.rows.front_row.Tie as tie
 
 -- the name's length, the count, and that the part is bytes
-run : (c : tie.After-known-told) → toldCounted 2 (now (c .before .before .before .before .before .args .s)) (runs.Bytes (c .before .n .given .0 .0)) ≡ counted {ends = short} 2 .read (now (c .before .before .before .before .before .args .s))
-run c = told-as (toldCounted 2 _) (c .before .before .before .counted16-at .ensures) (c .before .n .given .1)
+run : (c : tie.After-known-told) → toldRun 2 (now (c .before .before .before .before .before .args .s)) (runs.Bytes (c .before .n .given .0 .0)) ≡ prefixed {ends = short} 2 .read (now (c .before .before .before .before .before .args .s))
+run c = told-as (toldRun 2 _) (c .before .before .before .run16-at .ensures) (c .before .n .given .1)
 
 count : (c : tie.After-known-told2) → toldU64 (u64s.Value (c .before .count .given .0 .0)) ≡ u64 {ends = short} .read (drop (c .before .before .before .before .before .n .given .0 .0 + 2) (now (c .before .before .before .before .before .before .before .before .before .args .s)))
 count c = told-as toldU64 (c .before .before .before .u64-at .ensures) (c .before .count .given .1)
@@ -24,8 +24,8 @@ count c = told-as toldU64 (c .before .before .before .u64-at .ensures) (c .befor
 bytes : (c : tie.After-known-told2) → Bytes (now (c .before .before .before .before .before .before .before .before .before .args .s))
 bytes c = λ i. c .before .before .before .before .before .before .before .before .shared-slice-known .given i .fits
 
-counted16-at-requires : tie.Need-counted16-at-requires
-counted16-at-requires c κs = search needs
+run16-at-requires : tie.Need-run16-at-requires
+run16-at-requires c κs = search needs
 
 enum-known-n : tie.Need-enum-known-n
 enum-known-n c = search needs
@@ -34,7 +34,7 @@ enum-told : tie.Need-enum-told
 enum-told c = search needs
 
 returns : tie.Need-returns
-returns c = front-no-name _ (told-as (toldCounted 2 _) (c .before .before .counted16-at .ensures) (c .enum-told .given .1))
+returns c = front-no-name _ (told-as (toldRun 2 _) (c .before .before .run16-at .ensures) (c .enum-told .given .1))
 
 add-u64-at : tie.Need-add-u64-at
 add-u64-at c = omega (arith, name-inside _ (c .before .n .given .0 .0) (run c))
@@ -61,7 +61,7 @@ pub front-row-spec : {M : Type 1} → statement M
 front-row-spec =
     tie.close
     (tie.spec
-    counted16-at-requires
+    run16-at-requires
     enum-known-n
     enum-told
     returns

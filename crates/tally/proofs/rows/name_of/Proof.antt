@@ -2,15 +2,15 @@ use mathlib.Core.Path.{_≡_, ap, sym, _∙_}
 use mathlib.Core.List.{[]}
 use native.Mathlib.Omega.{arith}
 use denote.Ref.{now}
-use Rattle.wire.specs.Answer.{partOf}
-use Rattle.wire.specs.Places.{startTold, place-is, place-first}
+use Rattle.wire.specs.Answer.{bytesOf}
+use Rattle.wire.specs.Places.{startTold}
+use Rattle.wire.proofs.Places.{place-is, place-first}
 use Rattle.wire.proofs.Steps.{told-as}
-use Rattle.wire.specs.Read.{found}
-use Rattle.tally.specs.Tally.{row, one}
+use Rattle.wire.specs.Read.{toOption}
+use Rattle.tally.specs.Tally.{row, one, TallyRow}
 use Rattle.tally.specs.Told.{toldRow}
 use Rattle.tally.specs.declared.rows.RowRead.the-variants as rows
 use Rattle.tally.proofs.Held.{row-inside}
-use Rattle.tally.specs.Tally.{KindRow}
 use Prim.Native.Nat.{ℕ}
 use Rattle.tally.proofs.FrontRows.{name-part, front-is, front-isnt, front-first}
 use borrow.Author.Needs.{needs}
@@ -18,7 +18,7 @@ use Rattle.tally.proofs.rows.name_of.Statement.{statement}
 use Rattle.tally.proofs.rows.name_of.Tie as tie
 
 -- the row that was read
-front : (c : tie.After-known-told) → toldRow (now (c .before .before .before .before .before .args .part)) (rows.Row (c .before .n .given .0 .0) (c .before .n .given .0 .1 .0)) ≡ found (row one [] .read (now (c .before .before .before .before .before .args .part)))
+front : (c : tie.After-known-told) → toldRow (now (c .before .before .before .before .before .args .part)) (rows.Row (c .before .n .given .0 .0) (c .before .n .given .0 .1 .0)) ≡ toOption (row one [] .read (now (c .before .before .before .before .before .args .part)))
 front c = told-as (toldRow _) (c .before .before .before .front-row .ensures) (c .before .n .given .1)
 
 front-row-requires : tie.Need-front-row-requires
@@ -49,13 +49,13 @@ returns : tie.Need-returns
 returns c =
     let s = c .before .before .before .before .before .before .args .part in
     let is = sym (front-is (now s) (c .before .before .n .given .0 .0) (c .before .before .n .given .0 .1 .0) (front (c .before))) in
-    (name-part (c .before .before .n .given .0 .0) (now s) ∙ ap (partOf (λ (x : KindRow one × ℕ). x .0 .name)) is, place-is s (ap (startTold (λ (x : KindRow one × ℕ). 2)) is))
+    (name-part (c .before .before .n .given .0 .0) (now s) ∙ ap (bytesOf (λ (x : TallyRow one × ℕ). x .0 .name)) is, place-is s (ap (startTold (λ (x : TallyRow one × ℕ). 2)) is))
 
 returns-2 : tie.Need-returns-2
 returns-2 c =
     let s = c .before .before .before .before .before .args .part in
     let none = told-as (toldRow (now s)) (c .before .before .before .front-row .ensures) (c .before .enum-told .given .1) in
-    (front-isnt (now s) none (λ (x : KindRow one × ℕ). x .0 .name), place-first s (front-first (now s) none (λ (x : KindRow one × ℕ). 2)))
+    (front-isnt (now s) none (λ (x : TallyRow one × ℕ). x .0 .name), place-first s (front-first (now s) none (λ (x : TallyRow one × ℕ). 2)))
 
 pub name-of-spec : {M : Type 1} → statement M
 name-of-spec =

@@ -2,12 +2,11 @@ use mathlib.Core.Path.{_≡_, ap, sym}
 use mathlib.Core.List.{[]}
 use native.Mathlib.Omega.{arith}
 use denote.Ref.{now}
-use Rattle.wire.specs.Read.{found}
+use Rattle.wire.specs.Read.{toOption}
 use Rattle.tally.specs.Tally.{row, one}
-use Rattle.tally.specs.Told.{toldRow}
+use Rattle.tally.specs.Told.{toldRow, shownRow}
 use Rattle.tally.specs.declared.rows.RowRead.the-variants as rows
 use Rattle.tally.proofs.Held.{row-inside}
-use Rattle.tally.specs.Told.{shownRow}
 use Rattle.wire.specs.Answer.{mapAnswer}
 use Rattle.wire.proofs.Steps.{told-as}
 use Rattle.tally.proofs.FrontRows.{front-empty, front-is, front-malformed}
@@ -16,7 +15,7 @@ use Rattle.tally.proofs.rows.row_of.Statement.{statement}
 use Rattle.tally.proofs.rows.row_of.Tie as tie
 
 -- the row that was read
-front : (c : tie.After-known-told) → toldRow (now (c .before .before .before .before .before .before .args .part)) (rows.Row (c .before .n .given .0 .0) (c .before .n .given .0 .1 .0)) ≡ found (row one [] .read (now (c .before .before .before .before .before .before .args .part)))
+front : (c : tie.After-known-told) → toldRow (now (c .before .before .before .before .before .before .args .part)) (rows.Row (c .before .n .given .0 .0) (c .before .n .given .0 .1 .0)) ≡ toOption (row one [] .read (now (c .before .before .before .before .before .before .args .part)))
 front c = told-as (toldRow _) (c .before .before .before .front-row .ensures) (c .before .n .given .1)
 
 returns : tie.Need-returns

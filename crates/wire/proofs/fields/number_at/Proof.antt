@@ -7,16 +7,16 @@ use native.Mathlib.Omega.{arith}
 use denote.Ref.{now}
 use lib.Dec.{lit<}
 use lib.ListN.{take, drop, length-drop}
-use Rattle.wire.specs.Bytes.{spelt}
+use Rattle.wire.specs.Bytes.{fromBE}
 use Rattle.wire.specs.Read.{done}
 use Rattle.wire.specs.Told.{short}
-use Rattle.wire.proofs.Steps.{spelt-on, digit-below, digit-fits, number-done, number-ends}
+use Rattle.wire.proofs.Steps.{fromBE-on, digit-below, digit-fits, number-done, number-ends}
 use Rattle.wire.proofs.fields.number_at.Statement.{statement}
 use Rattle.wire.proofs.fields.number_at.Tie as tie
 
 abbrev Inv-loop : tie.InvT-loop
 Inv-loop s at k v₀ p₀ left₀ v p left =
-    (left ≤ k) × (p + left ≡ at + k) × (v < 256 ^ (k - left)) × (spelt v (take left (drop p s)) ≡ spelt 0 (take k (drop at s)))
+    (left ≤ k) × (p + left ≡ at + k) × (v < 256 ^ (k - left)) × (fromBE v (take left (drop p s)) ≡ fromBE 0 (take k (drop at s)))
 
 abbrev μ-loop : tie.MeasureT-loop
 μ-loop s at k v₀ p₀ left₀ v p left = left
@@ -65,7 +65,7 @@ loop-again c =
       omega arith,
       omega arith,
       rw up (digit-below _ (l .inv .2) small),
-      rw (c .wide .ensures) (sym (spelt-on (l .left) (l .v) _ (l .p) (omega arith) (omega arith)) ∙ l .inv .3),
+      rw (c .wide .ensures) (sym (fromBE-on (l .left) (l .v) _ (l .p) (omega arith) (omega arith)) ∙ l .inv .3),
     )
 
 returns-3 : tie.Need-returns-3 Inv-loop μ-loop
@@ -73,7 +73,7 @@ returns-3 c =
     let l = c .before .loop in
     let s = c .before .before .before .before .before in
     let none : l .left ≡ 0 = omega arith in
-    let value : l .v ≡ spelt 0 (take (s .args .k) (drop (s .args .at) (now (s .args .s)))) = rw none at (l .inv .3) in
+    let value : l .v ≡ fromBE 0 (take (s .args .k) (drop (s .args .at) (now (s .args .s)))) = rw none at (l .inv .3) in
     let all : s .args .k - l .left ≡ s .args .k = omega arith in
     record {
       told = sym (number-done short _ _ (rw length-drop (omega arith)) ∙ ap (λ (x : ℕ). done x (s .args .k)) (sym value));

@@ -5,7 +5,7 @@ use lib.ListN.{length, drop}
 use denote.Ref.{now}
 use borrow.Author.Tests.{not-true, not-false}
 use Rattle.wire.specs.Marks.{starts}
-use Rattle.wire.specs.Read.{found-is}
+use Rattle.wire.specs.Read.{toOption-is}
 use Rattle.wire.specs.Formats.{u16, u32}
 use Rattle.wire.specs.Told.{short, toldU16, toldU32}
 use Rattle.wire.specs.declared.fields.U16.the-variants as u16s
@@ -29,7 +29,7 @@ mark-at-requires : tie.Need-mark-at-requires
 mark-at-requires c κs = search needs
 
 returns : tie.Need-returns
-returns c = found-is (headed-unmarked (now (c .before .before .before .before .args .mark)) (three (c .before)) 1 (now (c .before .before .before .before .args .s)) short u32 (marked (c .before) (not-true _ (c .if1 .taken))))
+returns c = toOption-is (headed-unmarked (now (c .before .before .before .before .args .mark)) (three (c .before)) 1 (now (c .before .before .before .before .args .s)) short u32 (marked (c .before) (not-true _ (c .if1 .taken))))
 
 u16-at-requires : tie.Need-u16-at-requires
 u16-at-requires c κs = search needs
@@ -43,12 +43,12 @@ enum-told c = search needs
 returns-2 : tie.Need-returns-2
 returns-2 c =
     let x = c .before .before .before .before in
-    found-is (headed-unversioned (now (x .before .before .before .args .mark)) (three x) 1 (now (x .before .before .before .args .s)) short u32 (marked x (not-false _ (c .before .before .before .if1 .left))) (told-as toldU16 (c .before .before .u16-at .ensures) (c .enum-told .given .1)))
+    toOption-is (headed-unversioned (now (x .before .before .before .args .mark)) (three x) 1 (now (x .before .before .before .args .s)) short u32 (marked x (not-false _ (c .before .before .before .if1 .left))) (told-as toldU16 (c .before .before .u16-at .ensures) (c .enum-told .given .1)))
 
 returns-3 : tie.Need-returns-3
 returns-3 c =
     let x = c .before .before .before .before .before .before in
-    found-is (headed-other (now (x .before .before .before .args .mark)) (three x) 1 (now (x .before .before .before .args .s)) short u32 (marked x (not-false _ (c .before .before .before .before .before .if1 .left))) (version (c .before)) (c .if2 .taken))
+    toOption-is (headed-other (now (x .before .before .before .args .mark)) (three x) 1 (now (x .before .before .before .args .s)) short u32 (marked x (not-false _ (c .before .before .before .before .before .if1 .left))) (version (c .before)) (c .if2 .taken))
 
 u32-at-requires : tie.Need-u32-at-requires
 u32-at-requires c κs = search needs
@@ -62,14 +62,14 @@ enum-told-2 c = search needs
 returns-4 : tie.Need-returns-4
 returns-4 c =
     let x = c .before .before .before .before .before .before .before .before .before .before in
-    found-is
+    toOption-is
     (headed-on (now (x .before .before .before .args .mark)) (three x) 1 (now (x .before .before .before .args .s)) short u32 (marked x (not-false _ (c .before .before .before .before .before .before .before .before .before .if1 .left))) (version (c .before .before .before .before .before)) (c .before .before .before .before .if2 .left)
     ∙ ap behindHead (sym (told-as toldU32 (c .before .before .before .u32-at .ensures) (c .before .number .given .1))))
 
 returns-5 : tie.Need-returns-5
 returns-5 c =
     let x = c .before .before .before .before .before .before .before .before .before in
-    found-is
+    toOption-is
     (headed-on (now (x .before .before .before .args .mark)) (three x) 1 (now (x .before .before .before .args .s)) short u32 (marked x (not-false _ (c .before .before .before .before .before .before .before .before .if1 .left))) (version (c .before .before .before .before)) (c .before .before .before .if2 .left)
     ∙ ap behindHead (sym (told-as toldU32 (c .before .before .u32-at .ensures) (c .enum-told2 .given .1))))
 

@@ -6,7 +6,7 @@ use denote.Ref.{now}
 use lib.ListN.{length, take, drop}
 use Rattle.wire.proofs.Steps.{told-as}
 use Rattle.wire.specs.Order.{order}
-use Rattle.wire.specs.Lists.{rest-is}
+use Rattle.wire.proofs.Lists.{rest-is}
 use Rattle.wire.specs.Told.{toldU64}
 use Rattle.wire.specs.declared.order.Order.{Order}
 use Rattle.wire.proofs.Orders.{Word, word-at, words-less, words-more, words-on}

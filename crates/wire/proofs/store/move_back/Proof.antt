@@ -2,7 +2,7 @@
 use mathlib.Core.Path.{sym}
 use native.Mathlib.Omega.{arith}
 use denote.Ref.{now}
-use Rattle.wire.proofs.Laid.{moved-not}
+use Rattle.wire.proofs.Overwrites.{moved-not}
 use Rattle.wire.proofs.Stores.{Moving, moving-start, moving-length, moving-on, moving-end}
 use Rattle.wire.proofs.store.move_back.Statement.{statement}
 use Rattle.wire.proofs.store.move_back.Tie as tie

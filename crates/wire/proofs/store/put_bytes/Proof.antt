@@ -4,14 +4,14 @@ use mathlib.Core.Path.{_≡_, sym}
 use native.Mathlib.Omega.{arith}
 use denote.Ref.{now}
 use lib.ListN.{length, take}
-use Rattle.wire.specs.Store.{laid}
-use Rattle.wire.proofs.Laid.{laid-none, stored-not}
+use Rattle.wire.specs.Store.{overwrite}
+use Rattle.wire.proofs.Overwrites.{overwrite-none, stored-not}
 use Rattle.wire.proofs.Stores.{copy-length, copy-on, copy-end}
 use Rattle.wire.proofs.store.put_bytes.Statement.{statement}
 use Rattle.wire.proofs.store.put_bytes.Tie as tie
 
 abbrev Inv-loop : tie.InvT-loop
-Inv-loop out₀ at from i₀ out i = (out ≡ laid at (take i from) out₀) × (i ≤ length from)
+Inv-loop out₀ at from i₀ out i = (out ≡ overwrite at (take i from) out₀) × (i ≤ length from)
 
 abbrev μ-loop : tie.MeasureT-loop
 μ-loop out₀ at from i₀ out i = length from - i
@@ -26,7 +26,7 @@ returns-2 : tie.Need-returns-2 Inv-loop μ-loop
 returns-2 c = let a = c .before .before .args in sym (stored-not (a .at) (now (a .from)) (now (a .out)) (omega arith))
 
 loop-holds : tie.Need-loop-holds Inv-loop μ-loop
-loop-holds c = let a = c .before .before .args in (sym (laid-none (a .at) (now (a .out))), omega arith)
+loop-holds c = let a = c .before .before .args in (sym (overwrite-none (a .at) (now (a .out))), omega arith)
 
 shared-slice-read-out : tie.Need-shared-slice-read-out Inv-loop μ-loop
 shared-slice-read-out c = omega arith

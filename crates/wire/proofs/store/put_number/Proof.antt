@@ -3,8 +3,8 @@ use borrow.Author.Needs.{needs}
 use mathlib.Core.Path.{sym}
 use native.Mathlib.Omega.{arith}
 use denote.Ref.{now}
-use Rattle.wire.specs.Bytes.{spell, spell-length}
-use Rattle.wire.proofs.Laid.{stored-not}
+use Rattle.wire.specs.Bytes.{toBE, toBE-length}
+use Rattle.wire.proofs.Overwrites.{stored-not}
 use Rattle.wire.proofs.Stores.{Spelling, spelling-start, spelling-length, spelling-on, spelling-end}
 use Rattle.wire.proofs.store.put_number.Statement.{statement}
 use Rattle.wire.proofs.store.put_number.Tie as tie
@@ -16,13 +16,13 @@ abbrev μ-loop : tie.MeasureT-loop
 μ-loop out₀ at k v x₀ i₀ out x i = i
 
 returns : tie.Need-returns Inv-loop μ-loop
-returns c = let a = c .before .args in sym (stored-not (a .at) (spell (a .k) (a .v)) (now (a .out)) (omega arith))
+returns c = let a = c .before .args in sym (stored-not (a .at) (toBE (a .k) (a .v)) (now (a .out)) (omega arith))
 
 sub-if2 : tie.Need-sub-if2 Inv-loop μ-loop
 sub-if2 c = omega arith
 
 returns-2 : tie.Need-returns-2 Inv-loop μ-loop
-returns-2 c = let a = c .before .before .args in sym (stored-not (a .at) (spell (a .k) (a .v)) (now (a .out)) (omega (arith, spell-length (a .k) (a .v))))
+returns-2 c = let a = c .before .before .args in sym (stored-not (a .at) (toBE (a .k) (a .v)) (now (a .out)) (omega (arith, toBE-length (a .k) (a .v))))
 
 loop-holds : tie.Need-loop-holds Inv-loop μ-loop
 loop-holds c = let a = c .before .before .args in spelling-start (a .at) (a .k) (a .v) (now (a .out))

@@ -1,5 +1,5 @@
 use borrow.Author.Needs.{needs}
-use Rattle.wire.specs.Format.{along, run}
+use Rattle.wire.specs.Format.{iso, run}
 use Rattle.wire.specs.Formats.{number}
 use Rattle.wire.proofs.store.put_u16.Statement.{statement}
 use Rattle.wire.proofs.store.put_u16.Tie as tie
@@ -11,7 +11,7 @@ same-length : tie.Need-same-length
 same-length c = search needs
 
 returns : tie.Need-returns
-unfolding number along run
+unfolding number iso run
 returns c = c .before .before .put-number .ensures
 
 pub put-u16-spec : {M : Type 1} → statement M

@@ -1,7 +1,7 @@
 use borrow.Author.Needs.{needs}
 use mathlib.Core.Path.{ap, sym, _∙_}
-use Rattle.writer.specs.Write.{toldWrite}
-use Rattle.writer.proofs.RoundTrip.{written-fits}
+use Rattle.block_writer.specs.Write.{toldWrite}
+use Rattle.block_writer.proofs.RoundTrip.{written-fits}
 use Rattle.worked_sums.proofs.blocks.put_block.Statement.{statement}
 use Rattle.worked_sums.proofs.blocks.put_block.Tie as tie
 

@@ -1,0 +1,141 @@
+use borrow.Author.Needs.{needs}
+use Rattle.block_writer.proofs.measure.judge.Statement.{statement}
+use Rattle.block_writer.proofs.measure.judge.Tie as tie
+use Rattle.wire.specs.Read.{reach}
+use Rattle.mapblock.specs.Told.{toldReach, toldUnmapped}
+use native.Mathlib.Omega.{arith}
+use denote.Ref.{now}
+use mathlib.Core.Path.{ap, sym, _∙_}
+use Prim.Native.Nat.{_*_, _<_}
+use Rattle.mapblock.specs.Layout.{width}
+use Rattle.mapblock.proofs.BlockAnswers.{clear-all}
+use Rattle.mapblock.proofs.Firsts.{first-below}
+use Rattle.mapblock.proofs.Endings.{width-place}
+use Rattle.block_writer.specs.BlockParts.{BlockParts, blockParts, made}
+use Rattle.block_writer.proofs.Fitting.{fits-plain, fits-headFits, fits-narrow, fits-timed}
+use Rattle.block_writer.proofs.MadeBlock.{made-by}
+use Rattle.block_writer.proofs.Judged.{nodes-there, judged-front, judged-rest, judged-done, judged-firstUnmapped}
+
+abbrev parts : tie.After-shared-slice-known7 → BlockParts
+parts c = blockParts (c .before .before .before .before .before .before .before .args .head) (now (c .before .before .before .before .before .before .before .args .param0)) (now (c .before .before .before .before .before .before .before .args .param1)) (now (c .before .before .before .before .before .before .before .args .param2)) (now (c .before .before .before .before .before .before .before .args .names)) (now (c .before .before .before .before .before .before .before .args .metadata)) (now (c .before .before .before .before .before .before .before .args .objects)) (now (c .before .before .before .before .before .before .before .args .timers))
+
+-- the node that is found
+firstUnmapped-at : (c : tie.After-i) → width (c .before .before .before .before .before .before .before .before .before .before .before .before .before .before .before .before .before .before .before .before .before .args .head .version) * c .i .given .0 .0 < 8192
+firstUnmapped-at c =
+    let a = c .before .before .before .before .before .before .before .before .before .before .before .before .before .before .before .before .before .before .before .before .before .args in
+    width-place (a .head .version) (c .i .given .0 .0) (first-below _ 4096 0 (sym (ap toldUnmapped (c .i .given .1)) ∙ c .before .before .first-unmapped .ensures)) .0
+
+judge-front-requires : tie.Need-judge-front-requires
+judge-front-requires c κs = c .before .before .before .before .before .before .before .before .pre .1 .1 .0
+
+enum-known-front : tie.Need-enum-known-front
+enum-known-front c = search needs
+
+enum-told : tie.Need-enum-told
+enum-told c = search needs
+
+returns : tie.Need-returns
+returns c =
+    let p = parts (c .before .before .before .before) in
+    let version = c .before .before .before .before .before .before .before .before .before .before .before .pre .0 .0 in
+    let fit = c .before .before .before .before .before .before .before .before .before .before .before .pre .0 .1 in
+    let held = c .before .before .before .before .before .before .before .before .before .before .before .pre .1 .0 in
+    λ l m o k nw mw ow tw.
+    let mk = made-by p fit l m o k nw mw ow tw in
+    judged-front p l m o k held version mk (clear-all 65536) (c .before .before .judge-front .ensures .0 l (made p l m o k .nodes) nw version (fits-headFits p fit) (nodes-there p l m o k held version mk)) (ap toldReach (c .enum-told .given .1))
+
+judge-rest-requires : tie.Need-judge-rest-requires
+judge-rest-requires c κs = c .before .before .before .before .before .before .before .before .before .before .before .before .before .pre .1 .1
+
+enum-known-rest : tie.Need-enum-known-rest
+enum-known-rest c = search needs
+
+enum-told-2 : tie.Need-enum-told-2
+enum-told-2 c = search needs
+
+shift-requires : tie.Need-shift-requires
+shift-requires c κs = omega (arith, c .before .before .before .before .before .before .before .judge-front .ensures .1 .0, ap (λ r. reach (toldReach r)) (c .before .before .before .before .before .front .given .1), c .before .before .judge-rest .ensures .1, c .before .before .before .before .before .before .before .before .before .before .before .before .before .before .before .before .pre .1 .1 .0, c .before .before .before .before .before .before .before .before .before .before .before .before .before .before .before .before .pre .1 .1 .1 .0, c .before .before .before .before .before .before .before .before .before .before .before .before .before .before .before .before .pre .1 .1 .1 .1, c .before .before .before .before .before .before .before .before .before .before .before .before .before .before .before .before .good .1 .1 .1 .1 .1 .1 .0 .1)
+
+returns-2 : tie.Need-returns-2
+returns-2 c =
+    let p = parts (c .before .before .before .before .before .before .before .before .before .before) in
+    let version = c .before .before .before .before .before .before .before .before .before .before .before .before .before .before .before .before .before .pre .0 .0 in
+    let fit = c .before .before .before .before .before .before .before .before .before .before .before .before .before .before .before .before .before .pre .0 .1 in
+    let held = c .before .before .before .before .before .before .before .before .before .before .before .before .before .before .before .before .before .pre .1 .0 in
+    λ l m o k nw mw ow tw.
+    let mk = made-by p fit l m o k nw mw ow tw in
+    judged-rest p l m o k held version mk (clear-all 65536) (c .before .before .before .before .before .before .before .before .judge-front .ensures .0 l (made p l m o k .nodes) nw version (fits-headFits p fit) (nodes-there p l m o k held version mk)) (ap toldReach (c .before .before .before .before .before .before .front .given .1)) (c .before .before .before .judge-rest .ensures .0 l m o k nw mw ow tw (fits-headFits p fit) (fits-timed p fit)) (ap toldReach (c .before .enum-told2 .given .1)) (c .shift .ensures)
+
+first-unmapped-requires : tie.Need-first-unmapped-requires
+first-unmapped-requires c κs =
+    let f = fits-plain (parts (c .before .before .before .before .before .before .before .before .before .before .before)) .0 (c .before .before .before .before .before .before .before .before .before .before .before .before .before .before .before .before .before .before .pre .0 .1) in
+    (f .size0, f .size2, fits-narrow (parts (c .before .before .before .before .before .before .before .before .before .before .before)) (c .before .before .before .before .before .before .before .before .before .before .before .before .before .before .before .before .before .before .pre .0 .1))
+
+enum-told-3 : tie.Need-enum-told-3
+enum-told-3 c = search needs
+
+add-t22 : tie.Need-add-t22
+add-t22 c = omega (arith, c .before .before .before .before .before .before .before .before .before .before .before .before .judge-front .ensures .1 .0, ap (λ r. reach (toldReach r)) (c .before .before .before .before .before .before .before .before .before .before .front .given .1), c .before .before .before .before .before .before .before .judge-rest .ensures .1, ap (λ r. reach (toldReach r)) (c .before .before .before .before .before .rest .given .1), c .before .before .before .before .before .before .before .before .before .before .before .before .before .before .before .before .before .before .before .before .before .pre .1 .1 .0, c .before .before .before .before .before .before .before .before .before .before .before .before .before .before .before .before .before .before .before .before .before .pre .1 .1 .1 .0, c .before .before .before .before .before .before .before .before .before .before .before .before .before .before .before .before .before .before .before .before .before .pre .1 .1 .1 .1, c .before .before .before .before .before .before .before .before .before .before .before .before .before .before .before .before .before .before .before .before .before .good .1 .1 .1 .1 .1 .1 .0 .1)
+
+enum-known-i : tie.Need-enum-known-i
+enum-known-i c = search needs
+
+lists-length-requires : tie.Need-lists-length-requires
+lists-length-requires c κs = search needs
+
+sub-t25 : tie.Need-sub-t25
+sub-t25 c = omega (arith, c .lists-length .ensures, c .before .before .before .before .before .before .before .before .before .before .before .before .before .before .judge-front .ensures .1 .1 _ (ap toldReach (c .before .before .before .before .before .before .before .before .before .before .before .before .front .given .1)))
+
+width-requires : tie.Need-width-requires
+width-requires c κs = search needs
+
+mul-t27 : tie.Need-mul-t27
+mul-t27 c = rw (c .width .ensures) (omega (arith, firstUnmapped-at (c .before .before .before)))
+
+add-t28 : tie.Need-add-t28
+add-t28 c = rw (c .width .ensures) (omega (arith, firstUnmapped-at (c .before .before .before), c .before .before .before .before .before .before .before .before .before .before .before .before .before .before .before .judge-front .ensures .1 .0, ap (λ r. reach (toldReach r)) (c .before .before .before .before .before .before .before .before .before .before .before .before .before .front .given .1), c .before .before .before .before .before .before .before .before .before .before .before .before .before .before .before .before .before .before .before .before .before .before .before .before .pre .1 .1 .0))
+
+returns-3 : tie.Need-returns-3
+returns-3 c =
+    let p = parts (c .before .before .before .before .before .before .before .before .before .before .before .before .before .before) in
+    let version = c .before .before .before .before .before .before .before .before .before .before .before .before .before .before .before .before .before .before .before .before .before .pre .0 .0 in
+    let fit = c .before .before .before .before .before .before .before .before .before .before .before .before .before .before .before .before .before .before .before .before .before .pre .0 .1 in
+    let held = c .before .before .before .before .before .before .before .before .before .before .before .before .before .before .before .before .before .before .before .before .before .pre .1 .0 in
+    λ l m o k nw mw ow tw.
+    let mk = made-by p fit l m o k nw mw ow tw in
+    judged-done p l m o k held version mk (clear-all 65536) (c .before .before .before .before .before .before .before .before .before .before .before .before .judge-front .ensures .0 l (made p l m o k .nodes) nw version (fits-headFits p fit) (nodes-there p l m o k held version mk)) (ap toldReach (c .before .before .before .before .before .before .before .before .before .before .front .given .1)) (c .before .before .before .before .before .before .before .judge-rest .ensures .0 l m o k nw mw ow tw (fits-headFits p fit) (fits-timed p fit)) (ap toldReach (c .before .before .before .before .before .rest .given .1)) (sym (ap toldUnmapped (c .enum-told3 .given .1)) ∙ c .before .before .first-unmapped .ensures)
+
+returns-4 : tie.Need-returns-4
+returns-4 c =
+    let p = parts (c .before .before .before .before .before .before .before .before .before .before .before .before .before .before .before .before .before) in
+    let version = c .before .before .before .before .before .before .before .before .before .before .before .before .before .before .before .before .before .before .before .before .before .before .before .before .pre .0 .0 in
+    let fit = c .before .before .before .before .before .before .before .before .before .before .before .before .before .before .before .before .before .before .before .before .before .before .before .before .pre .0 .1 in
+    let held = c .before .before .before .before .before .before .before .before .before .before .before .before .before .before .before .before .before .before .before .before .before .before .before .before .pre .1 .0 in
+    λ l m o k nw mw ow tw.
+    let mk = made-by p fit l m o k nw mw ow tw in
+    rw (c .width .ensures, c .before .lists-length .ensures) (judged-firstUnmapped p l m o k held version mk (clear-all 65536) (c .before .before .before .before .before .before .before .before .before .before .before .before .before .before .before .judge-front .ensures .0 l (made p l m o k .nodes) nw version (fits-headFits p fit) (nodes-there p l m o k held version mk)) (ap toldReach (c .before .before .before .before .before .before .before .before .before .before .before .before .before .front .given .1)) (c .before .before .before .before .before .before .before .before .before .before .judge-rest .ensures .0 l m o k nw mw ow tw (fits-headFits p fit) (fits-timed p fit)) (ap toldReach (c .before .before .before .before .before .before .before .before .rest .given .1)) (sym (ap toldUnmapped (c .before .before .before .i .given .1)) ∙ c .before .before .before .before .before .first-unmapped .ensures))
+
+pub judge-spec : {M : Type 1} → statement M
+judge-spec =
+    tie.close
+    (tie.spec
+    judge-front-requires
+    enum-known-front
+    enum-told
+    returns
+    judge-rest-requires
+    enum-known-rest
+    enum-told-2
+    shift-requires
+    returns-2
+    first-unmapped-requires
+    enum-told-3
+    add-t22
+    enum-known-i
+    lists-length-requires
+    sub-t25
+    width-requires
+    mul-t27
+    add-t28
+    returns-3
+    returns-4)

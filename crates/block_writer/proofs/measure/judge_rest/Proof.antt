@@ -1,0 +1,105 @@
+use borrow.Author.Needs.{needs}
+use Rattle.block_writer.proofs.measure.judge_rest.Statement.{statement}
+use Rattle.block_writer.proofs.measure.judge_rest.Tie as tie
+use Rattle.wire.specs.Bytes.{Bytes}
+use Rattle.wire.specs.Read.{reach}
+use Rattle.mapblock.specs.Told.{toldReach}
+use native.Mathlib.Omega.{arith}
+use denote.Ref.{now}
+use mathlib.Core.Path.{ap, sym, _∙_}
+use Prim.Native.Nat.{_+_, _<_}
+use lib.ListN.{length}
+use Rattle.block_writer.proofs.BlockJudging.{metadata-settled, objects-verdictOn, rest-no-metadata, rest-no-early, rest-on}
+use Rattle.block_writer.proofs.TimersJudging.{early-settled}
+use Rattle.block_writer.proofs.PiecesJudging.{shift-reach}
+
+timer-byte : (c : tie.After-judge-metadata) → c .before .before .before .before .before .args .head .timer < 256
+timer-byte c = search needs
+
+judge-metadata-requires : tie.Need-judge-metadata-requires
+judge-metadata-requires c κs = search needs
+
+enum-known-first : tie.Need-enum-known-first
+enum-known-first c = search needs
+
+enum-told : tie.Need-enum-told
+enum-told c = search needs
+
+returns : tie.Need-returns
+returns c =
+    let bm : Bytes (now (c .before .before .before .before .before .before .before .args .metadata)) = λ i. c .before .before .before .before .before .shared-slice-known2 .given i .fits in
+    let h = c .before .before .before .before .before .before .before .args .head in (
+      (λ l m o k nw mw ow tw f t. rest-no-metadata h l m o k (metadata-settled (h .version) bm mw) (c .before .before .judge-metadata .ensures .0 m mw) (ap toldReach (c .enum-told .given .1))),
+      omega (arith, c .before .before .judge-metadata .ensures .1),
+    )
+
+judge-early-timers-requires : tie.Need-judge-early-timers-requires
+judge-early-timers-requires c κs = search needs
+
+enum-known-second : tie.Need-enum-known-second
+enum-known-second c = search needs
+
+enum-told-2 : tie.Need-enum-told-2
+enum-told-2 c = search needs
+
+shift-requires : tie.Need-shift-requires
+shift-requires c κs = omega (arith, c .before .before .before .before .before .before .judge-metadata .ensures .1, ap (λ r. reach (toldReach r)) (c .before .before .before .before .first .given .1), c .before .before .judge-early-timers .ensures .1, c .before .before .before .before .before .before .before .before .before .before .before .pre .1 .1, c .before .before .before .before .before .before .before .before .before .before .before .good .1 .1 .1 .0 .1)
+
+returns-2 : tie.Need-returns-2
+returns-2 c =
+    let bm : Bytes (now (c .before .before .before .before .before .before .before .before .before .before .before .before .args .metadata)) = λ i. c .before .before .before .before .before .before .before .before .before .before .shared-slice-known2 .given i .fits in
+    let bt : Bytes (now (c .before .before .before .before .before .before .before .before .before .before .before .before .args .timers)) = λ i. c .before .before .before .before .before .before .before .before .shared-slice-known4 .given i .fits in
+    let h = c .before .before .before .before .before .before .before .before .before .before .before .before .args .head in (
+      (λ l m o k nw mw ow tw f t.
+          rest-no-early h l m o k (metadata-settled (h .version) bm mw) (sym (ap toldReach (c .before .before .before .before .before .first .given .1)) ∙ c .before .before .before .before .before .before .before .judge-metadata .ensures .0 m mw)
+          (early-settled h bt tw f (timer-byte (c .before .before .before .before .before .before .before)) t) (c .before .before .before .judge-early-timers .ensures .0 k tw f t) (ap toldReach (c .before .enum-told2 .given .1)) (c .shift .ensures)),
+      omega (arith, ap reach (c .shift .ensures), shift-reach (c .before .before .before .before .before .first .given .0 .0) (toldReach (c .before .before .before .judge-early-timers .result)), c .before .before .before .before .before .before .before .judge-metadata .ensures .1, ap (λ r. reach (toldReach r)) (c .before .before .before .before .before .first .given .1), c .before .before .before .judge-early-timers .ensures .1),
+    )
+
+add-at : tie.Need-add-at
+add-at c = omega (arith, c .before .before .before .before .before .before .before .judge-metadata .ensures .1, ap (λ r. reach (toldReach r)) (c .before .before .before .before .before .first .given .1), c .before .before .before .judge-early-timers .ensures .1, ap (λ r. reach (toldReach r)) (c .before .second .given .1), c .before .before .before .before .before .before .before .before .before .before .before .before .pre .1 .1, c .before .before .before .before .before .before .before .before .before .before .before .before .good .1 .1 .1 .0 .1)
+
+add-at-2 : tie.Need-add-at-2
+add-at-2 c = omega (arith, c .before .before .before .before .before .before .before .judge-metadata .ensures .1, ap (λ r. reach (toldReach r)) (c .before .before .before .before .before .first .given .1), c .before .before .before .judge-early-timers .ensures .1, ap (λ r. reach (toldReach r)) (c .before .second .given .1), c .before .before .before .before .before .before .before .before .before .before .before .before .pre .1 .1, c .before .before .before .before .before .before .before .before .before .before .before .before .good .1 .1 .1 .0 .1)
+
+add-at-3 : tie.Need-add-at-3
+add-at-3 c = omega (arith, c .before .before .before .before .before .before .before .judge-metadata .ensures .1, ap (λ r. reach (toldReach r)) (c .before .before .before .before .before .first .given .1), c .before .before .before .judge-early-timers .ensures .1, ap (λ r. reach (toldReach r)) (c .before .second .given .1), c .before .before .before .before .before .before .before .before .before .before .before .before .pre .1 .1, c .before .before .before .before .before .before .before .before .before .before .before .before .pre .1 .0, c .before .before .before .before .before .before .before .before .before .before .before .before .good .1 .1 .1 .0 .1)
+
+judge-ending-requires : tie.Need-judge-ending-requires
+judge-ending-requires c κs = search needs
+
+shift-requires-2 : tie.Need-shift-requires-2
+shift-requires-2 c κs = omega (arith, c .before .before .before .before .before .before .before .before .before .judge-metadata .ensures .1, ap (λ r. reach (toldReach r)) (c .before .before .before .before .before .before .before .first .given .1), c .before .before .before .before .before .judge-early-timers .ensures .1, ap (λ r. reach (toldReach r)) (c .before .before .before .second .given .1), c .judge-ending .ensures .1, c .before .before .before .before .before .before .before .before .before .before .before .before .before .before .pre .0, c .before .before .before .before .before .before .before .before .before .before .before .before .before .before .pre .1 .0, c .before .before .before .before .before .before .before .before .before .before .before .before .before .before .pre .1 .1, c .before .before .before .before .before .before .before .before .before .before .before .before .before .before .good .1 .1 .1 .0 .1)
+
+returns-3 : tie.Need-returns-3
+returns-3 c =
+    let bm : Bytes (now (c .before .before .before .before .before .before .before .before .before .before .before .before .before .before .before .args .metadata)) = λ i. c .before .before .before .before .before .before .before .before .before .before .before .before .before .shared-slice-known2 .given i .fits in
+    let bt : Bytes (now (c .before .before .before .before .before .before .before .before .before .before .before .before .before .before .before .args .timers)) = λ i. c .before .before .before .before .before .before .before .before .before .before .before .shared-slice-known4 .given i .fits in
+    let h = c .before .before .before .before .before .before .before .before .before .before .before .before .before .before .before .args .head in
+    let bo : Bytes (now (c .before .before .before .before .before .before .before .before .before .before .before .before .before .before .before .args .objects)) = λ i. c .before .before .before .before .before .before .before .before .before .before .before .before .shared-slice-known3 .given i .fits in (
+      (λ l m o k nw mw ow tw f t.
+          rest-on h l m o k (metadata-settled (h .version) bm mw) (sym (ap toldReach (c .before .before .before .before .before .before .before .before .first .given .1)) ∙ c .before .before .before .before .before .before .before .before .before .before .judge-metadata .ensures .0 m mw)
+          (early-settled h bt tw f (timer-byte (c .before .before .before .before .before .before .before .before .before .before)) t) (sym (ap toldReach (c .before .before .before .before .second .given .1)) ∙ c .before .before .before .before .before .before .judge-early-timers .ensures .0 k tw f t)
+          (objects-verdictOn bo ow) (omega arith) (c .before .judge-ending .ensures .0 l k nw tw f) (c .shift2 .ensures)),
+      omega (arith, ap reach (c .shift2 .ensures), shift-reach (c .before .before .before .before .before .before .before .before .first .given .0 .0 + c .before .before .before .before .second .given .0 .0 + 3 + length (now (c .before .before .before .before .before .before .before .before .before .before .before .before .before .before .before .args .objects))) (toldReach (c .before .judge-ending .result)), c .before .before .before .before .before .before .before .before .before .before .judge-metadata .ensures .1, ap (λ r. reach (toldReach r)) (c .before .before .before .before .before .before .before .before .first .given .1), c .before .before .before .before .before .before .judge-early-timers .ensures .1, ap (λ r. reach (toldReach r)) (c .before .before .before .before .second .given .1), c .before .judge-ending .ensures .1),
+    )
+
+pub judge-rest-spec : {M : Type 1} → statement M
+judge-rest-spec =
+    tie.close
+    (tie.spec
+    judge-metadata-requires
+    enum-known-first
+    enum-told
+    returns
+    judge-early-timers-requires
+    enum-known-second
+    enum-told-2
+    shift-requires
+    returns-2
+    add-at
+    add-at-2
+    add-at-3
+    judge-ending-requires
+    shift-requires-2
+    returns-3)

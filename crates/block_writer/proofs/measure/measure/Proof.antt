@@ -1,0 +1,113 @@
+use borrow.Author.Needs.{needs}
+use Rattle.block_writer.proofs.measure.measure.Statement.{statement}
+use Rattle.block_writer.proofs.measure.measure.Tie as tie
+use Rattle.mapblock.specs.Told.{toldReach, ended}
+use Rattle.mapblock.specs.Layout.{all, isVersion}
+use Rattle.mapblock.specs.Block.{block, verdict}
+use denote.Ref.{now}
+use mathlib.Core.Path.{_≡_, ap, sym, _∙_}
+use mathlib.Core.Option.{some}
+use mathlib.Core.Bool.{true}
+use borrow.Author.Tests.{not-true, not-false}
+use Rattle.block_writer.specs.BlockParts.{BlockParts, WellTyped, blockParts, fits, made}
+use Rattle.block_writer.specs.Sections.{countsIn, toldCounts}
+use Rattle.block_writer.proofs.Written.{bad-version, misfit, ragged, judgeable, blockIs, small, refuses, writes}
+
+-- the parts, and that they are what the types of a call hold
+abbrev parts : tie.After-shared-slice-known7 → BlockParts
+parts c = blockParts (c .before .before .before .before .before .before .before .args .head) (now (c .before .before .before .before .before .before .before .args .param0)) (now (c .before .before .before .before .before .before .before .args .param1)) (now (c .before .before .before .before .before .before .before .args .param2)) (now (c .before .before .before .before .before .before .before .args .names)) (now (c .before .before .before .before .before .before .before .args .metadata)) (now (c .before .before .before .before .before .before .before .args .objects)) (now (c .before .before .before .before .before .before .before .args .timers))
+
+held-parts : (c : tie.After-shared-slice-known7) → WellTyped (parts c)
+held-parts c = record {
+  version = search needs;
+  flags = search needs;
+  lighting = search needs;
+  timestamp = search needs;
+  timer = search needs;
+  param0 = λ i. c .before .before .before .before .before .before .shared-slice-known .given i .fits;
+  param1 = λ i. c .before .before .before .before .before .shared-slice-known2 .given i .fits;
+  param2 = λ i. c .before .before .before .before .shared-slice-known3 .given i .fits;
+  names = λ i. c .before .before .before .shared-slice-known4 .given i .fits;
+  metadata = λ i. c .before .before .shared-slice-known5 .given i .fits;
+  objects = λ i. c .before .shared-slice-known6 .given i .fits;
+  timers = λ i. c .shared-slice-known7 .given i .fits;
+}
+
+-- what the tests found
+version-is : (c : tie.Else1) → isVersion (parts (c .before .before) .head .version) ≡ true
+version-is c = sym (c .before .is-version .ensures) ∙ not-false _ (c .if1 .left)
+
+fit-is : (c : tie.Else2) → fits (parts (c .before .before .before .before)) ≡ true
+fit-is c = sym (c .before .fit .ensures) ∙ not-false _ (c .if2 .left)
+
+count-is : (c : tie.After-known-told) → let p = parts (c .before .before .before .before .before .before .before .before) in some (c .before .c .given .0 .0) ≡ countsIn (p .head .version) (p .names) (p .metadata) (p .objects) (p .timers)
+count-is c = sym (ap toldCounts (c .before .c .given .1)) ∙ c .before .before .before .count-all .ensures
+
+-- what the reader says
+verdictOn-is : (c : tie.After-judge) → let p = parts (c .before .before .before .before .before .before .before .before .before) in let b = blockIs p (c .before .before .c .given .0 .0) (fit-is (c .before .before .before .before .before)) (count-is (c .before)) in
+    toldReach (c .judge .result) ≡ ended (verdict all (block all .encode (made p (b .names) (b .metadata) (b .objects) (b .timers))))
+verdictOn-is c =
+    let p = parts (c .before .before .before .before .before .before .before .before .before) in
+    let b = blockIs p (c .before .before .c .given .0 .0) (fit-is (c .before .before .before .before .before)) (count-is (c .before)) in
+    let x = judgeable p (c .before .before .c .given .0 .0) (fit-is (c .before .before .before .before .before)) (count-is (c .before)) in
+    c .judge .ensures (b .names) (b .metadata) (b .objects) (b .timers) (x .names) (x .metadata) (x .objects) (x .timers)
+
+is-version-requires : tie.Need-is-version-requires
+is-version-requires c κs = search needs
+
+returns : tie.Need-returns
+returns c = bad-version (parts (c .before .before)) (sym (c .before .is-version .ensures) ∙ not-true _ (c .if1 .taken))
+
+fit-requires : tie.Need-fit-requires
+fit-requires c κs = search needs
+
+returns-2 : tie.Need-returns-2
+returns-2 c = misfit (parts (c .before .before .before .before)) (version-is (c .before .before)) (sym (c .before .fit .ensures) ∙ not-true _ (c .if2 .taken))
+
+count-all-requires : tie.Need-count-all-requires
+count-all-requires c κs = search needs
+
+enum-told : tie.Need-enum-told
+enum-told c = search needs
+
+enum-known-c : tie.Need-enum-known-c
+enum-known-c c = search needs
+
+judge-requires : tie.Need-judge-requires
+judge-requires c κs = (
+  (version-is (c .before .before .before .before .before .before), fit-is (c .before .before .before .before)),
+  (held-parts (c .before .before .before .before .before .before .before .before), small (parts (c .before .before .before .before .before .before .before .before)) (c .before .c .given .0 .0) (fit-is (c .before .before .before .before)) (count-is c) (held-parts (c .before .before .before .before .before .before .before .before))),
+)
+
+enum-known-f : tie.Need-enum-known-f
+enum-known-f c = search needs
+
+enum-known-n : tie.Need-enum-known-n
+enum-known-n c = search needs
+
+returns-3 : tie.Need-returns-3
+returns-3 c = ragged (parts (c .before .before .before .before .before .before .before)) (version-is (c .before .before .before .before .before)) (fit-is (c .before .before .before)) (sym (ap toldCounts (c .enum-told .given .1)) ∙ c .before .before .count-all .ensures)
+
+returns-4 : tie.Need-returns-4
+returns-4 c = refuses (parts (c .before .before .before .before .before .before .before .before .before .before .before .before)) (c .before .before .before .before .before .c .given .0 .0) (fit-is (c .before .before .before .before .before .before .before .before)) (count-is (c .before .before .before .before)) (held-parts (c .before .before .before .before .before .before .before .before .before .before .before .before)) (version-is (c .before .before .before .before .before .before .before .before .before .before)) (sym (ap toldReach (c .before .f .given .1)) ∙ verdictOn-is (c .before .before .before))
+
+returns-5 : tie.Need-returns-5
+returns-5 c = writes (parts (c .before .before .before .before .before .before .before .before .before .before .before .before)) (c .before .before .before .before .before .c .given .0 .0) (fit-is (c .before .before .before .before .before .before .before .before)) (count-is (c .before .before .before .before)) (held-parts (c .before .before .before .before .before .before .before .before .before .before .before .before)) (version-is (c .before .before .before .before .before .before .before .before .before .before)) (sym (ap toldReach (c .before .n .given .1)) ∙ verdictOn-is (c .before .before .before))
+
+pub measure-spec : {M : Type 1} → statement M
+measure-spec =
+    tie.close
+    (tie.spec
+    is-version-requires
+    returns
+    fit-requires
+    returns-2
+    count-all-requires
+    enum-told
+    enum-known-c
+    judge-requires
+    enum-known-f
+    enum-known-n
+    returns-3
+    returns-4
+    returns-5)

@@ -1,0 +1,90 @@
+-- What the reader says of bytes that are not written yet, list by list: document 01, 'Order', "then what the reader would say of the bytes".
+use Prim.Native.Nat.{ℕ, _+_, _*_, _<_, _≤_}
+use mathlib.Core.Path.{_≡_}
+use mathlib.Core.Option.{Option}
+use mathlib.Core.List.{List}
+use mathlib.Core.Bool.{Bool, cond}
+use lib.ListN.{length, getD}
+use Rattle.wire.specs.Read.{Read, done}
+use Rattle.wire.specs.Formats.{_▹_, only}
+use Rattle.mapblock.specs.Inventory.{Form}
+use Rattle.mapblock.specs.Data.{NameRow, MetadataRow, ObjectRow, TimerRow, Opening, NameMapping, Timers, Nodes, noMapping, noTimers}
+use Rattle.mapblock.specs.Layout.{since, before, width, unmapped, nameMapping, front, rest, lateTimers}
+use Rattle.mapblock.specs.Block.{contentId, firstFrom}
+use Rattle.mapblock.specs.Scan as scan
+use Rattle.mapblock.specs.Table.{freeIn, Tabled}
+use Rattle.mapblock.specs.Told.{ended}
+use Rattle.mapblock.specs.declared.fault.Fault.{Fault}
+use Rattle.mapblock.specs.declared.head.Head.{Head}
+
+-- what is said of a value's bytes, but for the value
+abbrev pub verdictOn : {A : Type 0} → Form A → A → Read Fault (Unit {0})
+verdictOn f a = ended (f .read (f .encode a))
+
+-- a section of at most 65,535 rows, each of at most 65,550 bytes: all but the metadata
+abbrev pub Small : List ℕ → Type 0
+Small s = length s ≤ 65535 * 65550
+
+-- the bytes of step 1, and of the param lists
+abbrev pub openingLength : ℕ → ℕ
+openingLength v = cond (since 27 v) 4 2
+
+abbrev pub listsLength : ℕ → ℕ
+listsLength v = 4096 * width v + 8192
+
+-- ---- what a head and rows put where: as a block's pieces have it
+abbrev pub openingOn : Head → Opening
+openingOn h = scan.openingOn (h .version) (h .flags) (h .lighting)
+
+abbrev pub mappingOn : Head → List NameRow → NameMapping
+mappingOn h l = record { timestamp = h .timestamp; names = l }
+
+abbrev pub mappingFront : Head → List NameRow → NameMapping
+mappingFront h l = cond (since 29 (h .version)) (mappingOn h l) noMapping
+
+abbrev pub mappingBehind : Head → List NameRow → NameMapping
+mappingBehind h l = cond (since 29 (h .version)) noMapping (mappingOn h l)
+
+abbrev pub timersOn : Head → List TimerRow → Timers
+timersOn h l = record { byte = h .timer; rows = l }
+
+abbrev pub timersEarly : Head → List TimerRow → Timers
+timersEarly h l = cond (since 25 (h .version)) noTimers (timersOn h l)
+
+abbrev pub timersLate : Head → List TimerRow → Timers
+timersLate h l = cond (since 25 (h .version)) (timersOn h l) noTimers
+
+-- ---- names; the table t tells which ids are free, and u is the table after
+pub record MappingJudged (t u : List ℕ) (x : NameMapping) (r : Read Fault (Unit {0})) : Type 0 where
+  pub judged : r ≡ verdictOn (nameMapping (freeIn t)) x
+  pub marks : (n : ℕ) → r ≡ done tt n → Tabled 65536 (unmapped (freeIn t) (x .names)) u
+
+-- up to the end of the node data
+pub record FrontJudged (t u : List ℕ) (h : Head) (l : List NameRow) (n : Nodes) (r : Read Fault (Unit {0})) : Type 0 where
+  pub judged : r ≡ verdictOn (front (freeIn t)) (openingOn h, (mappingFront h l, n))
+  pub marks : (k : ℕ) → 29 ≤ h .version → r ≡ done tt k → Tabled 65536 (unmapped (freeIn t) l) u
+  pub kept : h .version < 29 → u ≡ t
+
+-- behind the static objects: names before version 29, timers from 25 on
+abbrev pub ending : (ℕ → Bool) → ℕ → Form (NameMapping × Timers)
+ending free v = only (before 29 v) noMapping (nameMapping free) ▹ lateTimers v
+
+-- `free` matters where the names stand behind
+pub record EndingJudged (t u : List ℕ) (h : Head) (l : List NameRow) (k : List TimerRow) (r : Read Fault (Unit {0})) : Type 0 where
+  pub judged : (free : ℕ → Bool) → (h .version < 29 → free ≡ freeIn t) → r ≡ verdictOn (ending free (h .version)) (mappingBehind h l, timersLate h k)
+  pub marks : (n : ℕ) → h .version < 29 → r ≡ done tt n → Tabled 65536 (unmapped (freeIn t) l) u
+  pub kept : 29 ≤ h .version → u ≡ t
+
+-- what follows the node data
+pub record RestJudged (t u : List ℕ) (h : Head) (l : List NameRow) (m : List MetadataRow) (o : List ObjectRow) (k : List TimerRow) (r : Read Fault (Unit {0})) : Type 0 where
+  pub judged : (free : ℕ → Bool) → (h .version < 29 → free ≡ freeIn t) → r ≡ verdictOn (rest free (h .version)) (m, (timersEarly h k, (o, (mappingBehind h l, timersLate h k))))
+  pub marks : (n : ℕ) → h .version < 29 → r ≡ done tt n → Tabled 65536 (unmapped (freeIn t) l) u
+  pub kept : 29 ≤ h .version → u ≡ t
+
+-- ---- content ids
+-- whether a node's id has no mark in the table, and the first node whose id has none
+abbrev pub unmarkedAmong : ℕ → List ℕ → List ℕ → List ℕ → ℕ → Bool
+unmarkedAmong v param0 param2 t i = freeIn t (contentId v (getD param0 i 0) (getD param2 i 0))
+
+abbrev pub firstUnmappedAmong : ℕ → List ℕ → List ℕ → List ℕ → Option ℕ
+firstUnmappedAmong v param0 param2 t = firstFrom (unmarkedAmong v param0 param2 t) 4096 0

@@ -1,0 +1,48 @@
+// The number of rows of each section.
+use crate::frames::RowCount;
+use crate::frames::SectionKind;
+use crate::frames::row_count;
+ghost use mathlib.Core.Path.{_≡_};
+ghost use Rattle.block_writer.specs.Sections.{countsIn, toldCounts};
+
+pub struct RowCounts {
+    pub names: u16,
+    pub metadata: u16,
+    pub objects: u16,
+    pub timers: u16,
+}
+
+pub enum RowCountsRead {
+    Rows(RowCounts),
+    NotWhole,
+}
+
+// RowCounts the rows of the four sections.
+pub(crate) fn count_all(
+    version: u8,
+    names: &[u8],
+    metadata: &[u8],
+    objects: &[u8],
+    timers: &[u8],
+) -> RowCountsRead
+    ensures { λ r. ⌜ toldCounts r ≡ countsIn version (now (names .entry)) (now (metadata .entry)) (now (objects .entry)) (now (timers .entry)) ⌝ }
+{
+    let RowCount::Rows(a) = row_count(SectionKind::Names, version, names) else {
+        return RowCountsRead::NotWhole;
+    };
+    let RowCount::Rows(b) = row_count(SectionKind::Metadata, version, metadata) else {
+        return RowCountsRead::NotWhole;
+    };
+    let RowCount::Rows(c) = row_count(SectionKind::Objects, version, objects) else {
+        return RowCountsRead::NotWhole;
+    };
+    match row_count(SectionKind::Timers, version, timers) {
+        RowCount::NotWhole => RowCountsRead::NotWhole,
+        RowCount::Rows(d) => RowCountsRead::Rows(RowCounts {
+            names: a,
+            metadata: b,
+            objects: c,
+            timers: d,
+        }),
+    }
+}

@@ -1,0 +1,77 @@
+// Parts that fit, but for the rows of the sections.
+use mapblock::head::Head;
+use mapblock::head::NO_LIGHTING;
+use mapblock::read::are_whole;
+ghost use mathlib.Core.Path.{_≡_};
+ghost use mathlib.Core.List.{[]};
+ghost use Rattle.block_writer.specs.BlockParts.{headFits, allBelow, param0Fits, timersFit, blockParts, fits};
+
+// Whether the head has no value that its version does not carry.
+fn head_fits(head: Head) -> bool
+    ensures { λ r. ⌜ r ≡ headFits head ⌝ }
+{
+    if head.version < 27 {
+        if head.lighting != NO_LIGHTING {
+            return false;
+        }
+    }
+    if head.version == 24 {
+        return true;
+    }
+    head.timer == 0
+}
+
+// Whether all entries are bytes.
+fn all_bytes(entries: &[u16]) -> bool
+    ensures { λ r. ⌜ r ≡ allBelow 256 (now (entries .entry)) ⌝ }
+{
+    let mut i: usize = 0;
+    while i < entries.len() {
+        if 255 < entries[i] {
+            return false;
+        }
+        i += 1;
+    }
+    true
+}
+
+// Whether param0 has the version's width.
+fn param0_fits(version: u8, param0: &[u16]) -> bool
+    ensures { λ r. ⌜ r ≡ param0Fits version (now (param0 .entry)) ⌝ }
+{
+    if 24 <= version {
+        return true;
+    }
+    all_bytes(param0)
+}
+
+// Whether timers may stand in the block, or there are none.
+fn timers_fit(head: Head, timers: &[u8]) -> bool
+    ensures { λ r. ⌜ r ≡ timersFit head (now (timers .entry)) ⌝ }
+{
+    if 25 <= head.version {
+        return true;
+    }
+    if head.version == 24 {
+        if head.timer == 1 {
+            return true;
+        }
+    }
+    timers.len() == 0
+}
+
+// Whether head, lists and timers fit together.
+pub(crate) fn fit(head: Head, param0: &[u16], param1: &[u8], param2: &[u8], timers: &[u8]) -> bool
+    ensures { λ r. ⌜ r ≡ fits (blockParts head (now (param0 .entry)) (now (param1 .entry)) (now (param2 .entry)) [] [] [] (now (timers .entry))) ⌝ }
+{
+    if !are_whole(param0.len(), param1.len(), param2.len()) {
+        return false;
+    }
+    if !head_fits(head) {
+        return false;
+    }
+    if !param0_fits(head.version, param0) {
+        return false;
+    }
+    timers_fit(head, timers)
+}

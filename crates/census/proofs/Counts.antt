@@ -1,0 +1,46 @@
+-- Laws of counts of indices.
+use Prim.Native.Nat.{ℕ, zero, suc, _+_, _≤_, _<_}
+use mathlib.Core.Path.{_≡_, refl, ap}
+use mathlib.Core.Bool.{Bool, true, false}
+use native.Mathlib.Nat.{add-zero, add-suc, add-assoc}
+use native.Mathlib.Numerals.{add-one}
+use native.Mathlib.Omega.{arith}
+use Rattle.wire.specs.Choice.{bit}
+use Rattle.census.specs.CountsById.{countIf}
+
+pub countIf-zero : (p : ℕ → Bool) (a : ℕ) → countIf p a 0 ≡ 0
+unfolding countIf
+countIf-zero p a = refl
+
+pub countIf-one : (p : ℕ → Bool) (a n : ℕ) → countIf p a (n + 1) ≡ countIf p a n + bit (p (a + n))
+unfolding countIf
+countIf-one p a n = rw (add-one n)
+
+pub bit-le : (b : Bool) → bit b ≤ 1
+bit-le true = omega arith
+bit-le false = omega arith
+
+pub countIf-le : (p : ℕ → Bool) (a n : ℕ) → countIf p a n ≤ n
+unfolding countIf
+countIf-le p a zero = omega arith
+countIf-le p a (suc n) = omega (arith, countIf-le p a n, bit-le (p (a + n)))
+
+pub countIf-add : (p : ℕ → Bool) (a n m : ℕ) → countIf p a (n + m) ≡ countIf p a n + countIf p (a + n) m
+unfolding countIf
+countIf-add p a n zero = rw (add-zero n) (omega arith)
+countIf-add p a n (suc m) = rw (add-suc n m) (omega (arith, countIf-add p a n m, ap (λ (i : ℕ). bit (p i)) (add-assoc a n m)))
+
+pub countIf-same : (p q : ℕ → Bool) (a n : ℕ) → ((i : ℕ) → a ≤ i → i < a + n → p i ≡ q i) → countIf p a n ≡ countIf q a n
+unfolding countIf
+countIf-same p q a zero e = refl
+countIf-same p q a (suc n) e = omega (arith, countIf-same p q a n (λ i h k. e i h (omega arith)), ap bit (e (a + n) (omega arith) (omega arith)))
+
+pub countIf-none : (p : ℕ → Bool) (a n : ℕ) → ((i : ℕ) → a ≤ i → i < a + n → p i ≡ false) → countIf p a n ≡ 0
+unfolding countIf
+countIf-none p a zero e = refl
+countIf-none p a (suc n) e = omega (arith, countIf-none p a n (λ i h k. e i h (omega arith)), ap bit (e (a + n) (omega arith) (omega arith)))
+
+pub countIf-all : (p : ℕ → Bool) (a n : ℕ) → ((i : ℕ) → a ≤ i → i < a + n → p i ≡ true) → countIf p a n ≡ n
+unfolding countIf
+countIf-all p a zero e = refl
+countIf-all p a (suc n) e = omega (arith, countIf-all p a n (λ i h k. e i h (omega arith)), ap bit (e (a + n) (omega arith) (omega arith)))

@@ -1,0 +1,7 @@
+// The census of a block: its nodes in a part of the world counted by content id, and the names that they use, in order.
+pub mod clear;
+mod clip;
+pub mod count;
+pub mod places;
+pub mod sort;
+pub mod used;

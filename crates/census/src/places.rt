@@ -1,0 +1,52 @@
+// Names by places: a place is where a row stands in a section of names.
+use mapblock::names::NameRead;
+use mapblock::names::name_row;
+use mapblock::nodes::IDS;
+use wire::ranges::slice_of;
+ghost use mathlib.Core.Path.{_≡_};
+ghost use Prim.Native.Nat.{_<_};
+ghost use denote.Ref.{ptr};
+ghost use Rattle.wire.specs.Places.{placeIn};
+ghost use Rattle.census.specs.NamePlaces.{rowAt, nameStartAt, countAt};
+
+// The name in the row at a place, empty where none stands there.
+pub fn name_at(s: &[u8], p: usize) -> &[u8]
+    ensures { λ r. ⌜ now r ≡ rowAt (now (s .entry)) p .name ⌝ }
+    ensures { λ r. ⌜ ptr r ≡ placeIn (s .entry) (nameStartAt (now (s .entry)) p) ⌝ }
+{
+    if s.len() < p {
+        return &s[..0];
+    }
+    let rest = &s[p..];
+    match name_row(rest) {
+        NameRead::Refused(_, _) => &s[..0],
+        NameRead::Row(row, _) => slice_of(rest, row.name),
+    }
+}
+
+// The id in the row at a place, 0 where none stands there.
+pub fn id_at(s: &[u8], p: usize) -> usize
+    ensures { λ r. ⌜ r ≡ rowAt (now (s .entry)) p .id ⌝ }
+    ensures { λ r. ⌜ r < 65536 ⌝ }
+{
+    if s.len() < p {
+        return 0;
+    }
+    match name_row(&s[p..]) {
+        NameRead::Refused(_, _) => 0,
+        NameRead::Row(row, _) => row.id as usize,
+    }
+}
+
+fn wide(n: u16) -> u64
+    ensures { λ r. ⌜ r ≡ n ⌝ }
+{
+    n as u64
+}
+
+// What the counters tell of the id in the row at a place.
+pub fn count_at(s: &[u8], counts: &[u16; IDS], p: usize) -> u64
+    ensures { λ r. ⌜ r ≡ countAt (now (s .entry)) (now (counts .entry)) p ⌝ }
+{
+    wide(counts[id_at(s, p)])
+}

@@ -1,0 +1,77 @@
+use mathlib.Core.Path.{_≡_, sym, _∙_}
+use mathlib.Core.Bool.{Bool}
+use denote.Ref.{now}
+use mir.ValLaws.{toZ-ofZ}
+use borrow.Author.Tests.{not-true, not-false}
+use Rattle.wire.proofs.Steps.{told-as}
+use Rattle.position.specs.Keys.{splitOf, toldSplit}
+use Rattle.mapblock.specs.Scan.{toldScan}
+use Rattle.position.specs.Parts.{goodPart}
+use Rattle.meter.proofs.Tallied.{block-bad, block-astray, block-refuses, block-found, block-put}
+use borrow.Author.Needs.{needs}
+use Rattle.meter.proofs.block_tally.tally_block.Statement.{statement}
+use Rattle.meter.proofs.block_tally.tally_block.Tie as tie
+
+-- what `is_part` and `split` told
+part-told : (c : tie.After-is-good) {t : Bool} → c .is-good .result ≡ t → goodPart (c .before .before .before .args .part) ≡ t
+part-told c e = sym (c .is-good .ensures) ∙ e
+
+told : (c : tie.After-split) → toldSplit (c .split .result) ≡ splitOf (c .before .before .before .before .before .args .key)
+told c = simp (toZ-ofZ, c .before .before .before .before .before .fits .key) at (c .split .ensures)
+
+is-good-requires : tie.Need-is-good-requires
+is-good-requires c κs = search needs
+
+returns : tie.Need-returns
+returns c = block-bad _ _ (c .before .before .before .before .args .part) (now (c .before .before .before .before .args .out)) (part-told (c .before) (not-true _ (c .if1 .taken)))
+
+split-requires : tie.Need-split-requires
+split-requires c κs = search needs
+
+enum-known-at : tie.Need-enum-known-at
+enum-known-at c = search needs
+
+enum-told : tie.Need-enum-told
+enum-told c = search needs
+
+returns-2 : tie.Need-returns-2
+returns-2 c = block-astray _ _ (c .before .before .before .before .before .before .before .args .part) (now (c .before .before .before .before .before .before .before .args .out)) (part-told (c .before .before .before .before) (not-false _ (c .before .before .before .if1 .left))) (told-as toldSplit (told (c .before .before)) (c .enum-told .given .1))
+
+scan-requires : tie.Need-scan-requires
+scan-requires c κs = search needs
+
+enum-known-f : tie.Need-enum-known-f
+enum-known-f c = search needs
+
+enum-known-found : tie.Need-enum-known-found
+enum-known-found c = search needs
+
+put-tally-requires : tie.Need-put-tally-requires
+put-tally-requires c κs = block-found _ _ (c .before .before .before .before .before .before .before .before .before .before .before .before .before .before .args .part) (now (c .before .before .before .before .before .before .before .before .before .before .before .before .before .before .args .out)) (part-told (c .before .before .before .before .before .before .before .before .before .before .before) (not-false _ (c .before .before .before .before .before .before .before .before .before .before .if1 .left))) (told-as toldSplit (told (c .before .before .before .before .before .before .before .before .before)) (c .before .before .before .before .before .before .before .at .given .1)) (λ i. c .before .before .before .before .before .before .before .before .before .before .before .before .before .shared-slice-known .given i .fits) (told-as toldScan (c .before .before .before .before .scan .ensures .0) (c .before .before .found .given .1))
+
+returns-3 : tie.Need-returns-3
+returns-3 c = block-refuses _ _ (c .before .before .before .before .before .before .before .before .before .before .before .before .before .args .part) (now (c .before .before .before .before .before .before .before .before .before .before .before .before .before .args .out)) (part-told (c .before .before .before .before .before .before .before .before .before .before) (not-false _ (c .before .before .before .before .before .before .before .before .before .if1 .left))) (told-as toldSplit (told (c .before .before .before .before .before .before .before .before)) (c .before .before .before .before .before .before .at .given .1)) (told-as toldScan (c .before .before .before .scan .ensures .0) (c .before .f .given .1))
+
+same-length : tie.Need-same-length
+same-length c = search needs
+
+returns-4 : tie.Need-returns-4
+returns-4 c = block-put _ _ (c .before .before .before .before .before .before .before .before .before .before .before .before .before .before .before .before .before .args .part) (now (c .before .before .before .before .before .before .before .before .before .before .before .before .before .before .before .before .before .args .out)) (part-told (c .before .before .before .before .before .before .before .before .before .before .before .before .before .before) (not-false _ (c .before .before .before .before .before .before .before .before .before .before .before .before .before .if1 .left))) (told-as toldSplit (told (c .before .before .before .before .before .before .before .before .before .before .before .before)) (c .before .before .before .before .before .before .before .before .before .before .at .given .1)) (λ i. c .before .before .before .before .before .before .before .before .before .before .before .before .before .before .before .before .shared-slice-known .given i .fits) (told-as toldScan (c .before .before .before .before .before .before .before .scan .ensures .0) (c .before .before .before .before .before .found .given .1)) _ (c .before .before .put-tally .result) (c .before .before .put-tally .ensures)
+
+pub tally-block-spec : {M : Type 1} → statement M
+tally-block-spec =
+    tie.close
+    (tie.spec
+    is-good-requires
+    returns
+    split-requires
+    enum-known-at
+    enum-told
+    returns-2
+    scan-requires
+    enum-known-f
+    enum-known-found
+    put-tally-requires
+    returns-3
+    same-length
+    returns-4)

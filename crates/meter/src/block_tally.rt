@@ -1,0 +1,86 @@
+// The tally of one block.
+use crate::adding::add_block;
+use mapblock::fault::Fault;
+use mapblock::nodes::IDS;
+use mapblock::nodes::NODES;
+use mapblock::scan::ScanRead;
+use mapblock::scan::Scanned;
+use mapblock::scan::scan;
+use position::key::Coordinates;
+use position::key::SplitAnswer;
+use position::key::split;
+use position::part::Part;
+use running_tally::state::empty;
+use tally::head::put_head;
+use wire::heads::HEAD_LENGTH;
+ghost use mathlib.Core.Path.{_≡_};
+ghost use lib.ListN.{length};
+ghost use Rattle.wire.specs.Answer.{lent, mapAnswer};
+ghost use Rattle.mapblock.specs.Data.{Block};
+ghost use Rattle.meter.specs.Counting.{byOne};
+ghost use Rattle.meter.specs.Tallying.{tallyBlockOf};
+ghost use Rattle.sheet.specs.Records.{ScannedAs};
+ghost use Rattle.meter.specs.Told.{PutAs, toldBlock};
+
+pub enum BlockAnswer {
+    // The tally's length.
+    Tallied(usize),
+    BadPart,
+    OutOfRange,
+    Refused(Fault, usize),
+    NoRoom,
+}
+
+// The tally of a block that the scan found. Where it has no room nothing is written: the rows are measured first.
+fn put_tally(
+    block: &[u8],
+    found: Scanned,
+    at: Coordinates,
+    part: Part,
+    out: &mut [u8],
+) -> BlockAnswer
+    requires { ⌜ ((b : Block) × ScannedAs (now block) found b) ⌝ }
+    ensures { λ r. ⌜ ((b : Block) → ScannedAs (now (block .entry)) found b → PutAs part at b (now (out .entry)) (now (out .exit)) r) ⌝ }
+{
+    let mut counts = [0u16; IDS];
+    let mut places = [0usize; NODES];
+    let mut scratch = [0usize; NODES];
+    if out.len() < HEAD_LENGTH {
+        return BlockAnswer::NoRoom;
+    }
+    let w = add_block(
+        block,
+        found,
+        at,
+        part,
+        &mut counts,
+        &mut places,
+        &mut scratch,
+        &mut out[HEAD_LENGTH..],
+        empty(),
+    );
+    if w.over {
+        return BlockAnswer::NoRoom;
+    }
+    put_head(out, w.rows as u32);
+    BlockAnswer::Tallied(w.size + HEAD_LENGTH)
+}
+
+// Counts the nodes of the block at a key that stand in a part, name by name.
+pub fn tally_block(key: i64, block: &[u8], part: Part, out: &mut [u8]) -> BlockAnswer
+    ensures { λ r. ⌜ toldBlock r ≡ mapAnswer length (tallyBlockOf byOne key (now (block .entry)) part (length (now (out .entry)))) ⌝ }
+    ensures { λ _. ⌜ now (out .exit) ≡ lent (tallyBlockOf byOne key (now (block .entry)) part (length (now (out .entry)))) (now (out .entry)) ⌝ }
+{
+    // The table comes first, here and in put_tally, as in the tally of a sheet.
+    let mut ids = [0u8; IDS];
+    if !part.is_good() {
+        return BlockAnswer::BadPart;
+    }
+    let SplitAnswer::At(at) = split(key) else {
+        return BlockAnswer::OutOfRange;
+    };
+    match scan(block, &mut ids) {
+        ScanRead::Refused(f, p) => BlockAnswer::Refused(f, p),
+        ScanRead::Taken(found, _) => put_tally(block, found, at, part, out),
+    }
+}

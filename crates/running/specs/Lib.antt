@@ -1,5 +1,0 @@
--- Running tallies, and what is added to one.
-pub mod Running
--- What the functions of this crate promise each other.
-pub mod Groups
-pub mod Passes

@@ -1,0 +1,3 @@
+// Sheets: the head and the records, each judged against the last key. No tally is made here.
+pub mod head;
+pub mod records;

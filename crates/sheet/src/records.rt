@@ -1,0 +1,89 @@
+// A sheet's records, one at a time.
+use mapblock::fault::Fault;
+use mapblock::nodes::IDS;
+use mapblock::scan::ScanRead;
+use mapblock::scan::Scanned;
+use mapblock::scan::scan;
+use position::key::Coordinates;
+use position::key::SplitAnswer;
+use position::key::split;
+use wire::fields::Run;
+use wire::fields::S64;
+use wire::fields::run32_at;
+use wire::fields::s64_at;
+ghost use mathlib.Core.Path.{_≡_};
+ghost use Rattle.wire.specs.Read.{toOption};
+ghost use Rattle.wire.specs.Answer.{mapAnswer};
+ghost use Rattle.mapblock.specs.Table.{freeIn};
+ghost use Rattle.sheet.specs.Sheet.{frame, rises, judgedIn};
+ghost use Rattle.sheet.specs.Records.{recordOf, toldFrame, lastOf, scannedAt, toldRecord};
+
+// Where the length of a record's block stands, behind its key, and where the block begins.
+pub const LENGTH_AT: usize = 8;
+
+pub const BLOCK_AT: usize = 12;
+
+// A record's key and the length of its block, or that it is not whole.
+pub enum FrameRead {
+    Record(i64, usize),
+    Misframed,
+}
+
+// The framing of the record at the front.
+pub fn frame(s: &[u8]) -> FrameRead
+    ensures { λ r. ⌜ toldFrame (now (s .entry)) r ≡ toOption (frame .read (now (s .entry))) ⌝ }
+{
+    let S64::Value(key) = s64_at(s, 0) else {
+        return FrameRead::Misframed;
+    };
+    match run32_at(s, LENGTH_AT) {
+        Run::Ends(_) => FrameRead::Misframed,
+        Run::Bytes(n) => FrameRead::Record(key, n),
+    }
+}
+
+// The last key that was taken, if any was.
+pub enum LastKey {
+    Nothing,
+    Key(i64),
+}
+
+// Keys rise as numbers.
+fn is_rising(last: LastKey, key: i64) -> bool
+    ensures { λ r. ⌜ r ≡ rises (lastOf last) key ⌝ }
+{
+    match last {
+        LastKey::Nothing => true,
+        LastKey::Key(k) => k < key,
+    }
+}
+
+// What may be wrong with a record, in the order in which it is judged.
+pub enum RecordFault {
+    OutOfRange,
+    NotRising,
+    Block(Fault, usize),
+}
+
+pub enum RecordAnswer {
+    // Where the block stands, and what the scan found in it.
+    Taken(Coordinates, Scanned),
+    Refused(RecordFault),
+}
+
+// A record judged against the last key, by the ids that the table has free. The table comes back as it was.
+pub fn judge_record(last: LastKey, key: i64, block: &[u8], ids: &mut [u8; IDS]) -> RecordAnswer
+    ensures { λ _. ⌜ now (ids .exit) ≡ now (ids .entry) ⌝ }
+    ensures { λ r. ⌜ toldRecord r ≡ mapAnswer scannedAt (judgedIn (freeIn (now (ids .entry))) (lastOf last) (recordOf key (now (block .entry)))) ⌝ }
+{
+    let SplitAnswer::At(at) = split(key) else {
+        return RecordAnswer::Refused(RecordFault::OutOfRange);
+    };
+    if !is_rising(last, key) {
+        return RecordAnswer::Refused(RecordFault::NotRising);
+    }
+    match scan(block, ids) {
+        ScanRead::Refused(f, p) => RecordAnswer::Refused(RecordFault::Block(f, p)),
+        ScanRead::Taken(found, _) => RecordAnswer::Taken(at, found),
+    }
+}

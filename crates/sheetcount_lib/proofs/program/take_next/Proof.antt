@@ -1,0 +1,99 @@
+use borrow.Author.Needs.{needs}
+use Prim.Native.Nat.{ℕ}
+use mathlib.Core.Path.{refl}
+use mathlib.Core.List.{List}
+use denote.Ref.{now}
+use Rattle.wire.proofs.Steps.{told-as}
+use Rattle.sheetcount_lib.specs.Program.{toldLength}
+use Rattle.sheetcount_lib.proofs.Nexts.{next-stops, next-misframed, next-refused, next-taken}
+use Rattle.sheetcount_lib.proofs.program.take_next.Statement.{statement}
+use Rattle.sheetcount_lib.proofs.program.take_next.Tie as tie
+
+-- the bytes, and where the length of the block was read from them
+abbrev bytes : tie.After-block-length → List ℕ
+bytes b = now (b .before .before .before .args .s)
+
+abbrev sized : tie.After-take-record → tie.After-block-length
+sized x = x .before .before .before .before .before .before .before .before
+
+block-length-requires : tie.Need-block-length-requires
+block-length-requires c κs = search needs
+
+enum-told : tie.Need-enum-told
+enum-told c = search needs
+
+enum-told-2 : tie.Need-enum-told-2
+enum-told-2 c = search needs
+
+enum-told-3 : tie.Need-enum-told-3
+enum-told-3 c = search needs
+
+take-record-requires : tie.Need-take-record-requires
+take-record-requires c κs = search needs
+
+enum-known-i : tie.Need-enum-known-i
+enum-known-i c = search needs
+
+enum-known-f : tie.Need-enum-known-f
+enum-known-f c = search needs
+
+enum-known-next : tie.Need-enum-known-next
+enum-known-next c = search needs
+
+returns : tie.Need-returns
+returns c =
+    let b = c .before .before in
+    (refl, (refl, λ w k. next-stops w (bytes b) 15 k (told-as (toldLength (w .records)) (b .block-length .ensures (w .records)) (c .enum-told .given .1))))
+
+returns-2 : tie.Need-returns-2
+returns-2 c =
+    let b = c .before .before in
+    (refl, (refl, λ w k. next-stops w (bytes b) 11 k (told-as (toldLength (w .records)) (b .block-length .ensures (w .records)) (c .enum-told2 .given .1))))
+
+same-length : tie.Need-same-length
+same-length c = search needs
+
+returns-3 : tie.Need-returns-3
+returns-3 c =
+    let x = c .before .before .before .before .before in
+    let b = sized x in
+    (x .take-record .ensures .0, (x .take-record .ensures .1 .0, λ w k. next-misframed w (bytes b) _ (told-as (toldLength (w .records)) (b .block-length .ensures (w .records)) (x .before .before .before .before .before .before .enum-told3 .given .1)) (x .take-record .last .1 .1 .1 .1 .1 .0) (x .take-record .last .1 .1 .1 .0) (x .take-record .result) (x .take-record .ensures .1 .1 .1 w k) (c .before .i .given .1)))
+
+same-length-2 : tie.Need-same-length-2
+same-length-2 c = search needs
+
+returns-4 : tie.Need-returns-4
+returns-4 c =
+    let x = c .before .before .before .before .before in
+    let b = sized x in
+    (x .take-record .ensures .0, (x .take-record .ensures .1 .0, λ w k. next-refused w (bytes b) _ (told-as (toldLength (w .records)) (b .block-length .ensures (w .records)) (x .before .before .before .before .before .before .enum-told3 .given .1)) (x .take-record .last .1 .1 .1 .1 .1 .0) (x .take-record .last .1 .1 .1 .0) (x .take-record .result) (x .take-record .ensures .1 .1 .1 w k) (c .before .f .given .1)))
+
+same-length-3 : tie.Need-same-length-3
+same-length-3 c = search needs
+
+returns-5 : tie.Need-returns-5
+returns-5 c =
+    let x = c .before .before .before .before .before in
+    let b = sized x in
+    (x .take-record .ensures .0, (x .take-record .ensures .1 .0, λ w k. next-taken w (bytes b) _ (told-as (toldLength (w .records)) (b .block-length .ensures (w .records)) (x .before .before .before .before .before .before .enum-told3 .given .1)) (x .take-record .last .1 .1 .1 .1 .1 .0) (x .take-record .last .1 .1 .1 .0) (x .take-record .result) (x .take-record .ensures .1 .1 .1 w k) (c .before .next .given .1)))
+
+pub take-next-spec : {M : Type 1} → statement M
+take-next-spec =
+    tie.close
+    (tie.spec
+    block-length-requires
+    enum-told
+    enum-told-2
+    enum-told-3
+    take-record-requires
+    enum-known-i
+    enum-known-f
+    enum-known-next
+    returns
+    returns-2
+    same-length
+    returns-3
+    same-length-2
+    returns-4
+    same-length-3
+    returns-5)

@@ -1,0 +1,131 @@
+// What the program sheetcount decides, over the bytes that it reads.
+use mapblock::nodes::IDS;
+use mapblock::nodes::NODES;
+use meter::sheet_tally::SheetAnswer;
+use meter::sheet_tally::finished;
+use meter::stream::Progress;
+use meter::stream::TakeAnswer;
+use meter::stream::finish;
+use meter::stream::take_record;
+use position::part::Part;
+use sheet::records::LENGTH_AT;
+use sheet::records::RecordFault;
+use wire::fields::S64;
+use wire::fields::U32;
+use wire::fields::s64_at;
+use wire::fields::u32_at;
+ghost use mathlib.Core.Path.{_≡_};
+ghost use Prim.Native.Nat.{ℕ, _≤_};
+ghost use lib.ListN.{length};
+ghost use Rattle.wire.specs.Answer.{Answered, Matches};
+ghost use Rattle.meter.specs.Counting.{byOne};
+ghost use Rattle.mapblock.specs.Table.{clearTable};
+ghost use Rattle.meter.specs.Streaming.{State};
+ghost use Rattle.meter.specs.Progress.{Carries, Steps, Untouched};
+ghost use Rattle.meter.specs.SheetTold.{toldSheet};
+ghost use Rattle.sheetcount_lib.specs.Program.{maxTallyLength, blockLengthOf, nextOf, countedFrom, toldLength, nextFaulty, toldNext, CarriesFirst};
+
+// The longest block of a record, and the longest tally.
+pub(crate) const MAX_BLOCK_LENGTH: usize = 49152;
+
+pub(crate) const MAX_TALLY_LENGTH: usize = 8192;
+
+// The length of a record's block, or why the block is not to be read.
+pub(crate) enum LengthRead {
+    Block(usize),
+    Misframed,
+    TooLong,
+}
+
+// Judges a record's first twelve bytes, before its block is read.
+pub(crate) fn block_length(s: &[u8]) -> LengthRead
+    ensures { λ r. ⌜ ((i : ℕ) → toldLength i r ≡ blockLengthOf i (now (s .entry))) ⌝ }
+{
+    let S64::Value(_) = s64_at(s, 0) else {
+        return LengthRead::Misframed;
+    };
+    let U32::Value(n) = u32_at(s, LENGTH_AT) else {
+        return LengthRead::Misframed;
+    };
+    let size = n as usize;
+    if MAX_BLOCK_LENGTH < size {
+        return LengthRead::TooLong;
+    }
+    LengthRead::Block(size)
+}
+
+// Why the next record is refused, with its number.
+pub(crate) enum NextFault {
+    Misframed(u32),
+    // Its block is longer than the program holds.
+    TooLong(u32),
+    Record(RecordFault, u32),
+}
+
+// What came of a record: how far the sheet was tallied then, or the refusal.
+pub(crate) enum Step {
+    On(Progress),
+    Stop(NextFault),
+}
+
+// Takes the record at the front of some bytes, unless its block is too long. It is an inner function of the program, and so is end_sheet: the
+// buffers carry a state between records. What it answers is promised where `ids` and `counts` are clear, the spare carries the state that `p`
+// tells, and a u32 holds the number of the record (`Steps`); the counters are then clear again. Of every state: the spare keeps its length, and
+// `ids` comes back as it was. The spare, `places` and `scratch` are as after a step.
+pub(crate) fn take_next(
+    p: Progress,
+    s: &[u8],
+    spare: &mut [u8],
+    ids: &mut [u8; IDS],
+    counts: &mut [u16; IDS],
+    places: &mut [usize; NODES],
+    scratch: &mut [usize; NODES],
+) -> Step
+    ensures { λ _. ⌜ length (now (spare .exit)) ≡ length (now (spare .entry)) ⌝ }
+    ensures { λ _. ⌜ now (ids .exit) ≡ now (ids .entry) ⌝ }
+    ensures { λ r. ⌜ ((w : State byOne) → Steps (now (ids .entry)) (now (counts .entry)) (now (spare .entry)) p w
+        → Matches (CarriesFirst (now (spare .exit))) (toldNext r) (nextOf w (now (s .entry))) × (now (counts .exit) ≡ clearTable)) ⌝ }
+{
+    match block_length(s) {
+        LengthRead::Misframed => Step::Stop(NextFault::Misframed(p.records)),
+        LengthRead::TooLong => Step::Stop(NextFault::TooLong(p.records)),
+        LengthRead::Block(_) => match take_record(
+            p,
+            s,
+            Part::EVERYTHING,
+            spare,
+            ids,
+            counts,
+            places,
+            scratch,
+        ) {
+            TakeAnswer::Misframed(i) => Step::Stop(NextFault::Misframed(i)),
+            TakeAnswer::Refused(f, i) => Step::Stop(NextFault::Record(f, i)),
+            TakeAnswer::Taken(next, _) => Step::On(next),
+        },
+    }
+}
+
+// The refusal of a record, as tallying the sheet answers it.
+pub(crate) fn stopped(f: NextFault) -> SheetAnswer
+    ensures { λ r. ⌜ toldSheet r ≡ nextFaulty f ⌝ }
+{
+    match f {
+        NextFault::Misframed(i) => SheetAnswer::Malformed(i),
+        NextFault::TooLong(i) => SheetAnswer::NoRoom(i),
+        NextFault::Record(e, i) => SheetAnswer::Record(e, i),
+    }
+}
+
+// Behind the last record: no byte more, and then the tally. What it answers is promised where the spare carries the state that `p` tells, the
+// output has MAX_TALLY_LENGTH bytes and the spare no fewer. Of every state: a refusal leaves the output as it was.
+pub(crate) fn end_sheet(p: Progress, rest: &[u8], spare: &[u8], out: &mut [u8]) -> SheetAnswer
+    ensures { λ r. ⌜ ((w : State byOne) → Carries (now (spare .entry)) p w → length (now (out .entry)) ≡ maxTallyLength → maxTallyLength ≤ length (now (spare .entry))
+        → Answered (toldSheet r) (now (out .entry)) (now (out .exit)) (countedFrom 0 w (now (rest .entry)))) ⌝ }
+    ensures { λ r. ⌜ Untouched (toldSheet r) (now (out .entry)) (now (out .exit)) ⌝ }
+{
+    if 0 < rest.len() {
+        return SheetAnswer::Malformed(p.records);
+    }
+    finished(finish(p, spare, out))
+}
