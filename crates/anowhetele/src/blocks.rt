@@ -54,19 +54,34 @@ pub extern "C" fn anow_read(
     param1: &mut [u8],
     param2: &mut [u8],
 ) -> AnowBlock
-    ensures { λ r. ⌜ r ≡ handedBlock (mapAnswer shown (readOf (now (block .entry)) (length (now (param0 .entry))) (length (now (param1 .entry))) (length (now (param2 .entry))))) ⌝ }
-    ensures { λ _. ⌜ now (param0 .exit) ≡ lent (mapAnswer (λ (b : Block). b .nodes .param0) (readOf (now (block .entry)) (length (now (param0 .entry))) (length (now (param1 .entry))) (length (now (param2 .entry))))) (now (param0 .entry)) ⌝ }
-    ensures { λ _. ⌜ now (param1 .exit) ≡ lent (mapAnswer (λ (b : Block). b .nodes .param1) (readOf (now (block .entry)) (length (now (param0 .entry))) (length (now (param1 .entry))) (length (now (param2 .entry))))) (now (param1 .entry)) ⌝ }
-    ensures { λ _. ⌜ now (param2 .exit) ≡ lent (mapAnswer (λ (b : Block). b .nodes .param2) (readOf (now (block .entry)) (length (now (param0 .entry))) (length (now (param1 .entry))) (length (now (param2 .entry))))) (now (param2 .entry)) ⌝ }
+    ensures told { λ r. ⌜ r
+        ≡ handedBlock (mapAnswer shown
+        (readOf (now (block .entry)) (length (now (param0 .entry))) (length (now (param1 .entry)))
+        (length (now (param2 .entry))))) ⌝ }
+    ensures param0 { λ _. ⌜ now (param0 .exit)
+        ≡ lent (mapAnswer (λ (b : Block). b .nodes .param0)
+        (readOf (now (block .entry)) (length (now (param0 .entry))) (length (now (param1 .entry)))
+        (length (now (param2 .entry))))) (now (param0 .entry)) ⌝ }
+    ensures param1 { λ _. ⌜ now (param1 .exit)
+        ≡ lent (mapAnswer (λ (b : Block). b .nodes .param1)
+        (readOf (now (block .entry)) (length (now (param0 .entry))) (length (now (param1 .entry)))
+        (length (now (param2 .entry))))) (now (param1 .entry)) ⌝ }
+    ensures param2 { λ _. ⌜ now (param2 .exit)
+        ≡ lent (mapAnswer (λ (b : Block). b .nodes .param2)
+        (readOf (now (block .entry)) (length (now (param0 .entry))) (length (now (param1 .entry)))
+        (length (now (param2 .entry))))) (now (param2 .entry)) ⌝ }
 {
     match read(block, param0, param1, param2) {
-        ReadAnswer::Block(head, sections) => AnowBlock {
+        ReadAnswer::Block { head, sections } => AnowBlock {
             answer: done(0),
             head,
             sections,
         },
         ReadAnswer::Misfit => no_block(plain(PARTS_MISFIT)),
-        ReadAnswer::Refused(f, p) => no_block(refused(f, p)),
+        ReadAnswer::Refused {
+            fault: f,
+            offset: p,
+        } => no_block(refused(f, p)),
     }
 }
 
@@ -75,12 +90,15 @@ pub extern "C" fn anow_sections(block: &[u8]) -> AnowBlock
     ensures { λ r. ⌜ r ≡ handedBlock (sectionsOf (now (block .entry))) ⌝ }
 {
     match sections(block) {
-        SectionsAnswer::Block(head, sections) => AnowBlock {
+        SectionsAnswer::Block { head, sections } => AnowBlock {
             answer: done(0),
             head,
             sections,
         },
-        SectionsAnswer::Refused(f, p) => no_block(refused(f, p)),
+        SectionsAnswer::Refused {
+            fault: f,
+            offset: p,
+        } => no_block(refused(f, p)),
     }
 }
 
@@ -109,6 +127,9 @@ pub extern "C" fn anow_node_name(block: &[u8], index: u64) -> AnowNode
             name,
         },
         NodeNameAnswer::NoSuchNode => no_node(plain(NO_SUCH)),
-        NodeNameAnswer::Refused(f, p) => no_node(refused(f, p)),
+        NodeNameAnswer::Refused {
+            fault: f,
+            offset: p,
+        } => no_node(refused(f, p)),
     }
 }

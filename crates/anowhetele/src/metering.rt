@@ -21,14 +21,13 @@ use position::span::Span;
 use sheet::records::RecordFault;
 ghost use mathlib.Core.Path.{_≡_};
 ghost use lib.ListN.{length};
-ghost use Rattle.wire.specs.Answer.{lent, mapAnswer};
 ghost use Rattle.meter.specs.Counting.{byOne};
 ghost use Rattle.meter.specs.Tallying.{tallyBlockOf};
 ghost use Rattle.meter.specs.SheetTally.{tallySheetOf};
 ghost use Rattle.position.specs.Parts.{partAt};
 ghost use Rattle.sheet.specs.Records.{faultNumber, faultOffset};
 ghost use Rattle.meter.specs.SheetTold.{toldSheet};
-ghost use Rattle.anowhetele.specs.Answers.{handed, refusedWith};
+ghost use Rattle.anowhetele.specs.Answers.{Handed, handed, refusedWith};
 
 #[no_mangle]
 pub extern "C" fn anow_tally_block(
@@ -38,14 +37,17 @@ pub extern "C" fn anow_tally_block(
     span: Span,
     out: &mut [u8],
 ) -> AnowAnswer
-    ensures { λ r. ⌜ r ≡ handed (mapAnswer length (tallyBlockOf byOne key (now (block .entry)) (partAt lot span) (length (now (out .entry))))) ⌝ }
-    ensures { λ _. ⌜ now (out .exit) ≡ lent (tallyBlockOf byOne key (now (block .entry)) (partAt lot span) (length (now (out .entry)))) (now (out .entry)) ⌝ }
+    ensures { λ r. ⌜ Handed r (now (out .entry)) (now (out .exit))
+        (tallyBlockOf byOne key (now (block .entry)) (partAt lot span) (length (now (out .entry)))) ⌝ }
 {
     match tally_block(key, block, Part { lot, span }, out) {
         BlockAnswer::Tallied(n) => done(n),
         BlockAnswer::BadPart => plain(BAD_PART),
         BlockAnswer::OutOfRange => plain(OUT_OF_RANGE),
-        BlockAnswer::Refused(f, p) => refused(f, p),
+        BlockAnswer::Refused {
+            fault: f,
+            offset: p,
+        } => refused(f, p),
         BlockAnswer::NoRoom => plain(NO_ROOM),
     }
 }
@@ -57,7 +59,10 @@ fn record_refused(fault: RecordFault, index: u32) -> AnowAnswer
     match fault {
         RecordFault::OutOfRange => in_record(OUT_OF_RANGE, index, 0),
         RecordFault::NotRising => in_record(SHEET_MALFORMED, index, 0),
-        RecordFault::Block(f, p) => in_record(refusal_number(f), index, p),
+        RecordFault::Block {
+            fault: f,
+            offset: p,
+        } => in_record(refusal_number(f), index, p),
     }
 }
 
@@ -70,7 +75,7 @@ pub fn sheet_answer(answer: SheetAnswer) -> AnowAnswer
         SheetAnswer::BadPart => plain(BAD_PART),
         SheetAnswer::Misfit => plain(PARTS_MISFIT),
         SheetAnswer::Malformed(i) => in_record(SHEET_MALFORMED, i, 0),
-        SheetAnswer::Record(f, i) => record_refused(f, i),
+        SheetAnswer::Record { fault: f, index: i } => record_refused(f, i),
         SheetAnswer::NoRoom(i) => in_record(NO_ROOM, i, 0),
         SheetAnswer::TooMany(i) => in_record(TOO_MANY, i, 0),
     }
@@ -85,9 +90,10 @@ pub extern "C" fn anow_tally_sheet(
     out: &mut [u8],
     spare: &mut [u8],
 ) -> AnowAnswer
-    ensures { λ r. ⌜ r ≡ handed (mapAnswer length (tallySheetOf byOne (now (sheet .entry)) (partAt lot span) (length (now (out .entry))) (length (now (spare .entry))))) ⌝ }
-    ensures { λ _. ⌜ now (out .exit) ≡ lent (tallySheetOf byOne (now (sheet .entry)) (partAt lot span) (length (now (out .entry))) (length (now (spare .entry)))) (now (out .entry)) ⌝ }
-    ensures { λ _. ⌜ length (now (spare .exit)) ≡ length (now (spare .entry)) ⌝ }
+    ensures told { λ r. ⌜ Handed r (now (out .entry)) (now (out .exit))
+        (tallySheetOf byOne (now (sheet .entry)) (partAt lot span) (length (now (out .entry)))
+        (length (now (spare .entry)))) ⌝ }
+    ensures spare { λ _. ⌜ length (now (spare .exit)) ≡ length (now (spare .entry)) ⌝ }
 {
     sheet_answer(tally_sheet(sheet, Part { lot, span }, out, spare))
 }

@@ -41,7 +41,7 @@ pub extern "C" fn anow_row_name(part: &[u8]) -> AnowNameRow
     ensures { λ r. ⌜ r ≡ handedName (nameRowOf (now (part .entry))) ⌝ }
 {
     match name_row_of(part) {
-        NameRowAnswer::Row(row, n) => {
+        NameRowAnswer::Row { row, length: n } => {
             let name = row.name;
             AnowNameRow {
                 answer: done(n),
@@ -50,7 +50,10 @@ pub extern "C" fn anow_row_name(part: &[u8]) -> AnowNameRow
             }
         }
         NameRowAnswer::NoSuchRow => no_name(plain(NO_SUCH)),
-        NameRowAnswer::Refused(f, p) => no_name(refused(f, p)),
+        NameRowAnswer::Refused {
+            fault: f,
+            offset: p,
+        } => no_name(refused(f, p)),
     }
 }
 
@@ -85,7 +88,7 @@ pub extern "C" fn anow_row_metadata(version: u8, part: &[u8]) -> AnowMetadataRow
     ensures { λ r. ⌜ r ≡ handedMetadata (metadataRowOf version (now (part .entry))) ⌝ }
 {
     match metadata_row_of(version, part) {
-        MetadataRowAnswer::Row(row, n) => {
+        MetadataRowAnswer::Row { row, length: n } => {
             let content = row.content;
             let rows = row.rows;
             let inventory = row.inventory;
@@ -100,7 +103,10 @@ pub extern "C" fn anow_row_metadata(version: u8, part: &[u8]) -> AnowMetadataRow
             }
         }
         MetadataRowAnswer::NoSuchRow => no_metadata(plain(NO_SUCH)),
-        MetadataRowAnswer::Refused(f, p) => no_metadata(refused(f, p)),
+        MetadataRowAnswer::Refused {
+            fault: f,
+            offset: p,
+        } => no_metadata(refused(f, p)),
     }
 }
 
@@ -133,7 +139,7 @@ pub extern "C" fn anow_row_object(part: &[u8]) -> AnowObjectRow
     ensures { λ r. ⌜ r ≡ handedObject (objectRowOf (now (part .entry))) ⌝ }
 {
     match object_row_of(part) {
-        ObjectRowAnswer::Row(row, n) => {
+        ObjectRowAnswer::Row { row, length: n } => {
             let content = row.content;
             AnowObjectRow {
                 answer: done(n),
@@ -145,7 +151,10 @@ pub extern "C" fn anow_row_object(part: &[u8]) -> AnowObjectRow
             }
         }
         ObjectRowAnswer::NoSuchRow => no_object(plain(NO_SUCH)),
-        ObjectRowAnswer::Refused(f, p) => no_object(refused(f, p)),
+        ObjectRowAnswer::Refused {
+            fault: f,
+            offset: p,
+        } => no_object(refused(f, p)),
     }
 }
 
@@ -174,13 +183,16 @@ pub extern "C" fn anow_row_timer(part: &[u8]) -> AnowTimerRow
     ensures { λ r. ⌜ r ≡ handedTimer (timerRowOf (now (part .entry))) ⌝ }
 {
     match timer_row_of(part) {
-        TimerRowAnswer::Row(row, n) => AnowTimerRow {
+        TimerRowAnswer::Row { row, length: n } => AnowTimerRow {
             answer: done(n),
             position: row.position as u32,
             timeout: row.timeout,
             elapsed: row.elapsed,
         },
         TimerRowAnswer::NoSuchRow => no_timer(plain(NO_SUCH)),
-        TimerRowAnswer::Refused(f, p) => no_timer(refused(f, p)),
+        TimerRowAnswer::Refused {
+            fault: f,
+            offset: p,
+        } => no_timer(refused(f, p)),
     }
 }

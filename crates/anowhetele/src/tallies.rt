@@ -14,10 +14,9 @@ use tally::merge::MergeAnswer;
 use tally::merge::merge;
 ghost use mathlib.Core.Path.{_≡_};
 ghost use lib.ListN.{length};
-ghost use Rattle.wire.specs.Answer.{lent, mapAnswer};
 ghost use Rattle.tally.specs.Tally.{one};
 ghost use Rattle.tally.specs.Operations.{checkOf, addOf, mergeOf};
-ghost use Rattle.anowhetele.specs.Answers.{handed, nothingWritten};
+ghost use Rattle.anowhetele.specs.Answers.{Handed, handed, nothingWritten};
 
 #[no_mangle]
 pub extern "C" fn anow_tally_check(tally: &[u8]) -> AnowAnswer
@@ -36,8 +35,8 @@ pub extern "C" fn anow_tally_add(
     name: &[u8],
     count: u64,
 ) -> AnowAnswer
-    ensures { λ r. ⌜ r ≡ handed (mapAnswer length (addOf one (now (buffer .entry)) used (record { name = now (name .entry); count = count }))) ⌝ }
-    ensures { λ _. ⌜ now (buffer .exit) ≡ lent (addOf one (now (buffer .entry)) used (record { name = now (name .entry); count = count })) (now (buffer .entry)) ⌝ }
+    ensures { λ r. ⌜ Handed r (now (buffer .entry)) (now (buffer .exit))
+        (addOf one (now (buffer .entry)) used (record { name = now (name .entry); count = count })) ⌝ }
 {
     match add(buffer, used as usize, name, count) {
         AddAnswer::Added(n) => done(n),
@@ -50,8 +49,8 @@ pub extern "C" fn anow_tally_add(
 
 #[no_mangle]
 pub extern "C" fn anow_tally_merge(a: &[u8], b: &[u8], out: &mut [u8]) -> AnowAnswer
-    ensures { λ r. ⌜ r ≡ handed (mapAnswer length (mergeOf one (length (now (out .entry))) (now (a .entry)) (now (b .entry)))) ⌝ }
-    ensures { λ _. ⌜ now (out .exit) ≡ lent (mergeOf one (length (now (out .entry))) (now (a .entry)) (now (b .entry))) (now (out .entry)) ⌝ }
+    ensures { λ r. ⌜ Handed r (now (out .entry)) (now (out .exit))
+        (mergeOf one (length (now (out .entry))) (now (a .entry)) (now (b .entry))) ⌝ }
 {
     match merge(a, b, out) {
         MergeAnswer::Merged(n) => done(n),

@@ -8,12 +8,10 @@ use crate::numbers::PARTS_MISFIT;
 use block_writer::write::WriteAnswer;
 use block_writer::write::write;
 use mapblock::head::Head;
-ghost use mathlib.Core.Path.{_≡_};
 ghost use lib.ListN.{length};
-ghost use Rattle.wire.specs.Answer.{lent, mapAnswer};
 ghost use Rattle.block_writer.specs.BlockParts.{blockParts};
 ghost use Rattle.block_writer.specs.Write.{writeOf};
-ghost use Rattle.anowhetele.specs.Answers.{handed};
+ghost use Rattle.anowhetele.specs.Answers.{Handed};
 
 #[no_mangle]
 pub extern "C" fn anow_write(
@@ -27,8 +25,10 @@ pub extern "C" fn anow_write(
     timers: &[u8],
     out: &mut [u8],
 ) -> AnowAnswer
-    ensures { λ r. ⌜ r ≡ handed (mapAnswer length (writeOf (blockParts head (now (param0 .entry)) (now (param1 .entry)) (now (param2 .entry)) (now (names .entry)) (now (metadata .entry)) (now (objects .entry)) (now (timers .entry))) (length (now (out .entry))))) ⌝ }
-    ensures { λ _. ⌜ now (out .exit) ≡ lent (writeOf (blockParts head (now (param0 .entry)) (now (param1 .entry)) (now (param2 .entry)) (now (names .entry)) (now (metadata .entry)) (now (objects .entry)) (now (timers .entry))) (length (now (out .entry)))) (now (out .entry)) ⌝ }
+    ensures { λ r. ⌜ Handed r (now (out .entry)) (now (out .exit))
+        (writeOf (blockParts head (now (param0 .entry)) (now (param1 .entry)) (now (param2 .entry))
+        (now (names .entry)) (now (metadata .entry)) (now (objects .entry)) (now (timers .entry)))
+        (length (now (out .entry)))) ⌝ }
 {
     match write(
         head,
@@ -43,7 +43,10 @@ pub extern "C" fn anow_write(
     ) {
         WriteAnswer::Written(n) => done(n),
         WriteAnswer::Misfit => plain(PARTS_MISFIT),
-        WriteAnswer::Refused(f, p) => refused(f, p),
+        WriteAnswer::Refused {
+            fault: f,
+            offset: p,
+        } => refused(f, p),
         WriteAnswer::NoRoom => plain(NO_ROOM),
     }
 }

@@ -25,7 +25,9 @@ pub(crate) fn count_all(
     objects: &[u8],
     timers: &[u8],
 ) -> RowCountsRead
-    ensures { λ r. ⌜ toldCounts r ≡ countsIn version (now (names .entry)) (now (metadata .entry)) (now (objects .entry)) (now (timers .entry)) ⌝ }
+    ensures { λ r. ⌜ toldCounts r
+        ≡ countsIn version (now (names .entry)) (now (metadata .entry)) (now (objects .entry))
+        (now (timers .entry)) ⌝ }
 {
     let RowCount::Rows(a) = row_count(SectionKind::Names, version, names) else {
         return RowCountsRead::NotWhole;

@@ -37,7 +37,10 @@ fn variable_frame(version: u8, s: &[u8]) -> Frame
     ensures { λ r. ⌜ toldFrame r ≡ lengthRead (variableFrame version .read (now (s .entry))) ⌝ }
 {
     match key_and_value(s) {
-        Reach::Refused(_, _) => Frame::NotWhole,
+        Reach::Refused {
+            fault: _,
+            offset: _,
+        } => Frame::NotWhole,
         Reach::End(n) => {
             if version < 28 {
                 return Frame::Row(n);
@@ -94,7 +97,10 @@ fn new_frame(version: u8, s: &[u8]) -> Frame
     match variable_frames(version, &s[6..], count) {
         Frame::NotWhole => Frame::NotWhole,
         Frame::Row(n) => match inventory(&s[6 + n..]) {
-            Reach::Refused(_, _) => Frame::NotWhole,
+            Reach::Refused {
+                fault: _,
+                offset: _,
+            } => Frame::NotWhole,
             Reach::End(m) => Frame::Row(6 + n + m),
         },
     }
@@ -127,13 +133,19 @@ fn front_row(section: SectionKind, version: u8, s: &[u8]) -> Frame
 {
     match section {
         SectionKind::Names => match name_row(s) {
-            NameRead::Row(_, n) => Frame::Row(n),
-            NameRead::Refused(_, _) => Frame::NotWhole,
+            NameRead::Row { row: _, length: n } => Frame::Row(n),
+            NameRead::Refused {
+                fault: _,
+                offset: _,
+            } => Frame::NotWhole,
         },
         SectionKind::Metadata => metadata_frame(version, s),
         SectionKind::Objects => match object_row(s) {
-            ObjectRead::Row(_, n) => Frame::Row(n),
-            ObjectRead::Refused(_, _) => Frame::NotWhole,
+            ObjectRead::Row { row: _, length: n } => Frame::Row(n),
+            ObjectRead::Refused {
+                fault: _,
+                offset: _,
+            } => Frame::NotWhole,
         },
         SectionKind::Timers => timer_frame(s),
     }

@@ -43,22 +43,32 @@ fn shift(at: usize, r: Reach) -> Reach
 {
     match r {
         Reach::End(n) => Reach::End(at + n),
-        Reach::Refused(f, p) => Reach::Refused(f, at + p),
+        Reach::Refused {
+            fault: f,
+            offset: p,
+        } => Reach::Refused {
+            fault: f,
+            offset: at + p,
+        },
     }
 }
 
 // Timestamp and names; the ids are marked.
 fn judge_name_mapping(names: &[u8], count: u16, ids: &mut [u8; IDS]) -> Reach
-    ensures { λ r. ⌜ ((x : NameMapping) → x .timestamp < 4294967296 → Rows nameFrame (now (names .entry)) count (x .names) → MappingJudged (now (ids .entry)) (now (ids .exit)) x (toldReach r)) ⌝ }
-    ensures { λ r. ⌜ reach (toldReach r) ≤ 7 + length (now (names .entry)) ⌝ }
+    ensures told { λ r. ⌜
+        ((x : NameMapping) → x .timestamp < 4294967296 → Rows nameFrame (now (names .entry)) count (x .names)
+        → MappingJudged (now (ids .entry)) (now (ids .exit)) x (toldReach r)) ⌝ }
+    ensures bounded { λ r. ⌜ reach (toldReach r) ≤ 7 + length (now (names .entry)) ⌝ }
 {
     shift(NAMES_HEAD_LENGTH, name_rows(names, count, ids))
 }
 
 // The metadata list.
 fn judge_metadata(version: u8, list: &[u8], count: u16) -> Reach
-    ensures { λ r. ⌜ ((l : List MetadataRow) → Rows (metadataFrame version) (now (list .entry)) count l → toldReach r ≡ verdictOn (metadata version) l) ⌝ }
-    ensures { λ r. ⌜ reach (toldReach r) ≤ 4 + length (now (list .entry)) ⌝ }
+    ensures told { λ r. ⌜
+        ((l : List MetadataRow) → Rows (metadataFrame version) (now (list .entry)) count l → toldReach r
+        ≡ verdictOn (metadata version) l) ⌝ }
+    ensures bounded { λ r. ⌜ reach (toldReach r) ≤ 4 + length (now (list .entry)) ⌝ }
 {
     shift(
         metadata_head(version),
@@ -68,19 +78,26 @@ fn judge_metadata(version: u8, list: &[u8], count: u16) -> Reach
 
 // A count of timers and their rows.
 fn judge_timers(version: u8, timers: &[u8], count: u16) -> Reach
-    ensures { λ r. ⌜ ((l : List TimerRow) → Rows timerFrame (now (timers .entry)) count l → toldReach r ≡ verdictOn (listed 2 timerRow) l) ⌝ }
-    ensures { λ r. ⌜ reach (toldReach r) ≤ 2 + length (now (timers .entry)) ⌝ }
+    ensures told { λ r. ⌜
+        ((l : List TimerRow) → Rows timerFrame (now (timers .entry)) count l → toldReach r
+        ≡ verdictOn (listed 2 timerRow) l) ⌝ }
+    ensures bounded { λ r. ⌜ reach (toldReach r) ≤ 2 + length (now (timers .entry)) ⌝ }
 {
     shift(2, rows(ListKind::Timers, version, timers, count))
 }
 
 // Version 24's timer byte, and its timers where that is 1.
 fn judge_timers_24(head: Head, timers: &[u8], count: u16) -> Reach
-    ensures { λ r. ⌜ ((l : List TimerRow) → Rows timerFrame (now (timers .entry)) count l → toldReach r ≡ verdictOn (earlyTimers 24) (timersOn head l)) ⌝ }
-    ensures { λ r. ⌜ reach (toldReach r) ≤ 3 + length (now (timers .entry)) ⌝ }
+    ensures told { λ r. ⌜
+        ((l : List TimerRow) → Rows timerFrame (now (timers .entry)) count l → toldReach r
+        ≡ verdictOn (earlyTimers 24) (timersOn head l)) ⌝ }
+    ensures bounded { λ r. ⌜ reach (toldReach r) ≤ 3 + length (now (timers .entry)) ⌝ }
 {
     if 1 < head.timer {
-        return Reach::Refused(Fault::TimerByte, 0);
+        return Reach::Refused {
+            fault: Fault::TimerByte,
+            offset: 0,
+        };
     }
     if head.timer == 0 {
         return Reach::End(1);
@@ -90,8 +107,11 @@ fn judge_timers_24(head: Head, timers: &[u8], count: u16) -> Reach
 
 // What follows the metadata.
 fn judge_early_timers(head: Head, timers: &[u8], count: u16) -> Reach
-    ensures { λ r. ⌜ ((l : List TimerRow) → Rows timerFrame (now (timers .entry)) count l → headFits head ≡ true → timersFit head (now (timers .entry)) ≡ true → toldReach r ≡ verdictOn (earlyTimers (head .version)) (timersEarly head l)) ⌝ }
-    ensures { λ r. ⌜ reach (toldReach r) ≤ 3 + length (now (timers .entry)) ⌝ }
+    ensures told { λ r. ⌜
+        ((l : List TimerRow) → Rows timerFrame (now (timers .entry)) count l → headFits head ≡ true
+        → timersFit head (now (timers .entry)) ≡ true → toldReach r
+        ≡ verdictOn (earlyTimers (head .version)) (timersEarly head l)) ⌝ }
+    ensures bounded { λ r. ⌜ reach (toldReach r) ≤ 3 + length (now (timers .entry)) ⌝ }
 {
     if head.version == 24 {
         return judge_timers_24(head, timers, count);
@@ -104,8 +124,10 @@ fn judge_early_timers(head: Head, timers: &[u8], count: u16) -> Reach
 
 // The timers at the end, from version 25.
 fn judge_late_timers(head: Head, timers: &[u8], count: u16) -> Reach
-    ensures { λ r. ⌜ ((l : List TimerRow) → Rows timerFrame (now (timers .entry)) count l → headFits head ≡ true → toldReach r ≡ verdictOn (lateTimers (head .version)) (timersLate head l)) ⌝ }
-    ensures { λ r. ⌜ reach (toldReach r) ≤ 3 + length (now (timers .entry)) ⌝ }
+    ensures told { λ r. ⌜
+        ((l : List TimerRow) → Rows timerFrame (now (timers .entry)) count l → headFits head ≡ true → toldReach r
+        ≡ verdictOn (lateTimers (head .version)) (timersLate head l)) ⌝ }
+    ensures bounded { λ r. ⌜ reach (toldReach r) ≤ 3 + length (now (timers .entry)) ⌝ }
 {
     if head.version < 25 {
         return Reach::End(0);
@@ -116,8 +138,11 @@ fn judge_late_timers(head: Head, timers: &[u8], count: u16) -> Reach
 // Behind the static objects: names before version 29, and the timers at the end.
 fn judge_ending(head: Head, c: RowCounts, names: &[u8], timers: &[u8], ids: &mut [u8; IDS]) -> Reach
     requires { ⌜ Small (now names) × Small (now timers) ⌝ }
-    ensures { λ r. ⌜ ((l : List NameRow) (k : List TimerRow) → Rows nameFrame (now (names .entry)) (c .names) l → Rows timerFrame (now (timers .entry)) (c .timers) k → headFits head ≡ true → EndingJudged (now (ids .entry)) (now (ids .exit)) head l k (toldReach r)) ⌝ }
-    ensures { λ r. ⌜ reach (toldReach r) ≤ 10 + length (now (names .entry)) + length (now (timers .entry)) ⌝ }
+    ensures told { λ r. ⌜
+        ((l : List NameRow) (k : List TimerRow) → Rows nameFrame (now (names .entry)) (c .names) l
+        → Rows timerFrame (now (timers .entry)) (c .timers) k → headFits head ≡ true
+        → EndingJudged (now (ids .entry)) (now (ids .exit)) head l k (toldReach r)) ⌝ }
+    ensures bounded { λ r. ⌜ reach (toldReach r) ≤ 10 + length (now (names .entry)) + length (now (timers .entry)) ⌝ }
 {
     if 29 <= head.version {
         return judge_late_timers(head, timers, c.timers);
@@ -140,8 +165,16 @@ fn judge_rest(
     ids: &mut [u8; IDS],
 ) -> Reach
     requires { ⌜ Small (now names) × (Small (now objects) × Small (now timers)) ⌝ }
-    ensures { λ r. ⌜ ((l : List NameRow) (m : List MetadataRow) (o : List ObjectRow) (k : List TimerRow) → Rows nameFrame (now (names .entry)) (c .names) l → Rows (metadataFrame (head .version)) (now (metadata .entry)) (c .metadata) m → Rows objectRow (now (objects .entry)) (c .objects) o → Rows timerFrame (now (timers .entry)) (c .timers) k → headFits head ≡ true → timersFit head (now (timers .entry)) ≡ true → RestJudged (now (ids .entry)) (now (ids .exit)) head l m o k (toldReach r)) ⌝ }
-    ensures { λ r. ⌜ reach (toldReach r) ≤ 20 + length (now (metadata .entry)) + length (now (names .entry)) + length (now (objects .entry)) + length (now (timers .entry)) + length (now (timers .entry)) ⌝ }
+    ensures told { λ r. ⌜
+        ((l : List NameRow) (m : List MetadataRow) (o : List ObjectRow) (k : List TimerRow)
+        → Rows nameFrame (now (names .entry)) (c .names) l
+        → Rows (metadataFrame (head .version)) (now (metadata .entry)) (c .metadata) m
+        → Rows objectRow (now (objects .entry)) (c .objects) o → Rows timerFrame (now (timers .entry)) (c .timers) k
+        → headFits head ≡ true → timersFit head (now (timers .entry)) ≡ true
+        → RestJudged (now (ids .entry)) (now (ids .exit)) head l m o k (toldReach r)) ⌝ }
+    ensures bounded { λ r. ⌜ reach (toldReach r) ≤ 20 + length (now (metadata .entry)) + length
+        (now (names .entry)) + length (now (objects .entry)) + length (now (timers .entry)) + length
+        (now (timers .entry)) ⌝ }
 {
     let first = judge_metadata(head.version, metadata, c.metadata);
     let Reach::End(a) = first else {
@@ -172,8 +205,11 @@ fn lists_length(version: u8) -> usize
 // Up to the end of the node data. In version 29 the ids of the names are marked.
 fn judge_front(head: Head, names: &[u8], count: u16, ids: &mut [u8; IDS]) -> Reach
     requires { ⌜ Small (now names) ⌝ }
-    ensures { λ r. ⌜ ((l : List NameRow) (n : Nodes) → Rows nameFrame (now (names .entry)) count l → isVersion (head .version) ≡ true → headFits head ≡ true → nodes (head .version) .Ok n → FrontJudged (now (ids .entry)) (now (ids .exit)) head l n (toldReach r)) ⌝ }
-    ensures { λ r. ⌜ reach (toldReach r) ≤ 16397 + length (now (names .entry)) ⌝ }
+    ensures told { λ r. ⌜
+        ((l : List NameRow) (n : Nodes) → Rows nameFrame (now (names .entry)) count l → isVersion (head .version)
+        ≡ true → headFits head ≡ true → nodes (head .version) .Ok n
+        → FrontJudged (now (ids .entry)) (now (ids .exit)) head l n (toldReach r)) ⌝ }
+    ensures bounded { λ r. ⌜ reach (toldReach r) ≤ 16397 + length (now (names .entry)) ⌝ }
     ensures { λ r. ⌜ ((n : ℕ) → toldReach r ≡ done tt n → listsLength (head .version) ≤ n) ⌝ }
 {
     let opening = opening_length(head.version);
@@ -190,8 +226,10 @@ fn judge_front(head: Head, names: &[u8], count: u16, ids: &mut [u8; IDS]) -> Rea
 
 // The first node whose content id is not marked as mapped.
 fn first_unmapped(version: u8, param0: &[u16], param2: &[u8], ids: &[u8; IDS]) -> FirstUnmapped
-    requires { ⌜ (length (now param0) ≡ 4096) × (length (now param2) ≡ 4096) × (param0Fits version (now param0) ≡ true) ⌝ }
-    ensures { λ r. ⌜ toldUnmapped r ≡ firstUnmappedAmong version (now (param0 .entry)) (now (param2 .entry)) (now (ids .entry)) ⌝ }
+    requires { ⌜ (length (now param0) ≡ 4096) × (length (now param2) ≡ 4096)
+        × (param0Fits version (now param0) ≡ true) ⌝ }
+    ensures { λ r. ⌜ toldUnmapped r
+        ≡ firstUnmappedAmong version (now (param0 .entry)) (now (param2 .entry)) (now (ids .entry)) ⌝ }
 {
     let mut i: usize = 0;
     while i < NODES {
@@ -215,10 +253,21 @@ fn judge(
     objects: &[u8],
     timers: &[u8],
 ) -> Reach
-    requires { ⌜ (isVersion (head .version) ≡ true) × (fits (blockParts head (now param0) (now param1) (now param2) (now names) (now metadata) (now objects) (now timers)) ≡ true) ⌝ }
-    requires { ⌜ WellTyped (blockParts head (now param0) (now param1) (now param2) (now names) (now metadata) (now objects) (now timers)) ⌝ }
+    requires { ⌜ (isVersion (head .version) ≡ true)
+        × (fits (blockParts head (now param0) (now param1) (now param2) (now names) (now metadata) (now objects)
+        (now timers)) ≡ true) ⌝ }
+    requires { ⌜ WellTyped
+        (blockParts head (now param0) (now param1) (now param2) (now names) (now metadata) (now objects)
+        (now timers)) ⌝ }
     requires { ⌜ Small (now names) × (Small (now objects) × Small (now timers)) ⌝ }
-    ensures { λ r. ⌜ ((l : List NameRow) (m : List MetadataRow) (o : List ObjectRow) (k : List TimerRow) → Rows nameFrame (now (names .entry)) (c .names) l → Rows (metadataFrame (head .version)) (now (metadata .entry)) (c .metadata) m → Rows objectRow (now (objects .entry)) (c .objects) o → Rows timerFrame (now (timers .entry)) (c .timers) k → toldReach r ≡ ended (verdict all (block all .encode (made (blockParts head (now (param0 .entry)) (now (param1 .entry)) (now (param2 .entry)) (now (names .entry)) (now (metadata .entry)) (now (objects .entry)) (now (timers .entry))) l m o k)))) ⌝ }
+    ensures { λ r. ⌜ ((l : List NameRow) (m : List MetadataRow) (o : List ObjectRow) (k : List TimerRow)
+        → Rows nameFrame (now (names .entry)) (c .names) l
+        → Rows (metadataFrame (head .version)) (now (metadata .entry)) (c .metadata) m
+        → Rows objectRow (now (objects .entry)) (c .objects) o → Rows timerFrame (now (timers .entry)) (c .timers) k
+        → toldReach r ≡ ended
+        (verdict all (block all .encode
+        (made (blockParts head (now (param0 .entry)) (now (param1 .entry)) (now (param2 .entry)) (now (names .entry))
+        (now (metadata .entry)) (now (objects .entry)) (now (timers .entry))) l m o k)))) ⌝ }
 {
     let mut ids = [0u8; IDS];
     let version = head.version;
@@ -232,20 +281,20 @@ fn judge(
     };
     match first_unmapped(version, param0, param2, &ids) {
         FirstUnmapped::None => Reach::End(a + b),
-        FirstUnmapped::At(i) => Reach::Refused(
-            Fault::IdUnmapped,
-            a - lists_length(version) + width(version) * i,
-        ),
+        FirstUnmapped::At(i) => Reach::Refused {
+            fault: Fault::IdUnmapped,
+            offset: a - lists_length(version) + width(version) * i,
+        },
     }
 }
 
 // How many rows the sections have and how long the block is, or why it is not written whatever the room.
 pub enum Measured {
-    Fits(RowCounts, usize),
+    Fits { counts: RowCounts, length: usize },
     // The parts do not fit.
     Misfit,
     // The version is outside 22..29, or what the reader would say of the bytes.
-    Refused(Fault, usize),
+    Refused { fault: Fault, offset: usize },
 }
 
 // Measures the block that head, lists and sections make.
@@ -259,10 +308,15 @@ pub(crate) fn measure(
     objects: &[u8],
     timers: &[u8],
 ) -> Measured
-    ensures { λ r. ⌜ MeasuredAs (blockParts head (now (param0 .entry)) (now (param1 .entry)) (now (param2 .entry)) (now (names .entry)) (now (metadata .entry)) (now (objects .entry)) (now (timers .entry))) r ⌝ }
+    ensures { λ r. ⌜ MeasuredAs
+        (blockParts head (now (param0 .entry)) (now (param1 .entry)) (now (param2 .entry)) (now (names .entry))
+        (now (metadata .entry)) (now (objects .entry)) (now (timers .entry))) r ⌝ }
 {
     if !is_version(head.version) {
-        return Measured::Refused(Fault::Version, 0);
+        return Measured::Refused {
+            fault: Fault::Version,
+            offset: 0,
+        };
     }
     if !fit(head, param0, param1, param2, timers) {
         return Measured::Misfit;
@@ -280,8 +334,17 @@ pub(crate) fn measure(
             objects,
             timers,
         ) {
-            Reach::Refused(f, p) => Measured::Refused(f, p),
-            Reach::End(n) => Measured::Fits(c, n),
+            Reach::Refused {
+                fault: f,
+                offset: p,
+            } => Measured::Refused {
+                fault: f,
+                offset: p,
+            },
+            Reach::End(n) => Measured::Fits {
+                counts: c,
+                length: n,
+            },
         },
     }
 }

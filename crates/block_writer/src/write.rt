@@ -15,7 +15,7 @@ ghost use mathlib.Core.Bool.{cond};
 ghost use mathlib.Core.List.{[], _++_};
 ghost use Prim.Native.Nat.{_+_, _≤_};
 ghost use lib.ListN.{length};
-ghost use Rattle.wire.specs.Answer.{lent, mapAnswer};
+ghost use Rattle.wire.specs.Answer.{Answered};
 ghost use Rattle.wire.specs.Bytes.{toBE};
 ghost use Rattle.wire.specs.Store.{overwrite, PutAt};
 ghost use Rattle.mapblock.specs.Layout.{width};
@@ -50,7 +50,8 @@ fn put_list(out: &mut [u8], at: usize, count: u16, rows: &[u8]) -> usize
 // The same behind a byte.
 fn put_byte_and_list(out: &mut [u8], at: usize, byte: u8, count: u16, rows: &[u8]) -> usize
     requires { ⌜ at + length (toBE 1 byte ++ listBytes count (now rows)) ≤ length (now out) ⌝ }
-    ensures { λ r. ⌜ PutAt at (toBE 1 byte ++ listBytes count (now (rows .entry))) (now (out .entry)) (now (out .exit)) r ⌝ }
+    ensures { λ r. ⌜ PutAt at (toBE 1 byte ++ listBytes count (now (rows .entry))) (now (out .entry))
+        (now (out .exit)) r ⌝ }
 {
     put_u8(out, at, byte);
     put_list(out, at + 1, count, rows)
@@ -59,7 +60,8 @@ fn put_byte_and_list(out: &mut [u8], at: usize, byte: u8, count: u16, rows: &[u8
 // Timestamp and names.
 fn put_name_mapping(out: &mut [u8], at: usize, timestamp: u32, count: u16, rows: &[u8]) -> usize
     requires { ⌜ at + length (mappingBytes timestamp count (now rows)) ≤ length (now out) ⌝ }
-    ensures { λ r. ⌜ PutAt at (mappingBytes timestamp count (now (rows .entry))) (now (out .entry)) (now (out .exit)) r ⌝ }
+    ensures { λ r. ⌜ PutAt at (mappingBytes timestamp count (now (rows .entry))) (now (out .entry))
+        (now (out .exit)) r ⌝ }
 {
     put_u32(out, at, timestamp);
     put_byte_and_list(out, at + 4, 0, count, rows)
@@ -93,7 +95,8 @@ fn put_narrow(out: &mut [u8], at: usize, param0: &[u16])
 // The version's width of each.
 fn put_param0(out: &mut [u8], at: usize, version: u8, param0: &[u16]) -> usize
     requires { ⌜ at + length (entryBytes (width version) (now param0)) ≤ length (now out) ⌝ }
-    ensures { λ r. ⌜ PutAt at (entryBytes (width version) (now (param0 .entry))) (now (out .entry)) (now (out .exit)) r ⌝ }
+    ensures { λ r. ⌜ PutAt at (entryBytes (width version) (now (param0 .entry))) (now (out .entry))
+        (now (out .exit)) r ⌝ }
 {
     if version < 24 {
         put_narrow(out, at, param0);
@@ -122,7 +125,8 @@ fn put_nodes(
     param2: &[u8],
 ) -> usize
     requires { ⌜ at + length (nodesBytes version (now param0) (now param1) (now param2)) ≤ length (now out) ⌝ }
-    ensures { λ r. ⌜ PutAt at (nodesBytes version (now (param0 .entry)) (now (param1 .entry)) (now (param2 .entry))) (now (out .entry)) (now (out .exit)) r ⌝ }
+    ensures { λ r. ⌜ PutAt at (nodesBytes version (now (param0 .entry)) (now (param1 .entry)) (now (param2 .entry)))
+        (now (out .entry)) (now (out .exit)) r ⌝ }
 {
     put_u8(out, at, width(version) as u8);
     put_u8(out, at + 1, 2);
@@ -134,7 +138,8 @@ fn put_nodes(
 // The metadata list. Version 22's list version is a u16.
 fn put_metadata(out: &mut [u8], at: usize, version: u8, count: u16, rows: &[u8]) -> usize
     requires { ⌜ at + length (metadataBytes version count (now rows)) ≤ length (now out) ⌝ }
-    ensures { λ r. ⌜ PutAt at (metadataBytes version count (now (rows .entry))) (now (out .entry)) (now (out .exit)) r ⌝ }
+    ensures { λ r. ⌜ PutAt at (metadataBytes version count (now (rows .entry))) (now (out .entry))
+        (now (out .exit)) r ⌝ }
 {
     if version < 23 {
         put_u16(out, at, 1);
@@ -147,7 +152,8 @@ fn put_metadata(out: &mut [u8], at: usize, version: u8, count: u16, rows: &[u8])
 // What follows the metadata: version 24's timer byte and timers, version 23's 0.
 fn put_early(out: &mut [u8], at: usize, head: Head, count: u16, rows: &[u8]) -> usize
     requires { ⌜ at + length (earlyBytes (head .version) (head .timer) count (now rows)) ≤ length (now out) ⌝ }
-    ensures { λ r. ⌜ PutAt at (earlyBytes (head .version) (head .timer) count (now (rows .entry))) (now (out .entry)) (now (out .exit)) r ⌝ }
+    ensures { λ r. ⌜ PutAt at (earlyBytes (head .version) (head .timer) count (now (rows .entry))) (now (out .entry))
+        (now (out .exit)) r ⌝ }
 {
     if head.version == 24 {
         if head.timer == 1 {
@@ -184,7 +190,8 @@ fn put_name_mapping_if(
     rows: &[u8],
 ) -> usize
     requires { ⌜ at + length (cond here (mappingBytes timestamp count (now rows)) []) ≤ length (now out) ⌝ }
-    ensures { λ r. ⌜ PutAt at (cond here (mappingBytes timestamp count (now (rows .entry))) []) (now (out .entry)) (now (out .exit)) r ⌝ }
+    ensures { λ r. ⌜ PutAt at (cond here (mappingBytes timestamp count (now (rows .entry))) []) (now (out .entry))
+        (now (out .exit)) r ⌝ }
 {
     if here {
         return put_name_mapping(out, at, timestamp, count, rows);
@@ -202,8 +209,11 @@ fn put_front(
     param1: &[u8],
     param2: &[u8],
 ) -> usize
-    requires { ⌜ length (frontBytes head count (now names) (now param0) (now param1) (now param2)) ≤ length (now out) ⌝ }
-    ensures { λ r. ⌜ PutAt 0 (frontBytes head count (now (names .entry)) (now (param0 .entry)) (now (param1 .entry)) (now (param2 .entry))) (now (out .entry)) (now (out .exit)) r ⌝ }
+    requires { ⌜ length (frontBytes head count (now names) (now param0) (now param1) (now param2)) ≤ length
+        (now out) ⌝ }
+    ensures { λ r. ⌜ PutAt 0
+        (frontBytes head count (now (names .entry)) (now (param0 .entry)) (now (param1 .entry)) (now (param2 .entry)))
+        (now (out .entry)) (now (out .exit)) r ⌝ }
 {
     let opened = put_opening(out, head);
     let named = put_name_mapping_if(
@@ -228,8 +238,11 @@ fn put_rest(
     objects: &[u8],
     timers: &[u8],
 ) -> usize
-    requires { ⌜ at + length (restBytes head c (now names) (now metadata) (now objects) (now timers)) ≤ length (now out) ⌝ }
-    ensures { λ r. ⌜ PutAt at (restBytes head c (now (names .entry)) (now (metadata .entry)) (now (objects .entry)) (now (timers .entry))) (now (out .entry)) (now (out .exit)) r ⌝ }
+    requires { ⌜ at + length (restBytes head c (now names) (now metadata) (now objects) (now timers)) ≤ length
+        (now out) ⌝ }
+    ensures { λ r. ⌜ PutAt at
+        (restBytes head c (now (names .entry)) (now (metadata .entry)) (now (objects .entry)) (now (timers .entry)))
+        (now (out .entry)) (now (out .exit)) r ⌝ }
 {
     let first = put_metadata(out, at, head.version, c.metadata, metadata);
     let second = put_early(out, first, head, c.timers, timers);
@@ -258,8 +271,12 @@ fn put_block(
     objects: &[u8],
     timers: &[u8],
 )
-    requires { ⌜ length (blockBytes head c (now param0) (now param1) (now param2) (now names) (now metadata) (now objects) (now timers)) ≤ length (now out) ⌝ }
-    ensures { λ _. ⌜ now (out .exit) ≡ overwrite 0 (blockBytes head c (now (param0 .entry)) (now (param1 .entry)) (now (param2 .entry)) (now (names .entry)) (now (metadata .entry)) (now (objects .entry)) (now (timers .entry))) (now (out .entry)) ⌝ }
+    requires { ⌜ length (blockBytes head c (now param0) (now param1) (now param2) (now names) (now metadata)
+        (now objects) (now timers)) ≤ length (now out) ⌝ }
+    ensures { λ _. ⌜ now (out .exit)
+        ≡ overwrite 0 (blockBytes head c (now (param0 .entry)) (now (param1 .entry)) (now (param2 .entry))
+        (now (names .entry)) (now (metadata .entry)) (now (objects .entry)) (now (timers .entry)))
+        (now (out .entry)) ⌝ }
 {
     let at = put_front(out, head, c.names, names, param0, param1, param2);
     put_rest(out, at, head, c, names, metadata, objects, timers);
@@ -271,7 +288,7 @@ pub enum WriteAnswer {
     // The parts do not fit.
     Misfit,
     // The version is outside 22..29, or what the reader would say of the bytes.
-    Refused(Fault, usize),
+    Refused { fault: Fault, offset: usize },
     NoRoom,
 }
 
@@ -287,8 +304,10 @@ pub fn write(
     timers: &[u8],
     out: &mut [u8],
 ) -> WriteAnswer
-    ensures { λ r. ⌜ toldWrite r ≡ mapAnswer length (writeOf (blockParts head (now (param0 .entry)) (now (param1 .entry)) (now (param2 .entry)) (now (names .entry)) (now (metadata .entry)) (now (objects .entry)) (now (timers .entry))) (length (now (out .entry)))) ⌝ }
-    ensures { λ _. ⌜ now (out .exit) ≡ lent (writeOf (blockParts head (now (param0 .entry)) (now (param1 .entry)) (now (param2 .entry)) (now (names .entry)) (now (metadata .entry)) (now (objects .entry)) (now (timers .entry))) (length (now (out .entry)))) (now (out .entry)) ⌝ }
+    ensures { λ r. ⌜ Answered (toldWrite r) (now (out .entry)) (now (out .exit))
+        (writeOf (blockParts head (now (param0 .entry)) (now (param1 .entry)) (now (param2 .entry))
+        (now (names .entry)) (now (metadata .entry)) (now (objects .entry)) (now (timers .entry)))
+        (length (now (out .entry)))) ⌝ }
 {
     match measure(
         head,
@@ -301,8 +320,17 @@ pub fn write(
         timers,
     ) {
         Measured::Misfit => WriteAnswer::Misfit,
-        Measured::Refused(f, p) => WriteAnswer::Refused(f, p),
-        Measured::Fits(c, n) => {
+        Measured::Refused {
+            fault: f,
+            offset: p,
+        } => WriteAnswer::Refused {
+            fault: f,
+            offset: p,
+        },
+        Measured::Fits {
+            counts: c,
+            length: n,
+        } => {
             if out.len() < n {
                 return WriteAnswer::NoRoom;
             }

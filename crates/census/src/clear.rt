@@ -12,10 +12,13 @@ pub fn clear(names: &[u8], counts: &mut [u16; IDS])
     let mut rest = names;
     while 0 < rest.len() {
         match name_row(rest) {
-            NameRead::Refused(_, _) => {
+            NameRead::Refused {
+                fault: _,
+                offset: _,
+            } => {
                 return;
             }
-            NameRead::Row(row, n) => {
+            NameRead::Row { row, length: n } => {
                 counts[row.id as usize] = 0;
                 rest = &rest[n..];
             }

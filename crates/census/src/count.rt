@@ -22,8 +22,8 @@ ghost use Rattle.census.specs.Clips.{clipWith, Sides};
 // The content id of the node at an index, where it has two bytes.
 fn wide_id(lists: &[u8], i: usize) -> usize
     requires { ⌜ 2 * i + 1 < length (now lists) ⌝ }
-    ensures { λ r. ⌜ r ≡ wideId (now (lists .entry)) i ⌝ }
-    ensures { λ r. ⌜ r < 65536 ⌝ }
+    ensures told { λ r. ⌜ r ≡ wideId (now (lists .entry)) i ⌝ }
+    ensures bounded { λ r. ⌜ r < 65536 ⌝ }
 {
     lists[2 * i] as usize * 256 + lists[2 * i + 1] as usize
 }
@@ -31,7 +31,8 @@ fn wide_id(lists: &[u8], i: usize) -> usize
 // The nodes at from..until, one by one.
 fn count_each(lists: &[u8], from: usize, until: usize, counts: &mut [u16; IDS])
     requires { ⌜ (2 * until ≤ length (now lists)) × Table (now counts) ⌝ }
-    ensures { λ _. ⌜ Raised (isAt (wideId (now (lists .entry)))) from (until - from) (now (counts .entry)) (now (counts .exit)) ⌝ }
+    ensures { λ _. ⌜ Raised (isAt (wideId (now (lists .entry)))) from (until - from) (now (counts .entry))
+        (now (counts .exit)) ⌝ }
 {
     let mut i = from;
     while i < until {
@@ -60,7 +61,8 @@ fn count_four(lists: &[u8], i: usize, counts: &mut [u16; IDS])
 // The row of nodes at from..until, with content ids of two bytes.
 fn count_wide(lists: &[u8], from: usize, until: usize, counts: &mut [u16; IDS])
     requires { ⌜ (2 * until ≤ length (now lists)) × Table (now counts) ⌝ }
-    ensures { λ _. ⌜ Raised (isAt (wideId (now (lists .entry)))) from (until - from) (now (counts .entry)) (now (counts .exit)) ⌝ }
+    ensures { λ _. ⌜ Raised (isAt (wideId (now (lists .entry)))) from (until - from) (now (counts .entry))
+        (now (counts .exit)) ⌝ }
 {
     let mut i = from;
     while i < until {
@@ -76,7 +78,8 @@ fn count_wide(lists: &[u8], from: usize, until: usize, counts: &mut [u16; IDS])
 // The same with param0 of one byte.
 fn count_narrow(version: u8, lists: &[u8], from: usize, until: usize, counts: &mut [u16; IDS])
     requires { ⌜ (8192 + until ≤ length (now lists)) × Table (now counts) ⌝ }
-    ensures { λ _. ⌜ Raised (isAt (narrowId version (now (lists .entry)))) from (until - from) (now (counts .entry)) (now (counts .exit)) ⌝ }
+    ensures { λ _. ⌜ Raised (isAt (narrowId version (now (lists .entry)))) from (until - from) (now (counts .entry))
+        (now (counts .exit)) ⌝ }
 {
     let mut i = from;
     while i < until {
@@ -89,7 +92,8 @@ fn count_narrow(version: u8, lists: &[u8], from: usize, until: usize, counts: &m
 // The width is the same for all of a block's nodes, so it is asked once for each row.
 fn count_row(version: u8, lists: &[u8], from: usize, until: usize, counts: &mut [u16; IDS])
     requires { ⌜ (until ≤ 4096) × (4096 * width version + 8192 ≤ length (now lists)) × Table (now counts) ⌝ }
-    ensures { λ _. ⌜ Raised (isAt (idIn version (now (lists .entry)))) from (until - from) (now (counts .entry)) (now (counts .exit)) ⌝ }
+    ensures { λ _. ⌜ Raised (isAt (idIn version (now (lists .entry)))) from (until - from) (now (counts .entry))
+        (now (counts .exit)) ⌝ }
 {
     if 24 <= version {
         count_wide(lists, from, until, counts);
@@ -100,8 +104,10 @@ fn count_row(version: u8, lists: &[u8], from: usize, until: usize, counts: &mut 
 
 // The rows of one z.
 fn count_layer(version: u8, lists: &[u8], b: Clip, z: usize, counts: &mut [u16; IDS])
-    requires { ⌜ (b .z0 ≤ z) × (z < b .z1) × Sides b × (4096 * width version + 8192 ≤ length (now lists)) × Table (now counts) ⌝ }
-    ensures { λ _. ⌜ Raised (clipWith b (idIn version (now (lists .entry)))) (z * 256) 256 (now (counts .entry)) (now (counts .exit)) ⌝ }
+    requires { ⌜ (b .z0 ≤ z) × (z < b .z1) × Sides b × (4096 * width version + 8192 ≤ length (now lists))
+        × Table (now counts) ⌝ }
+    ensures { λ _. ⌜ Raised (clipWith b (idIn version (now (lists .entry)))) (z * 256) 256 (now (counts .entry))
+        (now (counts .exit)) ⌝ }
 {
     let mut y = b.y0;
     while y < b.y1 {
@@ -114,7 +120,8 @@ fn count_layer(version: u8, lists: &[u8], b: Clip, z: usize, counts: &mut [u16; 
 // The nodes of a clip lie in rows: no node is tested.
 fn count_clip(version: u8, lists: &[u8], b: Clip, counts: &mut [u16; IDS])
     requires { ⌜ Sides b × (4096 * width version + 8192 ≤ length (now lists)) × Table (now counts) ⌝ }
-    ensures { λ _. ⌜ Raised (clipWith b (idIn version (now (lists .entry)))) 0 4096 (now (counts .entry)) (now (counts .exit)) ⌝ }
+    ensures { λ _. ⌜ Raised (clipWith b (idIn version (now (lists .entry)))) 0 4096 (now (counts .entry))
+        (now (counts .exit)) ⌝ }
 {
     let mut z = b.z0;
     while z < b.z1 {
@@ -134,7 +141,9 @@ fn sized(counts: &[u16; IDS])
 // Counts the nodes of a block that lie in a lot: `lists` are the bytes of its param lists, `at` is where the block stands. This is an inner function
 // of the meter, whose promise is by cases: bytes that do not hold the lists have no nodes, and leave the counters as they are.
 pub fn count_in(version: u8, lists: &[u8], at: Coordinates, lot: Lot, counts: &mut [u16; IDS])
-    ensures { λ _. ⌜ (holdsLists version (now (lists .entry)) ≡ true → CountsById version (now (lists .entry)) lot at (now (counts .entry)) (now (counts .exit))) ⌝ }
+    ensures counts { λ _. ⌜
+        (holdsLists version (now (lists .entry)) ≡ true
+        → CountsById version (now (lists .entry)) lot at (now (counts .entry)) (now (counts .exit))) ⌝ }
     ensures { λ _. ⌜ (holdsLists version (now (lists .entry)) ≡ false → now (counts .exit) ≡ now (counts .entry)) ⌝ }
 {
     sized(counts);

@@ -11,30 +11,36 @@ ghost use Rattle.census.specs.NamePlaces.{rowAt, nameStartAt, countAt};
 
 // The name in the row at a place, empty where none stands there.
 pub fn name_at(s: &[u8], p: usize) -> &[u8]
-    ensures { λ r. ⌜ now r ≡ rowAt (now (s .entry)) p .name ⌝ }
-    ensures { λ r. ⌜ ptr r ≡ placeIn (s .entry) (nameStartAt (now (s .entry)) p) ⌝ }
+    ensures told { λ r. ⌜ now r ≡ rowAt (now (s .entry)) p .name ⌝ }
+    ensures place { λ r. ⌜ ptr r ≡ placeIn (s .entry) (nameStartAt (now (s .entry)) p) ⌝ }
 {
     if s.len() < p {
         return &s[..0];
     }
     let rest = &s[p..];
     match name_row(rest) {
-        NameRead::Refused(_, _) => &s[..0],
-        NameRead::Row(row, _) => slice_of(rest, row.name),
+        NameRead::Refused {
+            fault: _,
+            offset: _,
+        } => &s[..0],
+        NameRead::Row { row, length: _ } => slice_of(rest, row.name),
     }
 }
 
 // The id in the row at a place, 0 where none stands there.
 pub fn id_at(s: &[u8], p: usize) -> usize
-    ensures { λ r. ⌜ r ≡ rowAt (now (s .entry)) p .id ⌝ }
-    ensures { λ r. ⌜ r < 65536 ⌝ }
+    ensures told { λ r. ⌜ r ≡ rowAt (now (s .entry)) p .id ⌝ }
+    ensures bounded { λ r. ⌜ r < 65536 ⌝ }
 {
     if s.len() < p {
         return 0;
     }
     match name_row(&s[p..]) {
-        NameRead::Refused(_, _) => 0,
-        NameRead::Row(row, _) => row.id as usize,
+        NameRead::Refused {
+            fault: _,
+            offset: _,
+        } => 0,
+        NameRead::Row { row, length: _ } => row.id as usize,
     }
 }
 

@@ -18,9 +18,10 @@ pub fn sized(places: &[usize; NODES])
 
 // Stores the places of the rows whose id has a count, and says how many; it ends with the rows, or where there is no room for more.
 pub fn used(s: &[u8], counts: &[u16; IDS], places: &mut [usize; NODES]) -> usize
-    ensures { λ r. ⌜ r ≤ 4096 ⌝ }
-    ensures { λ r. ⌜ r ≡ length (usedOf (now (counts .entry)) (now (s .entry))) ⌝ }
-    ensures { λ _. ⌜ now (places .exit) ≡ overwrite 0 (usedOf (now (counts .entry)) (now (s .entry))) (now (places .entry)) ⌝ }
+    ensures bounded { λ r. ⌜ r ≤ 4096 ⌝ }
+    ensures told { λ r. ⌜ r ≡ length (usedOf (now (counts .entry)) (now (s .entry))) ⌝ }
+    ensures places { λ _. ⌜ now (places .exit)
+        ≡ overwrite 0 (usedOf (now (counts .entry)) (now (s .entry))) (now (places .entry)) ⌝ }
 {
     sized(places);
     let mut rest = s;
@@ -28,10 +29,13 @@ pub fn used(s: &[u8], counts: &[u16; IDS], places: &mut [usize; NODES]) -> usize
     let mut n: usize = 0;
     while n < NODES {
         match name_row(rest) {
-            NameRead::Refused(_, _) => {
+            NameRead::Refused {
+                fault: _,
+                offset: _,
+            } => {
                 return n;
             }
-            NameRead::Row(row, size) => {
+            NameRead::Row { row, length: size } => {
                 let id = row.id as usize;
                 if counts[id] != 0 {
                     places[n] = at;

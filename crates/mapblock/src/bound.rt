@@ -54,8 +54,8 @@ fn greatest_of(columns: &[u8; COLUMNS], first: usize) -> u8
 
 // No id is above it, where the bytes hold 4,096 of them.
 pub(crate) fn id_bound(s: &[u8]) -> usize
-    ensures { λ r. ⌜ r < 65536 ⌝ }
-    ensures { λ r. ⌜ (8192 ≤ length (now (s .entry)) → IdsWithin (now (s .entry)) r) ⌝ }
+    ensures bounded { λ r. ⌜ r < 65536 ⌝ }
+    ensures told { λ r. ⌜ (8192 ≤ length (now (s .entry)) → IdsWithin (now (s .entry)) r) ⌝ }
 {
     let mut columns = [0u8; COLUMNS];
     if s.len() < 2 * NODES {

@@ -53,5 +53,5 @@ pub fn refusal_number(fault: Fault) -> u32
 // How far a reading came, or the fault that stopped it and its place, both from the first byte it was given.
 pub enum Reach {
     End(usize),
-    Refused(Fault, usize),
+    Refused { fault: Fault, offset: usize },
 }

@@ -21,5 +21,8 @@ pub fn inventory(s: &[u8]) -> Reach
         fresh = s[p] == 10;
         p += 1;
     }
-    Reach::Refused(Fault::Ends, 0)
+    Reach::Refused {
+        fault: Fault::Ends,
+        offset: 0,
+    }
 }

@@ -21,16 +21,26 @@ pub const LIST_HEAD_LENGTH: usize = 3;
 
 // Behind a byte that is fixed, a count and so many rows.
 fn fixed_list(kind: ListKind, version: u8, s: &[u8], value: u8, fault: Fault) -> Reach
-    ensures { λ r. ⌜ toldReach r ≡ ended (fixed 1 value fault (listed 2 (rowAfter kind version)) .read (now (s .entry))) ⌝ }
+    ensures { λ r. ⌜ toldReach r
+        ≡ ended (fixed 1 value fault (listed 2 (rowAfter kind version)) .read (now (s .entry))) ⌝ }
 {
     let U8::Value(v) = u8_at(s, 0) else {
-        return Reach::Refused(Fault::Ends, 0);
+        return Reach::Refused {
+            fault: Fault::Ends,
+            offset: 0,
+        };
     };
     if v != value {
-        return Reach::Refused(fault, 0);
+        return Reach::Refused { fault, offset: 0 };
     }
     match listed(kind, version, &s[1..]) {
-        Reach::Refused(f, p) => Reach::Refused(f, 1 + p),
+        Reach::Refused {
+            fault: f,
+            offset: p,
+        } => Reach::Refused {
+            fault: f,
+            offset: 1 + p,
+        },
         Reach::End(n) => Reach::End(1 + n),
     }
 }
@@ -41,13 +51,25 @@ fn old_metadata(version: u8, s: &[u8]) -> Reach
     ensures { λ r. ⌜ toldReach r ≡ ended (metadata version .read (now (s .entry))) ⌝ }
 {
     let U16::Value(v) = u16_at(s, 0) else {
-        return Reach::Refused(Fault::Ends, 0);
+        return Reach::Refused {
+            fault: Fault::Ends,
+            offset: 0,
+        };
     };
     if v != 1 {
-        return Reach::Refused(Fault::MetadataVersion, 0);
+        return Reach::Refused {
+            fault: Fault::MetadataVersion,
+            offset: 0,
+        };
     }
     match listed(ListKind::Metadata, version, &s[2..]) {
-        Reach::Refused(f, p) => Reach::Refused(f, 2 + p),
+        Reach::Refused {
+            fault: f,
+            offset: p,
+        } => Reach::Refused {
+            fault: f,
+            offset: 2 + p,
+        },
         Reach::End(n) => Reach::End(2 + n),
     }
 }
@@ -78,8 +100,8 @@ pub(crate) fn object_list(version: u8, s: &[u8]) -> Reach
 
 // The timer byte and where what follows the metadata ends, or the fault and its place.
 pub enum EarlyRead {
-    Timers(u8, usize),
-    Refused(Fault, usize),
+    Timers { byte: u8, length: usize },
+    Refused { fault: Fault, offset: usize },
 }
 
 // Version 24's timer byte, 0 or 1, and with 1 a list of timers.
@@ -87,17 +109,32 @@ fn timers_of_24(s: &[u8]) -> EarlyRead
     ensures { λ r. ⌜ toldEarly r ≡ mapRead timerByte (earlyTimers 24 .read (now (s .entry))) ⌝ }
 {
     let U8::Value(byte) = u8_at(s, 0) else {
-        return EarlyRead::Refused(Fault::Ends, 0);
+        return EarlyRead::Refused {
+            fault: Fault::Ends,
+            offset: 0,
+        };
     };
     if 1 < byte {
-        return EarlyRead::Refused(Fault::TimerByte, 0);
+        return EarlyRead::Refused {
+            fault: Fault::TimerByte,
+            offset: 0,
+        };
     }
     if byte == 0 {
-        return EarlyRead::Timers(0, 1);
+        return EarlyRead::Timers { byte: 0, length: 1 };
     }
     match listed(ListKind::Timers, 24, &s[1..]) {
-        Reach::Refused(f, p) => EarlyRead::Refused(f, 1 + p),
-        Reach::End(n) => EarlyRead::Timers(1, 1 + n),
+        Reach::Refused {
+            fault: f,
+            offset: p,
+        } => EarlyRead::Refused {
+            fault: f,
+            offset: 1 + p,
+        },
+        Reach::End(n) => EarlyRead::Timers {
+            byte: 1,
+            length: 1 + n,
+        },
     }
 }
 
@@ -106,12 +143,18 @@ fn byte_of_23(s: &[u8]) -> EarlyRead
     ensures { λ r. ⌜ toldEarly r ≡ mapRead timerByte (earlyTimers 23 .read (now (s .entry))) ⌝ }
 {
     match u8_at(s, 0) {
-        U8::Ends => EarlyRead::Refused(Fault::Ends, 0),
+        U8::Ends => EarlyRead::Refused {
+            fault: Fault::Ends,
+            offset: 0,
+        },
         U8::Value(byte) => {
             if byte != 0 {
-                EarlyRead::Refused(Fault::ByteOf23, 0)
+                EarlyRead::Refused {
+                    fault: Fault::ByteOf23,
+                    offset: 0,
+                }
             } else {
-                EarlyRead::Timers(0, 1)
+                EarlyRead::Timers { byte: 0, length: 1 }
             }
         }
     }
@@ -127,7 +170,7 @@ pub(crate) fn early_timers(version: u8, s: &[u8]) -> EarlyRead
     if version == 23 {
         return byte_of_23(s);
     }
-    EarlyRead::Timers(0, 0)
+    EarlyRead::Timers { byte: 0, length: 0 }
 }
 
 // The timers at the end, from version 25.

@@ -37,8 +37,8 @@ pub struct MetadataFields {
 
 // The front row with its length, or the fault and its place.
 pub enum MetadataRead {
-    Row(MetadataFields, usize),
-    Refused(Fault, usize),
+    Row { row: MetadataFields, length: usize },
+    Refused { fault: Fault, offset: usize },
 }
 
 // A variable's key and value at the front of a part.
@@ -46,9 +46,15 @@ pub fn key_and_value(s: &[u8]) -> Reach
     ensures { λ r. ⌜ toldReach r ≡ ended ((prefixed {ends = Fault.Ends} 2 ▹ prefixed 4) .read (now (s .entry))) ⌝ }
 {
     match run16_at(s, 0) {
-        Run::Ends(p) => Reach::Refused(Fault::Ends, p),
+        Run::Ends(p) => Reach::Refused {
+            fault: Fault::Ends,
+            offset: p,
+        },
         Run::Bytes(k) => match run32_at(s, 2 + k) {
-            Run::Ends(p) => Reach::Refused(Fault::Ends, 2 + k + p),
+            Run::Ends(p) => Reach::Refused {
+                fault: Fault::Ends,
+                offset: 2 + k + p,
+            },
             Run::Bytes(n) => Reach::End(6 + k + n),
         },
     }
@@ -66,10 +72,16 @@ fn variable(version: u8, s: &[u8]) -> Reach
         return r;
     }
     match u8_at(s, at) {
-        U8::Ends => Reach::Refused(Fault::Ends, at),
+        U8::Ends => Reach::Refused {
+            fault: Fault::Ends,
+            offset: at,
+        },
         U8::Value(private) => {
             if 1 < private {
-                Reach::Refused(Fault::PrivateByte, at)
+                Reach::Refused {
+                    fault: Fault::PrivateByte,
+                    offset: at,
+                }
             } else {
                 Reach::End(at + 1)
             }
@@ -86,8 +98,14 @@ fn variables(version: u8, s: &[u8], count: u32) -> Reach
     let mut left = count;
     while 0 < left {
         match variable(version, rest) {
-            Reach::Refused(f, p) => {
-                return Reach::Refused(f, at + p);
+            Reach::Refused {
+                fault: f,
+                offset: p,
+            } => {
+                return Reach::Refused {
+                    fault: f,
+                    offset: at + p,
+                };
             }
             Reach::End(n) => {
                 rest = &rest[n..];
@@ -102,13 +120,20 @@ fn variables(version: u8, s: &[u8], count: u32) -> Reach
 // Version 22's row behind its position: type and content.
 fn old_row(version: u8, at: u16, s: &[u8]) -> MetadataRead
     requires { ⌜ (version < 23) × (position .read (now s) ≡ done at 2) ⌝ }
-    ensures { λ r. ⌜ toldMetadata r ≡ mapRead (metadataFields version) (metadataRow version [] .read (now (s .entry))) ⌝ }
+    ensures { λ r. ⌜ toldMetadata r
+        ≡ mapRead (metadataFields version) (metadataRow version [] .read (now (s .entry))) ⌝ }
 {
     let U16::Value(kind) = u16_at(s, 2) else {
-        return MetadataRead::Refused(Fault::Ends, 2);
+        return MetadataRead::Refused {
+            fault: Fault::Ends,
+            offset: 2,
+        };
     };
     match run16_at(s, 4) {
-        Run::Ends(p) => MetadataRead::Refused(Fault::Ends, 4 + p),
+        Run::Ends(p) => MetadataRead::Refused {
+            fault: Fault::Ends,
+            offset: 4 + p,
+        },
         Run::Bytes(n) => {
             let fields = MetadataFields {
                 position: at,
@@ -121,7 +146,10 @@ fn old_row(version: u8, at: u16, s: &[u8]) -> MetadataRead
                 rows: NO_RANGE,
                 inventory: NO_RANGE,
             };
-            MetadataRead::Row(fields, 6 + n)
+            MetadataRead::Row {
+                row: fields,
+                length: 6 + n,
+            }
         }
     }
 }
@@ -129,15 +157,31 @@ fn old_row(version: u8, at: u16, s: &[u8]) -> MetadataRead
 // The row from version 23 on, behind its position: variables and an inventory.
 fn new_row(version: u8, at: u16, s: &[u8]) -> MetadataRead
     requires { ⌜ (23 ≤ version) × (position .read (now s) ≡ done at 2) ⌝ }
-    ensures { λ r. ⌜ toldMetadata r ≡ mapRead (metadataFields version) (metadataRow version [] .read (now (s .entry))) ⌝ }
+    ensures { λ r. ⌜ toldMetadata r
+        ≡ mapRead (metadataFields version) (metadataRow version [] .read (now (s .entry))) ⌝ }
 {
     let U32::Value(count) = u32_at(s, 2) else {
-        return MetadataRead::Refused(Fault::Ends, 2);
+        return MetadataRead::Refused {
+            fault: Fault::Ends,
+            offset: 2,
+        };
     };
     match variables(version, &s[6..], count) {
-        Reach::Refused(f, p) => MetadataRead::Refused(f, 6 + p),
+        Reach::Refused {
+            fault: f,
+            offset: p,
+        } => MetadataRead::Refused {
+            fault: f,
+            offset: 6 + p,
+        },
         Reach::End(n) => match inventory(&s[6 + n..]) {
-            Reach::Refused(f, p) => MetadataRead::Refused(f, 6 + n + p),
+            Reach::Refused {
+                fault: f,
+                offset: p,
+            } => MetadataRead::Refused {
+                fault: f,
+                offset: 6 + n + p,
+            },
             Reach::End(m) => {
                 let fields = MetadataFields {
                     position: at,
@@ -153,7 +197,10 @@ fn new_row(version: u8, at: u16, s: &[u8]) -> MetadataRead
                         length: m,
                     },
                 };
-                MetadataRead::Row(fields, 6 + n + m)
+                MetadataRead::Row {
+                    row: fields,
+                    length: 6 + n + m,
+                }
             }
         },
     }
@@ -161,10 +208,14 @@ fn new_row(version: u8, at: u16, s: &[u8]) -> MetadataRead
 
 // The row at the front of a part, judged alone.
 pub(crate) fn metadata_row(version: u8, s: &[u8]) -> MetadataRead
-    ensures { λ r. ⌜ toldMetadata r ≡ mapRead (metadataFields version) (metadataRow version [] .read (now (s .entry))) ⌝ }
+    ensures { λ r. ⌜ toldMetadata r
+        ≡ mapRead (metadataFields version) (metadataRow version [] .read (now (s .entry))) ⌝ }
 {
     match position(s) {
-        PositionRead::Refused(f) => MetadataRead::Refused(f, 0),
+        PositionRead::Refused(f) => MetadataRead::Refused {
+            fault: f,
+            offset: 0,
+        },
         PositionRead::At(p) => {
             if version < 23 {
                 old_row(version, p, s)

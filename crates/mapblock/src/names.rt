@@ -32,8 +32,8 @@ pub struct NameFields {
 
 // The front row with its length, or the fault and its place.
 pub enum NameRead {
-    Row(NameFields, usize),
-    Refused(Fault, usize),
+    Row { row: NameFields, length: usize },
+    Refused { fault: Fault, offset: usize },
 }
 
 // The row at the front of a part, judged alone.
@@ -41,29 +41,45 @@ pub fn name_row(s: &[u8]) -> NameRead
     ensures { λ r. ⌜ toldName r ≡ mapRead nameFields (nameRow all [] .read (now (s .entry))) ⌝ }
 {
     let U16::Value(id) = u16_at(s, 0) else {
-        return NameRead::Refused(Fault::Ends, 0);
+        return NameRead::Refused {
+            fault: Fault::Ends,
+            offset: 0,
+        };
     };
     match run16_at(s, 2) {
-        Run::Ends(p) => NameRead::Refused(Fault::Ends, 2 + p),
+        Run::Ends(p) => NameRead::Refused {
+            fault: Fault::Ends,
+            offset: 2 + p,
+        },
         Run::Bytes(n) => {
             let name = Range {
                 start: 4,
                 length: n,
             };
-            NameRead::Row(NameFields { id, name }, 4 + n)
+            NameRead::Row {
+                row: NameFields { id, name },
+                length: 4 + n,
+            }
         }
     }
 }
 
 // The row at the front of a part, after rows whose ids are marked.
 fn new_name_row(s: &[u8], ids: &[u8; IDS]) -> NameRead
-    ensures { λ r. ⌜ ((free : ℕ → Bool) (seen : List NameRow) → Tabled 65536 (unmapped free seen) (now (ids .entry)) → toldName r ≡ mapRead nameFields (nameRow free seen .read (now (s .entry)))) ⌝ }
+    ensures { λ r. ⌜ ((free : ℕ → Bool) (seen : List NameRow) → Tabled 65536 (unmapped free seen) (now (ids .entry))
+        → toldName r ≡ mapRead nameFields (nameRow free seen .read (now (s .entry)))) ⌝ }
 {
     match u16_at(s, 0) {
-        U16::Ends => NameRead::Refused(Fault::Ends, 0),
+        U16::Ends => NameRead::Refused {
+            fault: Fault::Ends,
+            offset: 0,
+        },
         U16::Value(id) => {
             if ids[id as usize] != 0 {
-                NameRead::Refused(Fault::IdTwice, 0)
+                NameRead::Refused {
+                    fault: Fault::IdTwice,
+                    offset: 0,
+                }
             } else {
                 name_row(s)
             }
@@ -79,10 +95,13 @@ pub(crate) fn unmark(s: &[u8], count: u16, ids: &mut [u8; IDS])
     let mut left = count;
     while 0 < left {
         match name_row(rest) {
-            NameRead::Refused(_, _) => {
+            NameRead::Refused {
+                fault: _,
+                offset: _,
+            } => {
                 return;
             }
-            NameRead::Row(row, n) => {
+            NameRead::Row { row, length: n } => {
                 ids[row.id as usize] = 0;
                 rest = &rest[n..];
                 left -= 1;
@@ -100,9 +119,11 @@ pub(crate) fn sized(ids: &[u8; IDS])
 
 // So many rows, whose ids are marked; on a refusal the table is as it was. That the table has the length that its type says is for callers' proofs.
 pub fn name_rows(s: &[u8], count: u16, ids: &mut [u8; IDS]) -> Reach
-    ensures { λ r. ⌜ toldReach r ≡ ended (items (nameRow (freeIn (now (ids .entry)))) count .read (now (s .entry))) ⌝ }
-    ensures { λ _. ⌜ now (ids .exit) ≡ markedBy (now (ids .entry)) (items (nameRow (freeIn (now (ids .entry)))) count .read (now (s .entry))) ⌝ }
-    ensures { λ _. ⌜ length (now (ids .entry)) ≡ 65536 ⌝ }
+    ensures told { λ r. ⌜ toldReach r
+        ≡ ended (items (nameRow (freeIn (now (ids .entry)))) count .read (now (s .entry))) ⌝ }
+    ensures ids { λ _. ⌜ now (ids .exit)
+        ≡ markedBy (now (ids .entry)) (items (nameRow (freeIn (now (ids .entry)))) count .read (now (s .entry))) ⌝ }
+    ensures sized { λ _. ⌜ length (now (ids .entry)) ≡ 65536 ⌝ }
 {
     sized(ids);
     let mut rest = s;
@@ -110,11 +131,17 @@ pub fn name_rows(s: &[u8], count: u16, ids: &mut [u8; IDS]) -> Reach
     let mut left = count;
     while 0 < left {
         match new_name_row(rest, ids) {
-            NameRead::Refused(f, p) => {
+            NameRead::Refused {
+                fault: f,
+                offset: p,
+            } => {
                 unmark(s, count - left, ids);
-                return Reach::Refused(f, at + p);
+                return Reach::Refused {
+                    fault: f,
+                    offset: at + p,
+                };
             }
-            NameRead::Row(row, n) => {
+            NameRead::Row { row, length: n } => {
                 ids[row.id as usize] = 1;
                 rest = &rest[n..];
                 at += n;
@@ -130,29 +157,60 @@ pub const NAMES_HEAD_LENGTH: usize = 7;
 
 // Timestamp, number of rows, and where they end; or the fault and its place.
 pub enum NameMappingRead {
-    Rows(u32, u16, usize),
-    Refused(Fault, usize),
+    Rows {
+        timestamp: u32,
+        count: u16,
+        length: usize,
+    },
+    Refused {
+        fault: Fault,
+        offset: usize,
+    },
 }
 
 // Timestamp and names; the ids are marked, and on a refusal the table is as it was.
 pub(crate) fn name_mapping(s: &[u8], ids: &mut [u8; IDS]) -> NameMappingRead
-    ensures { λ r. ⌜ toldMapping r ≡ mapRead shownMapping (nameMapping (freeIn (now (ids .entry))) .read (now (s .entry))) ⌝ }
-    ensures { λ r. ⌜ NameMappingMarked (now (ids .entry)) (now (ids .exit)) (nameMapping (freeIn (now (ids .entry))) .read (now (s .entry))) ⌝ }
+    ensures told { λ r. ⌜ toldMapping r
+        ≡ mapRead shownMapping (nameMapping (freeIn (now (ids .entry))) .read (now (s .entry))) ⌝ }
+    ensures { λ r. ⌜ NameMappingMarked (now (ids .entry)) (now (ids .exit))
+        (nameMapping (freeIn (now (ids .entry))) .read (now (s .entry))) ⌝ }
 {
     let U32::Value(timestamp) = u32_at(s, 0) else {
-        return NameMappingRead::Refused(Fault::Ends, 0);
+        return NameMappingRead::Refused {
+            fault: Fault::Ends,
+            offset: 0,
+        };
     };
     let U8::Value(zero) = u8_at(s, 4) else {
-        return NameMappingRead::Refused(Fault::Ends, 4);
+        return NameMappingRead::Refused {
+            fault: Fault::Ends,
+            offset: 4,
+        };
     };
     if zero != 0 {
-        return NameMappingRead::Refused(Fault::MappingVersion, 4);
+        return NameMappingRead::Refused {
+            fault: Fault::MappingVersion,
+            offset: 4,
+        };
     }
     let U16::Value(count) = u16_at(s, 5) else {
-        return NameMappingRead::Refused(Fault::Ends, 5);
+        return NameMappingRead::Refused {
+            fault: Fault::Ends,
+            offset: 5,
+        };
     };
     match name_rows(&s[NAMES_HEAD_LENGTH..], count, ids) {
-        Reach::Refused(f, p) => NameMappingRead::Refused(f, NAMES_HEAD_LENGTH + p),
-        Reach::End(n) => NameMappingRead::Rows(timestamp, count, NAMES_HEAD_LENGTH + n),
+        Reach::Refused {
+            fault: f,
+            offset: p,
+        } => NameMappingRead::Refused {
+            fault: f,
+            offset: NAMES_HEAD_LENGTH + p,
+        },
+        Reach::End(n) => NameMappingRead::Rows {
+            timestamp,
+            count,
+            length: NAMES_HEAD_LENGTH + n,
+        },
     }
 }

@@ -24,13 +24,16 @@ fn find(names: &[u8], start: usize, id: usize) -> Range
     let mut at = start;
     while 0 < rest.len() {
         match name_row(rest) {
-            NameRead::Refused(_, _) => {
+            NameRead::Refused {
+                fault: _,
+                offset: _,
+            } => {
                 return Range {
                     start: at,
                     length: 0,
                 };
             }
-            NameRead::Row(row, n) => {
+            NameRead::Row { row, length: n } => {
                 if row.id as usize == id {
                     let name = row.name;
                     return Range {
@@ -54,7 +57,7 @@ pub enum NodeNameAnswer {
     Name(Range),
     // The index is above 4095.
     NoSuchNode,
-    Refused(Fault, usize),
+    Refused { fault: Fault, offset: usize },
 }
 
 // Where the name of the node at an index stands in the block.
@@ -62,8 +65,17 @@ pub fn locate_node_name(block: &[u8], index: usize) -> NodeNameAnswer
     ensures { λ r. ⌜ toldNodeName r ≡ nodeNameOf (now (block .entry)) index ⌝ }
 {
     match judge(block) {
-        ScanRead::Refused(f, p) => NodeNameAnswer::Refused(f, p),
-        ScanRead::Taken(found, _) => {
+        ScanRead::Refused {
+            fault: f,
+            offset: p,
+        } => NodeNameAnswer::Refused {
+            fault: f,
+            offset: p,
+        },
+        ScanRead::Taken {
+            scanned: found,
+            length: _,
+        } => {
             if NODES <= index {
                 return NodeNameAnswer::NoSuchNode;
             }
@@ -84,6 +96,9 @@ pub fn node_name(block: &[u8], index: usize) -> &[u8]
     match locate_node_name(block, index) {
         NodeNameAnswer::Name(name) => slice_of(block, name),
         NodeNameAnswer::NoSuchNode => &block[..0],
-        NodeNameAnswer::Refused(_, _) => &block[..0],
+        NodeNameAnswer::Refused {
+            fault: _,
+            offset: _,
+        } => &block[..0],
     }
 }

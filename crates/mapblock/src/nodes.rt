@@ -33,10 +33,16 @@ fn params(version: u8, s: &[u8]) -> Reach
 {
     let w = width(version);
     if s.len() < NODES * w {
-        return Reach::Refused(Fault::Ends, s.len() / w * w);
+        return Reach::Refused {
+            fault: Fault::Ends,
+            offset: s.len() / w * w,
+        };
     }
     if s.len() < NODES * w + 2 * NODES {
-        return Reach::Refused(Fault::Ends, s.len());
+        return Reach::Refused {
+            fault: Fault::Ends,
+            offset: s.len(),
+        };
     }
     Reach::End(NODES * w + 2 * NODES)
 }
@@ -46,19 +52,37 @@ pub(crate) fn node_data(version: u8, s: &[u8]) -> Reach
     ensures { λ r. ⌜ toldReach r ≡ ended (nodes version .read (now (s .entry))) ⌝ }
 {
     let U8::Value(content) = u8_at(s, 0) else {
-        return Reach::Refused(Fault::Ends, 0);
+        return Reach::Refused {
+            fault: Fault::Ends,
+            offset: 0,
+        };
     };
     if content as usize != width(version) {
-        return Reach::Refused(Fault::ContentWidth, 0);
+        return Reach::Refused {
+            fault: Fault::ContentWidth,
+            offset: 0,
+        };
     }
     let U8::Value(two) = u8_at(s, 1) else {
-        return Reach::Refused(Fault::Ends, 1);
+        return Reach::Refused {
+            fault: Fault::Ends,
+            offset: 1,
+        };
     };
     if two != 2 {
-        return Reach::Refused(Fault::ParamsWidth, 1);
+        return Reach::Refused {
+            fault: Fault::ParamsWidth,
+            offset: 1,
+        };
     }
     match params(version, &s[2..]) {
-        Reach::Refused(f, p) => Reach::Refused(f, 2 + p),
+        Reach::Refused {
+            fault: f,
+            offset: p,
+        } => Reach::Refused {
+            fault: f,
+            offset: 2 + p,
+        },
         Reach::End(n) => Reach::End(2 + n),
     }
 }
@@ -79,8 +103,8 @@ pub fn content_id(version: u8, param0: u16, param2: u8) -> usize
 // Of the node at an index, from the lists' bytes. From version 24 on its param2 has no part in it.
 fn id_in(version: u8, s: &[u8], i: usize) -> usize
     requires { ⌜ (i < 4096) × (4096 * width version + 8192 ≤ length (now s)) ⌝ }
-    ensures { λ r. ⌜ r ≡ idIn version (now (s .entry)) i ⌝ }
-    ensures { λ r. ⌜ r < 65536 ⌝ }
+    ensures told { λ r. ⌜ r ≡ idIn version (now (s .entry)) i ⌝ }
+    ensures bounded { λ r. ⌜ r < 65536 ⌝ }
 {
     if 24 <= version {
         return content_id(version, s[2 * i] as u16 * 256 + s[2 * i + 1] as u16, 0);

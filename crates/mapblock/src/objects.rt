@@ -24,8 +24,8 @@ pub struct ObjectFields {
 
 // The front row with its length, or the fault and its place.
 pub enum ObjectRead {
-    Row(ObjectFields, usize),
-    Refused(Fault, usize),
+    Row { row: ObjectFields, length: usize },
+    Refused { fault: Fault, offset: usize },
 }
 
 // The row at the front of a part.
@@ -33,34 +33,49 @@ pub fn object_row(s: &[u8]) -> ObjectRead
     ensures { λ r. ⌜ toldObject r ≡ mapRead objectFields (objectRow .read (now (s .entry))) ⌝ }
 {
     let U8::Value(kind) = u8_at(s, 0) else {
-        return ObjectRead::Refused(Fault::Ends, 0);
+        return ObjectRead::Refused {
+            fault: Fault::Ends,
+            offset: 0,
+        };
     };
     let S32::Value(x) = s32_at(s, 1) else {
-        return ObjectRead::Refused(Fault::Ends, 1);
+        return ObjectRead::Refused {
+            fault: Fault::Ends,
+            offset: 1,
+        };
     };
     let S32::Value(y) = s32_at(s, 5) else {
-        return ObjectRead::Refused(Fault::Ends, 5);
+        return ObjectRead::Refused {
+            fault: Fault::Ends,
+            offset: 5,
+        };
     };
     let S32::Value(z) = s32_at(s, 9) else {
-        return ObjectRead::Refused(Fault::Ends, 9);
+        return ObjectRead::Refused {
+            fault: Fault::Ends,
+            offset: 9,
+        };
     };
     match run16_at(s, 13) {
-        Run::Ends(p) => ObjectRead::Refused(Fault::Ends, 13 + p),
+        Run::Ends(p) => ObjectRead::Refused {
+            fault: Fault::Ends,
+            offset: 13 + p,
+        },
         Run::Bytes(n) => {
             let content = Range {
                 start: 15,
                 length: n,
             };
-            ObjectRead::Row(
-                ObjectFields {
+            ObjectRead::Row {
+                row: ObjectFields {
                     kind,
                     x,
                     y,
                     z,
                     content,
                 },
-                15 + n,
-            )
+                length: 15 + n,
+            }
         }
     }
 }

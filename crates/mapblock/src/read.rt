@@ -34,10 +34,10 @@ pub(crate) fn judge(block: &[u8]) -> ScanRead
 
 // ---- the reader
 pub enum ReadAnswer {
-    Block(Head, Sections),
+    Block { head: Head, sections: Sections },
     // A lent list is not of 4,096.
     Misfit,
-    Refused(Fault, usize),
+    Refused { fault: Fault, offset: usize },
 }
 
 // Whether each of three lists has an entry for every node.
@@ -81,9 +81,10 @@ fn fill8(s: &[u8], out: &mut [u16])
 fn fill(version: u8, s: &[u8], param0: &mut [u16], param1: &mut [u8], param2: &mut [u8])
     requires { ⌜ 4096 * width version + 8192 ≤ length (now s) ⌝ }
     requires { ⌜ (length (now param0) ≡ 4096) × (length (now param1) ≡ 4096) × (length (now param2) ≡ 4096) ⌝ }
-    ensures { λ _. ⌜ now (param0 .exit) ≡ entries (width version) 4096 (now (s .entry)) ⌝ }
-    ensures { λ _. ⌜ now (param1 .exit) ≡ entries 1 4096 (drop (4096 * width version) (now (s .entry))) ⌝ }
-    ensures { λ _. ⌜ now (param2 .exit) ≡ entries 1 4096 (drop (4096 * width version + 4096) (now (s .entry))) ⌝ }
+    ensures param0 { λ _. ⌜ now (param0 .exit) ≡ entries (width version) 4096 (now (s .entry)) ⌝ }
+    ensures param1 { λ _. ⌜ now (param1 .exit) ≡ entries 1 4096 (drop (4096 * width version) (now (s .entry))) ⌝ }
+    ensures param2 { λ _. ⌜ now (param2 .exit)
+        ≡ entries 1 4096 (drop (4096 * width version + 4096) (now (s .entry))) ⌝ }
 {
     let w = width(version);
     if version < 24 {
@@ -97,30 +98,50 @@ fn fill(version: u8, s: &[u8], param0: &mut [u16], param1: &mut [u8], param2: &m
 
 // Fills the three lent lists of a block that is taken, and tells its head and where its sections are. A refusal leaves the lists as they were.
 pub fn read(block: &[u8], param0: &mut [u16], param1: &mut [u8], param2: &mut [u8]) -> ReadAnswer
-    ensures { λ r. ⌜ toldRead r ≡ mapAnswer shown (readOf (now (block .entry)) (length (now (param0 .entry))) (length (now (param1 .entry))) (length (now (param2 .entry)))) ⌝ }
-    ensures { λ _. ⌜ now (param0 .exit) ≡ lent (mapAnswer (λ (b : Block). b .nodes .param0) (readOf (now (block .entry)) (length (now (param0 .entry))) (length (now (param1 .entry))) (length (now (param2 .entry))))) (now (param0 .entry)) ⌝ }
-    ensures { λ _. ⌜ now (param1 .exit) ≡ lent (mapAnswer (λ (b : Block). b .nodes .param1) (readOf (now (block .entry)) (length (now (param0 .entry))) (length (now (param1 .entry))) (length (now (param2 .entry))))) (now (param1 .entry)) ⌝ }
-    ensures { λ _. ⌜ now (param2 .exit) ≡ lent (mapAnswer (λ (b : Block). b .nodes .param2) (readOf (now (block .entry)) (length (now (param0 .entry))) (length (now (param1 .entry))) (length (now (param2 .entry))))) (now (param2 .entry)) ⌝ }
+    ensures told { λ r. ⌜ toldRead r
+        ≡ mapAnswer shown (readOf (now (block .entry)) (length (now (param0 .entry))) (length (now (param1 .entry)))
+        (length (now (param2 .entry)))) ⌝ }
+    ensures param0 { λ _. ⌜ now (param0 .exit)
+        ≡ lent (mapAnswer (λ (b : Block). b .nodes .param0)
+        (readOf (now (block .entry)) (length (now (param0 .entry))) (length (now (param1 .entry)))
+        (length (now (param2 .entry))))) (now (param0 .entry)) ⌝ }
+    ensures param1 { λ _. ⌜ now (param1 .exit)
+        ≡ lent (mapAnswer (λ (b : Block). b .nodes .param1)
+        (readOf (now (block .entry)) (length (now (param0 .entry))) (length (now (param1 .entry)))
+        (length (now (param2 .entry))))) (now (param1 .entry)) ⌝ }
+    ensures param2 { λ _. ⌜ now (param2 .exit)
+        ≡ lent (mapAnswer (λ (b : Block). b .nodes .param2)
+        (readOf (now (block .entry)) (length (now (param0 .entry))) (length (now (param1 .entry)))
+        (length (now (param2 .entry))))) (now (param2 .entry)) ⌝ }
 {
     if !are_whole(param0.len(), param1.len(), param2.len()) {
         return ReadAnswer::Misfit;
     }
     match judge(block) {
-        ScanRead::Refused(f, p) => ReadAnswer::Refused(f, p),
-        ScanRead::Taken(found, _) => {
+        ScanRead::Refused {
+            fault: f,
+            offset: p,
+        } => ReadAnswer::Refused {
+            fault: f,
+            offset: p,
+        },
+        ScanRead::Taken {
+            scanned: found,
+            length: _,
+        } => {
             let head = found.head;
             let lists = found.lists;
             let sections = found.sections;
             fill(head.version, &block[lists..], param0, param1, param2);
-            ReadAnswer::Block(head, sections)
+            ReadAnswer::Block { head, sections }
         }
     }
 }
 
 // ---- the sections
 pub enum SectionsAnswer {
-    Block(Head, Sections),
-    Refused(Fault, usize),
+    Block { head: Head, sections: Sections },
+    Refused { fault: Fault, offset: usize },
 }
 
 // The head of a block, and where its sections are.
@@ -128,11 +149,20 @@ pub fn sections(block: &[u8]) -> SectionsAnswer
     ensures { λ r. ⌜ toldSections r ≡ sectionsOf (now (block .entry)) ⌝ }
 {
     match judge(block) {
-        ScanRead::Refused(f, p) => SectionsAnswer::Refused(f, p),
-        ScanRead::Taken(found, _) => {
+        ScanRead::Refused {
+            fault: f,
+            offset: p,
+        } => SectionsAnswer::Refused {
+            fault: f,
+            offset: p,
+        },
+        ScanRead::Taken {
+            scanned: found,
+            length: _,
+        } => {
             let head = found.head;
             let sections = found.sections;
-            SectionsAnswer::Block(head, sections)
+            SectionsAnswer::Block { head, sections }
         }
     }
 }
@@ -142,8 +172,14 @@ fn parts(block: &[u8]) -> Sections
     ensures { λ r. ⌜ r ≡ partsOf (sectionsOf (now (block .entry))) ⌝ }
 {
     match sections(block) {
-        SectionsAnswer::Block(_, found) => found,
-        SectionsAnswer::Refused(_, _) => NO_SECTIONS,
+        SectionsAnswer::Block {
+            head: _,
+            sections: found,
+        } => found,
+        SectionsAnswer::Refused {
+            fault: _,
+            offset: _,
+        } => NO_SECTIONS,
     }
 }
 

@@ -29,9 +29,9 @@ ghost use Rattle.mapblock.specs.AskedRows.{toldNameRow, toldMetadataRow,
 // ---- names
 pub enum NameRowAnswer {
     // The row and its length.
-    Row(NameFields, usize),
+    Row { row: NameFields, length: usize },
     NoSuchRow,
-    Refused(Fault, usize),
+    Refused { fault: Fault, offset: usize },
 }
 
 // The front row of a part of names, judged alone.
@@ -42,37 +42,44 @@ pub fn name_row_of(part: &[u8]) -> NameRowAnswer
         return NameRowAnswer::NoSuchRow;
     }
     match name_row(part) {
-        NameRead::Row(row, n) => NameRowAnswer::Row(row, n),
-        NameRead::Refused(f, p) => NameRowAnswer::Refused(f, p),
+        NameRead::Row { row, length: n } => NameRowAnswer::Row { row, length: n },
+        NameRead::Refused {
+            fault: f,
+            offset: p,
+        } => NameRowAnswer::Refused {
+            fault: f,
+            offset: p,
+        },
     }
 }
 
 // The name in the front row.
 pub fn name_of(part: &[u8]) -> &[u8]
-    ensures { λ r. ⌜ IsSlice (part .entry) (rangeTold (λ (x : NameFields × ℕ). x .0 .name) (nameRowOf (now (part .entry)))) r ⌝ }
+    ensures { λ r. ⌜ IsSlice (part .entry)
+        (rangeTold (λ (x : NameFields × ℕ). x .0 .name) (nameRowOf (now (part .entry)))) r ⌝ }
 {
     match name_row_of(part) {
-        NameRowAnswer::Row(row, _) => slice_of(part, row.name),
+        NameRowAnswer::Row { row, length: _ } => slice_of(part, row.name),
         _ => &part[..0],
     }
 }
 
 // What remains behind it.
 pub fn behind_name_row(part: &[u8]) -> &[u8]
-    ensures { λ r. ⌜ now r ≡ rowsBehind (now (part .entry)) (nameRowOf (now (part .entry))) ⌝ }
-    ensures { λ r. ⌜ ptr r ≡ placeIn (part .entry) (startTold (λ x. x .1) (nameRowOf (now (part .entry)))) ⌝ }
+    ensures told { λ r. ⌜ now r ≡ rowsBehind (now (part .entry)) (nameRowOf (now (part .entry))) ⌝ }
+    ensures place { λ r. ⌜ ptr r ≡ placeIn (part .entry) (startTold (λ x. x .1) (nameRowOf (now (part .entry)))) ⌝ }
 {
     match name_row_of(part) {
-        NameRowAnswer::Row(_, n) => &part[n..],
+        NameRowAnswer::Row { row: _, length: n } => &part[n..],
         _ => &part[..0],
     }
 }
 
 // ---- metadata
 pub enum MetadataRowAnswer {
-    Row(MetadataFields, usize),
+    Row { row: MetadataFields, length: usize },
     NoSuchRow,
-    Refused(Fault, usize),
+    Refused { fault: Fault, offset: usize },
 }
 
 // The front row of a part of metadata, judged alone; how a row is laid out depends on the version.
@@ -80,63 +87,76 @@ pub fn metadata_row_of(version: u8, part: &[u8]) -> MetadataRowAnswer
     ensures { λ r. ⌜ toldMetadataRow r ≡ metadataRowOf version (now (part .entry)) ⌝ }
 {
     if !is_version(version) {
-        return MetadataRowAnswer::Refused(Fault::Version, 0);
+        return MetadataRowAnswer::Refused {
+            fault: Fault::Version,
+            offset: 0,
+        };
     }
     if part.len() == 0 {
         return MetadataRowAnswer::NoSuchRow;
     }
     match metadata_row(version, part) {
-        MetadataRead::Row(row, n) => MetadataRowAnswer::Row(row, n),
-        MetadataRead::Refused(f, p) => MetadataRowAnswer::Refused(f, p),
+        MetadataRead::Row { row, length: n } => MetadataRowAnswer::Row { row, length: n },
+        MetadataRead::Refused {
+            fault: f,
+            offset: p,
+        } => MetadataRowAnswer::Refused {
+            fault: f,
+            offset: p,
+        },
     }
 }
 
 // The content in the front row; from version 23 on it is empty.
 pub fn metadata_content_of(version: u8, part: &[u8]) -> &[u8]
-    ensures { λ r. ⌜ IsSlice (part .entry) (rangeTold (λ (x : MetadataFields × ℕ). x .0 .content) (metadataRowOf version (now (part .entry)))) r ⌝ }
+    ensures { λ r. ⌜ IsSlice (part .entry)
+        (rangeTold (λ (x : MetadataFields × ℕ). x .0 .content) (metadataRowOf version (now (part .entry)))) r ⌝ }
 {
     match metadata_row_of(version, part) {
-        MetadataRowAnswer::Row(row, _) => slice_of(part, row.content),
+        MetadataRowAnswer::Row { row, length: _ } => slice_of(part, row.content),
         _ => &part[..0],
     }
 }
 
 // The variables in the front row; in version 22 they are empty.
 pub fn metadata_variables_of(version: u8, part: &[u8]) -> &[u8]
-    ensures { λ r. ⌜ IsSlice (part .entry) (rangeTold (λ (x : MetadataFields × ℕ). x .0 .rows) (metadataRowOf version (now (part .entry)))) r ⌝ }
+    ensures { λ r. ⌜ IsSlice (part .entry)
+        (rangeTold (λ (x : MetadataFields × ℕ). x .0 .rows) (metadataRowOf version (now (part .entry)))) r ⌝ }
 {
     match metadata_row_of(version, part) {
-        MetadataRowAnswer::Row(row, _) => slice_of(part, row.rows),
+        MetadataRowAnswer::Row { row, length: _ } => slice_of(part, row.rows),
         _ => &part[..0],
     }
 }
 
 // The inventory in the front row; in version 22 it is empty.
 pub fn metadata_inventory_of(version: u8, part: &[u8]) -> &[u8]
-    ensures { λ r. ⌜ IsSlice (part .entry) (rangeTold (λ (x : MetadataFields × ℕ). x .0 .inventory) (metadataRowOf version (now (part .entry)))) r ⌝ }
+    ensures { λ r. ⌜ IsSlice (part .entry)
+        (rangeTold (λ (x : MetadataFields × ℕ). x .0 .inventory) (metadataRowOf version (now (part .entry)))) r ⌝ }
 {
     match metadata_row_of(version, part) {
-        MetadataRowAnswer::Row(row, _) => slice_of(part, row.inventory),
+        MetadataRowAnswer::Row { row, length: _ } => slice_of(part, row.inventory),
         _ => &part[..0],
     }
 }
 
 // What remains behind it.
 pub fn behind_metadata_row(version: u8, part: &[u8]) -> &[u8]
-    ensures { λ r. ⌜ now r ≡ rowsBehind (now (part .entry)) (metadataRowOf version (now (part .entry))) ⌝ }
-    ensures { λ r. ⌜ ptr r ≡ placeIn (part .entry) (startTold (λ x. x .1) (metadataRowOf version (now (part .entry)))) ⌝ }
+    ensures told { λ r. ⌜ now r ≡ rowsBehind (now (part .entry)) (metadataRowOf version (now (part .entry))) ⌝ }
+    ensures place { λ r. ⌜ ptr r
+        ≡ placeIn (part .entry) (startTold (λ x. x .1) (metadataRowOf version (now (part .entry)))) ⌝ }
 {
     match metadata_row_of(version, part) {
-        MetadataRowAnswer::Row(_, n) => &part[n..],
+        MetadataRowAnswer::Row { row: _, length: n } => &part[n..],
         _ => &part[..0],
     }
 }
 
 // ---- static objects
 pub enum ObjectRowAnswer {
-    Row(ObjectFields, usize),
+    Row { row: ObjectFields, length: usize },
     NoSuchRow,
-    Refused(Fault, usize),
+    Refused { fault: Fault, offset: usize },
 }
 
 // The front row of a part of static objects, judged alone.
@@ -147,37 +167,44 @@ pub fn object_row_of(part: &[u8]) -> ObjectRowAnswer
         return ObjectRowAnswer::NoSuchRow;
     }
     match object_row(part) {
-        ObjectRead::Row(row, n) => ObjectRowAnswer::Row(row, n),
-        ObjectRead::Refused(f, p) => ObjectRowAnswer::Refused(f, p),
+        ObjectRead::Row { row, length: n } => ObjectRowAnswer::Row { row, length: n },
+        ObjectRead::Refused {
+            fault: f,
+            offset: p,
+        } => ObjectRowAnswer::Refused {
+            fault: f,
+            offset: p,
+        },
     }
 }
 
 // The content in the front row.
 pub fn object_content_of(part: &[u8]) -> &[u8]
-    ensures { λ r. ⌜ IsSlice (part .entry) (rangeTold (λ (x : ObjectFields × ℕ). x .0 .content) (objectRowOf (now (part .entry)))) r ⌝ }
+    ensures { λ r. ⌜ IsSlice (part .entry)
+        (rangeTold (λ (x : ObjectFields × ℕ). x .0 .content) (objectRowOf (now (part .entry)))) r ⌝ }
 {
     match object_row_of(part) {
-        ObjectRowAnswer::Row(row, _) => slice_of(part, row.content),
+        ObjectRowAnswer::Row { row, length: _ } => slice_of(part, row.content),
         _ => &part[..0],
     }
 }
 
 // What remains behind it.
 pub fn behind_object_row(part: &[u8]) -> &[u8]
-    ensures { λ r. ⌜ now r ≡ rowsBehind (now (part .entry)) (objectRowOf (now (part .entry))) ⌝ }
-    ensures { λ r. ⌜ ptr r ≡ placeIn (part .entry) (startTold (λ x. x .1) (objectRowOf (now (part .entry)))) ⌝ }
+    ensures told { λ r. ⌜ now r ≡ rowsBehind (now (part .entry)) (objectRowOf (now (part .entry))) ⌝ }
+    ensures place { λ r. ⌜ ptr r ≡ placeIn (part .entry) (startTold (λ x. x .1) (objectRowOf (now (part .entry)))) ⌝ }
 {
     match object_row_of(part) {
-        ObjectRowAnswer::Row(_, n) => &part[n..],
+        ObjectRowAnswer::Row { row: _, length: n } => &part[n..],
         _ => &part[..0],
     }
 }
 
 // ---- timers
 pub enum TimerRowAnswer {
-    Row(TimerFields, usize),
+    Row { row: TimerFields, length: usize },
     NoSuchRow,
-    Refused(Fault, usize),
+    Refused { fault: Fault, offset: usize },
 }
 
 // The front row of a part of timers, judged alone.
@@ -188,18 +215,27 @@ pub fn timer_row_of(part: &[u8]) -> TimerRowAnswer
         return TimerRowAnswer::NoSuchRow;
     }
     match timer_row(part) {
-        TimerRead::Row(row) => TimerRowAnswer::Row(row, TIMER_ROW_LENGTH),
-        TimerRead::Refused(f, p) => TimerRowAnswer::Refused(f, p),
+        TimerRead::Row(row) => TimerRowAnswer::Row {
+            row,
+            length: TIMER_ROW_LENGTH,
+        },
+        TimerRead::Refused {
+            fault: f,
+            offset: p,
+        } => TimerRowAnswer::Refused {
+            fault: f,
+            offset: p,
+        },
     }
 }
 
 // What remains behind it.
 pub fn behind_timer_row(part: &[u8]) -> &[u8]
-    ensures { λ r. ⌜ now r ≡ rowsBehind (now (part .entry)) (timerRowOf (now (part .entry))) ⌝ }
-    ensures { λ r. ⌜ ptr r ≡ placeIn (part .entry) (startTold (λ x. x .1) (timerRowOf (now (part .entry)))) ⌝ }
+    ensures told { λ r. ⌜ now r ≡ rowsBehind (now (part .entry)) (timerRowOf (now (part .entry))) ⌝ }
+    ensures place { λ r. ⌜ ptr r ≡ placeIn (part .entry) (startTold (λ x. x .1) (timerRowOf (now (part .entry)))) ⌝ }
 {
     match timer_row_of(part) {
-        TimerRowAnswer::Row(_, n) => &part[n..],
+        TimerRowAnswer::Row { row: _, length: n } => &part[n..],
         _ => &part[..0],
     }
 }

@@ -32,16 +32,34 @@ fn row_alone(kind: ListKind, version: u8, s: &[u8]) -> Reach
 {
     match kind {
         ListKind::Metadata => match metadata_row(version, s) {
-            MetadataRead::Row(_, n) => Reach::End(n),
-            MetadataRead::Refused(f, p) => Reach::Refused(f, p),
+            MetadataRead::Row { row: _, length: n } => Reach::End(n),
+            MetadataRead::Refused {
+                fault: f,
+                offset: p,
+            } => Reach::Refused {
+                fault: f,
+                offset: p,
+            },
         },
         ListKind::Objects => match object_row(s) {
-            ObjectRead::Row(_, n) => Reach::End(n),
-            ObjectRead::Refused(f, p) => Reach::Refused(f, p),
+            ObjectRead::Row { row: _, length: n } => Reach::End(n),
+            ObjectRead::Refused {
+                fault: f,
+                offset: p,
+            } => Reach::Refused {
+                fault: f,
+                offset: p,
+            },
         },
         ListKind::Timers => match timer_row(s) {
             TimerRead::Row(_) => Reach::End(TIMER_ROW_LENGTH),
-            TimerRead::Refused(f, p) => Reach::Refused(f, p),
+            TimerRead::Refused {
+                fault: f,
+                offset: p,
+            } => Reach::Refused {
+                fault: f,
+                offset: p,
+            },
         },
     }
 }
@@ -53,7 +71,10 @@ fn row_after(kind: ListKind, version: u8, s: &[u8], marks: &mut [u8; NODES]) -> 
     match kind {
         ListKind::Objects => row_alone(ListKind::Objects, version, s),
         _ => match new_position(s, marks) {
-            PositionRead::Refused(f) => Reach::Refused(f, 0),
+            PositionRead::Refused(f) => Reach::Refused {
+                fault: f,
+                offset: 0,
+            },
             PositionRead::At(_) => row_alone(kind, version, s),
         },
     }
@@ -69,8 +90,14 @@ pub fn rows(kind: ListKind, version: u8, s: &[u8], count: u16) -> Reach
     let mut left = count;
     while 0 < left {
         match row_after(kind, version, rest, &mut marks) {
-            Reach::Refused(f, p) => {
-                return Reach::Refused(f, at + p);
+            Reach::Refused {
+                fault: f,
+                offset: p,
+            } => {
+                return Reach::Refused {
+                    fault: f,
+                    offset: at + p,
+                };
             }
             Reach::End(n) => {
                 rest = &rest[n..];
@@ -87,10 +114,19 @@ pub(crate) fn listed(kind: ListKind, version: u8, s: &[u8]) -> Reach
     ensures { λ r. ⌜ toldReach r ≡ ended (listed 2 (rowAfter kind version) .read (now (s .entry))) ⌝ }
 {
     let U16::Value(count) = u16_at(s, 0) else {
-        return Reach::Refused(Fault::Ends, 0);
+        return Reach::Refused {
+            fault: Fault::Ends,
+            offset: 0,
+        };
     };
     match rows(kind, version, &s[2..], count) {
-        Reach::Refused(f, p) => Reach::Refused(f, 2 + p),
+        Reach::Refused {
+            fault: f,
+            offset: p,
+        } => Reach::Refused {
+            fault: f,
+            offset: 2 + p,
+        },
         Reach::End(n) => Reach::End(2 + n),
     }
 }

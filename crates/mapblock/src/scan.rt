@@ -48,8 +48,14 @@ pub struct OpeningFields {
 
 // Step 1 and where it ends, or the fault and its place.
 pub enum OpeningRead {
-    Fields(OpeningFields, usize),
-    Refused(Fault, usize),
+    Fields {
+        fields: OpeningFields,
+        length: usize,
+    },
+    Refused {
+        fault: Fault,
+        offset: usize,
+    },
 }
 
 fn opened(version: u8, flags: u8, lighting: u16, end: usize) -> OpeningRead
@@ -60,26 +66,41 @@ fn opened(version: u8, flags: u8, lighting: u16, end: usize) -> OpeningRead
         flags,
         lighting,
     };
-    OpeningRead::Fields(fields, end)
+    OpeningRead::Fields {
+        fields,
+        length: end,
+    }
 }
 
 fn opening(s: &[u8]) -> OpeningRead
     ensures { λ r. ⌜ toldOpening r ≡ opening .read (now (s .entry)) ⌝ }
 {
     let U8::Value(version) = u8_at(s, 0) else {
-        return OpeningRead::Refused(Fault::Ends, 0);
+        return OpeningRead::Refused {
+            fault: Fault::Ends,
+            offset: 0,
+        };
     };
     if !is_version(version) {
-        return OpeningRead::Refused(Fault::Version, 0);
+        return OpeningRead::Refused {
+            fault: Fault::Version,
+            offset: 0,
+        };
     }
     let U8::Value(flags) = u8_at(s, 1) else {
-        return OpeningRead::Refused(Fault::Ends, 1);
+        return OpeningRead::Refused {
+            fault: Fault::Ends,
+            offset: 1,
+        };
     };
     if version < 27 {
         return opened(version, flags, NO_LIGHTING, 2);
     }
     match u16_at(s, 2) {
-        U16::Ends => OpeningRead::Refused(Fault::Ends, 2),
+        U16::Ends => OpeningRead::Refused {
+            fault: Fault::Ends,
+            offset: 2,
+        },
         U16::Value(lighting) => opened(version, flags, lighting, 4),
     }
 }
@@ -97,7 +118,7 @@ pub struct FrontFields {
 
 pub enum FrontRead {
     Fields(FrontFields),
-    Refused(Fault, usize),
+    Refused { fault: Fault, offset: usize },
 }
 
 // Before version 29: the node data at once.
@@ -107,7 +128,13 @@ fn plain_front(s: &[u8], o: OpeningFields, at: usize, ids: &[u8; IDS]) -> FrontR
 {
     sized(ids);
     match node_data(o.version, &s[at..]) {
-        Reach::Refused(f, p) => FrontRead::Refused(f, at + p),
+        Reach::Refused {
+            fault: f,
+            offset: p,
+        } => FrontRead::Refused {
+            fault: f,
+            offset: at + p,
+        },
         Reach::End(n) => FrontRead::Fields(FrontFields {
             version: o.version,
             flags: o.flags,
@@ -126,11 +153,27 @@ fn named_front(s: &[u8], o: OpeningFields, at: usize, ids: &mut [u8; IDS]) -> Fr
     ensures { λ r. ⌜ FrontTold (now (ids .entry)) (now (ids .exit)) (now (s .entry)) r ⌝ }
 {
     match name_mapping(&s[at..], ids) {
-        NameMappingRead::Refused(f, p) => FrontRead::Refused(f, at + p),
-        NameMappingRead::Rows(timestamp, count, n) => match node_data(o.version, &s[at + n..]) {
-            Reach::Refused(f, p) => {
+        NameMappingRead::Refused {
+            fault: f,
+            offset: p,
+        } => FrontRead::Refused {
+            fault: f,
+            offset: at + p,
+        },
+        NameMappingRead::Rows {
+            timestamp,
+            count,
+            length: n,
+        } => match node_data(o.version, &s[at + n..]) {
+            Reach::Refused {
+                fault: f,
+                offset: p,
+            } => {
                 unmark(&s[at + NAMES_HEAD_LENGTH..], count, ids);
-                FrontRead::Refused(f, at + n + p)
+                FrontRead::Refused {
+                    fault: f,
+                    offset: at + n + p,
+                }
             }
             Reach::End(m) => FrontRead::Fields(FrontFields {
                 version: o.version,
@@ -149,8 +192,17 @@ fn front(s: &[u8], ids: &mut [u8; IDS]) -> FrontRead
     ensures { λ r. ⌜ FrontTold (now (ids .entry)) (now (ids .exit)) (now (s .entry)) r ⌝ }
 {
     match opening(s) {
-        OpeningRead::Refused(f, p) => FrontRead::Refused(f, p),
-        OpeningRead::Fields(o, n) => {
+        OpeningRead::Refused {
+            fault: f,
+            offset: p,
+        } => FrontRead::Refused {
+            fault: f,
+            offset: p,
+        },
+        OpeningRead::Fields {
+            fields: o,
+            length: n,
+        } => {
             if o.version < 29 {
                 plain_front(s, o, n, ids)
             } else {
@@ -171,18 +223,39 @@ pub struct MiddleFields {
 
 pub enum MiddleRead {
     Lists(MiddleFields),
-    Refused(Fault, usize),
+    Refused { fault: Fault, offset: usize },
 }
 
 fn middle(version: u8, s: &[u8]) -> MiddleRead
     ensures { λ r. ⌜ MiddleTold version (now (s .entry)) r ⌝ }
 {
     match metadata_list(version, s) {
-        Reach::Refused(f, p) => MiddleRead::Refused(f, p),
+        Reach::Refused {
+            fault: f,
+            offset: p,
+        } => MiddleRead::Refused {
+            fault: f,
+            offset: p,
+        },
         Reach::End(metadata) => match early_timers(version, &s[metadata..]) {
-            EarlyRead::Refused(f, p) => MiddleRead::Refused(f, metadata + p),
-            EarlyRead::Timers(timer, early) => match object_list(version, &s[metadata + early..]) {
-                Reach::Refused(f, p) => MiddleRead::Refused(f, metadata + early + p),
+            EarlyRead::Refused {
+                fault: f,
+                offset: p,
+            } => MiddleRead::Refused {
+                fault: f,
+                offset: metadata + p,
+            },
+            EarlyRead::Timers {
+                byte: timer,
+                length: early,
+            } => match object_list(version, &s[metadata + early..]) {
+                Reach::Refused {
+                    fault: f,
+                    offset: p,
+                } => MiddleRead::Refused {
+                    fault: f,
+                    offset: metadata + early + p,
+                },
                 Reach::End(objects) => MiddleRead::Lists(MiddleFields {
                     metadata,
                     early,
@@ -203,8 +276,8 @@ pub struct Scanned {
 
 // A block that is taken, with its length, or the fault and its place.
 pub enum ScanRead {
-    Taken(Scanned, usize),
-    Refused(Fault, usize),
+    Taken { scanned: Scanned, length: usize },
+    Refused { fault: Fault, offset: usize },
 }
 
 // The rows of a list: they stand behind its head.
@@ -289,23 +362,36 @@ fn with_late_timers(w: Scanned, at: usize, n: usize) -> Scanned
 // The late timers, the end of the bytes, and that every id is mapped.
 fn ending(s: &[u8], w: Scanned, at: usize, ids: &[u8; IDS]) -> ScanRead
     requires { ⌜ ((free : ℕ → Bool) × ReadUpTo free (now s) w at (now ids)) ⌝ }
-    ensures { λ r. ⌜ ((free : ℕ → Bool) → ReadUpTo free (now (s .entry)) w at (now (ids .entry)) → toldScan r ≡ mapRead scannedOf (verdict free (now (s .entry)))) ⌝ }
+    ensures { λ r. ⌜ ((free : ℕ → Bool) → ReadUpTo free (now (s .entry)) w at (now (ids .entry)) → toldScan r
+        ≡ mapRead scannedOf (verdict free (now (s .entry)))) ⌝ }
 {
     let head = w.head;
     let version = head.version;
     let lists = w.lists;
     match late_timers(version, &s[at..]) {
-        Reach::Refused(f, p) => ScanRead::Refused(f, at + p),
+        Reach::Refused {
+            fault: f,
+            offset: p,
+        } => ScanRead::Refused {
+            fault: f,
+            offset: at + p,
+        },
         Reach::End(n) => {
             if at + n < s.len() {
-                return ScanRead::Refused(Fault::BytesAfter, at + n);
+                return ScanRead::Refused {
+                    fault: Fault::BytesAfter,
+                    offset: at + n,
+                };
             }
             match first_unmapped(version, &s[lists..], ids) {
-                FirstUnmapped::At(i) => ScanRead::Refused(
-                    Fault::IdUnmapped,
-                    lists + width(version) * i,
-                ),
-                FirstUnmapped::None => ScanRead::Taken(with_late_timers(w, at, n), at + n),
+                FirstUnmapped::At(i) => ScanRead::Refused {
+                    fault: Fault::IdUnmapped,
+                    offset: lists + width(version) * i,
+                },
+                FirstUnmapped::None => ScanRead::Taken {
+                    scanned: with_late_timers(w, at, n),
+                    length: at + n,
+                },
             }
         }
     }
@@ -313,14 +399,27 @@ fn ending(s: &[u8], w: Scanned, at: usize, ids: &[u8; IDS]) -> ScanRead
 
 // Before version 29: timestamp and names behind the static objects, then the end.
 fn names_behind(s: &[u8], w: FrontFields, m: MiddleFields, ids: &mut [u8; IDS]) -> ScanRead
-    requires { ⌜ (w .version < 29) × ((t : List ℕ) × FrontIs t (now ids) (now s) w) × MiddleIs (w .version) (drop (w .end) (now s)) m ⌝ }
-    ensures { λ r. ⌜ ((t : List ℕ) → FrontIs t (now (ids .entry)) (now (s .entry)) w → toldScan r ≡ mapRead scannedOf (verdict (freeIn t) (now (s .entry)))) ⌝ }
-    ensures { λ _. ⌜ now (ids .exit) ≡ now (ids .entry) ⌝ }
+    requires { ⌜ (w .version < 29) × ((t : List ℕ) × FrontIs t (now ids) (now s) w)
+        × MiddleIs (w .version) (drop (w .end) (now s)) m ⌝ }
+    ensures told { λ r. ⌜
+        ((t : List ℕ) → FrontIs t (now (ids .entry)) (now (s .entry)) w → toldScan r
+        ≡ mapRead scannedOf (verdict (freeIn t) (now (s .entry)))) ⌝ }
+    ensures ids { λ _. ⌜ now (ids .exit) ≡ now (ids .entry) ⌝ }
 {
     let at = w.end + m.metadata + m.early + m.objects;
     match name_mapping(&s[at..], ids) {
-        NameMappingRead::Refused(f, p) => ScanRead::Refused(f, at + p),
-        NameMappingRead::Rows(timestamp, count, n) => {
+        NameMappingRead::Refused {
+            fault: f,
+            offset: p,
+        } => ScanRead::Refused {
+            fault: f,
+            offset: at + p,
+        },
+        NameMappingRead::Rows {
+            timestamp,
+            count,
+            length: n,
+        } => {
             let found = without_late_timers(w, m, timestamp, rows_of(at, NAMES_HEAD_LENGTH, n));
             let r = ending(s, found, at + n, ids);
             unmark(&s[at + NAMES_HEAD_LENGTH..], count, ids);
@@ -332,12 +431,20 @@ fn names_behind(s: &[u8], w: FrontFields, m: MiddleFields, ids: &mut [u8; IDS]) 
 // What follows the node data.
 fn behind_front(s: &[u8], w: FrontFields, ids: &mut [u8; IDS]) -> ScanRead
     requires { ⌜ ((t : List ℕ) × FrontIs t (now ids) (now s) w) ⌝ }
-    ensures { λ r. ⌜ ((t : List ℕ) → FrontIs t (now (ids .entry)) (now (s .entry)) w → toldScan r ≡ mapRead scannedOf (verdict (freeIn t) (now (s .entry)))) ⌝ }
-    ensures { λ _. ⌜ now (ids .exit) ≡ now (ids .entry) ⌝ }
+    ensures told { λ r. ⌜
+        ((t : List ℕ) → FrontIs t (now (ids .entry)) (now (s .entry)) w → toldScan r
+        ≡ mapRead scannedOf (verdict (freeIn t) (now (s .entry)))) ⌝ }
+    ensures ids { λ _. ⌜ now (ids .exit) ≡ now (ids .entry) ⌝ }
 {
     let end = w.end;
     match middle(w.version, &s[end..]) {
-        MiddleRead::Refused(f, p) => ScanRead::Refused(f, end + p),
+        MiddleRead::Refused {
+            fault: f,
+            offset: p,
+        } => ScanRead::Refused {
+            fault: f,
+            offset: end + p,
+        },
         MiddleRead::Lists(m) => {
             if w.version < 29 {
                 return names_behind(s, w, m, ids);
@@ -352,11 +459,17 @@ fn behind_front(s: &[u8], w: FrontFields, ids: &mut [u8; IDS]) -> ScanRead
 
 // Judges a block. The table tells which ids are free, all of them where it is clear, and comes back as it was; so one table serves many blocks.
 pub fn scan(s: &[u8], ids: &mut [u8; IDS]) -> ScanRead
-    ensures { λ r. ⌜ toldScan r ≡ mapRead scannedOf (verdict (freeIn (now (ids .entry))) (now (s .entry))) ⌝ }
-    ensures { λ _. ⌜ now (ids .exit) ≡ now (ids .entry) ⌝ }
+    ensures told { λ r. ⌜ toldScan r ≡ mapRead scannedOf (verdict (freeIn (now (ids .entry))) (now (s .entry))) ⌝ }
+    ensures ids { λ _. ⌜ now (ids .exit) ≡ now (ids .entry) ⌝ }
 {
     match front(s, ids) {
-        FrontRead::Refused(f, p) => ScanRead::Refused(f, p),
+        FrontRead::Refused {
+            fault: f,
+            offset: p,
+        } => ScanRead::Refused {
+            fault: f,
+            offset: p,
+        },
         FrontRead::Fields(w) => {
             let r = behind_front(s, w, ids);
             // Version 29's names: their rows stand behind step 1 and the list's head. Before it there are none here.

@@ -26,7 +26,7 @@ pub const TIMER_ROW_LENGTH_BYTE: u8 = TIMER_ROW_LENGTH as u8;
 // The front row, or the fault and its place.
 pub enum TimerRead {
     Row(TimerFields),
-    Refused(Fault, usize),
+    Refused { fault: Fault, offset: usize },
 }
 
 // The row at the front of a part, judged alone.
@@ -34,13 +34,22 @@ pub(crate) fn timer_row(s: &[u8]) -> TimerRead
     ensures { λ r. ⌜ toldTimer r ≡ mapRead timerFields (timerRow [] .read (now (s .entry))) ⌝ }
 {
     match position(s) {
-        PositionRead::Refused(f) => TimerRead::Refused(f, 0),
+        PositionRead::Refused(f) => TimerRead::Refused {
+            fault: f,
+            offset: 0,
+        },
         PositionRead::At(position) => {
             let S32::Value(timeout) = s32_at(s, 2) else {
-                return TimerRead::Refused(Fault::Ends, 2);
+                return TimerRead::Refused {
+                    fault: Fault::Ends,
+                    offset: 2,
+                };
             };
             let S32::Value(elapsed) = s32_at(s, 6) else {
-                return TimerRead::Refused(Fault::Ends, 6);
+                return TimerRead::Refused {
+                    fault: Fault::Ends,
+                    offset: 6,
+                };
             };
             TimerRead::Row(TimerFields {
                 position,

@@ -32,9 +32,11 @@ fn add_used(
     w: RunningTally,
 ) -> RunningTally
     requires { ⌜ (n ≤ length (now places)) × (n ≤ length (now scratch)) ⌝ }
-    ensures { λ _. ⌜ length (now (t .exit)) ≡ length (now (t .entry)) ⌝ }
-    ensures { λ r. ⌜ ((R : Rows ones) → MayAdd (now (names .entry)) (now (counts .entry)) (take n (now (places .entry))) (now (t .entry)) w R
-        → UsedAdded (now (names .entry)) (now (counts .entry)) (take n (now (places .entry))) (now (t .entry)) (now (t .exit)) r R) ⌝ }
+    ensures t { λ _. ⌜ length (now (t .exit)) ≡ length (now (t .entry)) ⌝ }
+    ensures told { λ r. ⌜
+        ((R : Rows ones) → MayAdd (now (names .entry)) (now (counts .entry)) (take n (now (places .entry)))
+        (now (t .entry)) w R → UsedAdded (now (names .entry)) (now (counts .entry)) (take n (now (places .entry)))
+        (now (t .entry)) (now (t .exit)) r R) ⌝ }
 {
     sort(names, &mut places[..n], scratch);
     absorb(names, counts, &places[..n], t, w)
@@ -53,8 +55,9 @@ pub(crate) fn add_block(
     t: &mut [u8],
     w: RunningTally,
 ) -> RunningTally
-    ensures { λ _. ⌜ length (now (t .exit)) ≡ length (now (t .entry)) ⌝ }
-    ensures { λ r. ⌜ ((b : Block) (R : Rows ones) → Adds (now (block .entry)) found (now (counts .entry)) (now (t .entry)) w b R
+    ensures t { λ _. ⌜ length (now (t .exit)) ≡ length (now (t .entry)) ⌝ }
+    ensures told { λ r. ⌜
+        ((b : Block) (R : Rows ones) → Adds (now (block .entry)) found (now (counts .entry)) (now (t .entry)) w b R
         → Added (now (counts .exit)) (now (t .entry)) (now (t .exit)) r R (withBlock part at b R)) ⌝ }
 {
     let head = found.head;

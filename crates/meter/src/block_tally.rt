@@ -13,9 +13,8 @@ use position::part::Part;
 use running_tally::state::empty;
 use tally::head::put_head;
 use wire::heads::HEAD_LENGTH;
-ghost use mathlib.Core.Path.{_≡_};
 ghost use lib.ListN.{length};
-ghost use Rattle.wire.specs.Answer.{lent, mapAnswer};
+ghost use Rattle.wire.specs.Answer.{Answered};
 ghost use Rattle.mapblock.specs.Data.{Block};
 ghost use Rattle.meter.specs.Counting.{byOne};
 ghost use Rattle.meter.specs.Tallying.{tallyBlockOf};
@@ -27,7 +26,7 @@ pub enum BlockAnswer {
     Tallied(usize),
     BadPart,
     OutOfRange,
-    Refused(Fault, usize),
+    Refused { fault: Fault, offset: usize },
     NoRoom,
 }
 
@@ -40,7 +39,8 @@ fn put_tally(
     out: &mut [u8],
 ) -> BlockAnswer
     requires { ⌜ ((b : Block) × ScannedAs (now block) found b) ⌝ }
-    ensures { λ r. ⌜ ((b : Block) → ScannedAs (now (block .entry)) found b → PutAs part at b (now (out .entry)) (now (out .exit)) r) ⌝ }
+    ensures { λ r. ⌜ ((b : Block) → ScannedAs (now (block .entry)) found b
+        → PutAs part at b (now (out .entry)) (now (out .exit)) r) ⌝ }
 {
     let mut counts = [0u16; IDS];
     let mut places = [0usize; NODES];
@@ -68,8 +68,8 @@ fn put_tally(
 
 // Counts the nodes of the block at a key that stand in a part, name by name.
 pub fn tally_block(key: i64, block: &[u8], part: Part, out: &mut [u8]) -> BlockAnswer
-    ensures { λ r. ⌜ toldBlock r ≡ mapAnswer length (tallyBlockOf byOne key (now (block .entry)) part (length (now (out .entry)))) ⌝ }
-    ensures { λ _. ⌜ now (out .exit) ≡ lent (tallyBlockOf byOne key (now (block .entry)) part (length (now (out .entry)))) (now (out .entry)) ⌝ }
+    ensures { λ r. ⌜ Answered (toldBlock r) (now (out .entry)) (now (out .exit))
+        (tallyBlockOf byOne key (now (block .entry)) part (length (now (out .entry)))) ⌝ }
 {
     // The table comes first, here and in put_tally, as in the tally of a sheet.
     let mut ids = [0u8; IDS];
@@ -80,7 +80,16 @@ pub fn tally_block(key: i64, block: &[u8], part: Part, out: &mut [u8]) -> BlockA
         return BlockAnswer::OutOfRange;
     };
     match scan(block, &mut ids) {
-        ScanRead::Refused(f, p) => BlockAnswer::Refused(f, p),
-        ScanRead::Taken(found, _) => put_tally(block, found, at, part, out),
+        ScanRead::Refused {
+            fault: f,
+            offset: p,
+        } => BlockAnswer::Refused {
+            fault: f,
+            offset: p,
+        },
+        ScanRead::Taken {
+            scanned: found,
+            length: _,
+        } => put_tally(block, found, at, part, out),
     }
 }

@@ -16,7 +16,7 @@ use wire::heads::HeadRead;
 ghost use mathlib.Core.Path.{_≡_};
 ghost use Prim.Native.Nat.{_≤_};
 ghost use lib.ListN.{length};
-ghost use Rattle.wire.specs.Answer.{lent, mapAnswer};
+ghost use Rattle.wire.specs.Answer.{Answered};
 ghost use Rattle.meter.specs.Counting.{byOne};
 ghost use Rattle.mapblock.specs.Table.{clearTable};
 ghost use Rattle.meter.specs.SheetTally.{tallySheetOf};
@@ -28,7 +28,7 @@ enum Records {
     Taken(Progress),
     // With the number of the record that is not framed, or of those there are.
     Malformed(u32),
-    Refused(RecordFault, u32),
+    Refused { fault: RecordFault, index: u32 },
 }
 
 // So many records, and no byte more. The tables are clear, and each record leaves them so.
@@ -43,8 +43,10 @@ fn take_records(
     places: &mut [usize; NODES],
     scratch: &mut [usize; NODES],
 ) -> Records
-    ensures { λ _. ⌜ length (now (spare .exit)) ≡ length (now (spare .entry)) ⌝ }
-    ensures { λ r. ⌜ (now (ids .entry) ≡ clearTable → now (counts .entry) ≡ clearTable → (w : State byOne) → Carries (now (spare .entry)) p w → Numbered w count
+    ensures spare { λ _. ⌜ length (now (spare .exit)) ≡ length (now (spare .entry)) ⌝ }
+    ensures told { λ r. ⌜
+        (now (ids .entry) ≡ clearTable → now (counts .entry) ≡ clearTable → (w : State byOne)
+        → Carries (now (spare .entry)) p w → Numbered w count
         → AnswersFrom part (now (spare .exit)) w count (now (s .entry)) (toldRecords r)) ⌝ }
 {
     let mut rest = s;
@@ -55,10 +57,13 @@ fn take_records(
             TakeAnswer::Misframed(i) => {
                 return Records::Malformed(i);
             }
-            TakeAnswer::Refused(f, i) => {
-                return Records::Refused(f, i);
+            TakeAnswer::Refused { fault: f, index: i } => {
+                return Records::Refused { fault: f, index: i };
             }
-            TakeAnswer::Taken(next, n) => {
+            TakeAnswer::Taken {
+                progress: next,
+                length: n,
+            } => {
                 now = next;
                 rest = &rest[n..];
                 left -= 1;
@@ -79,7 +84,7 @@ pub enum SheetAnswer {
     Misfit,
     // The mark, the version or the framing, with the number of the record.
     Malformed(u32),
-    Record(RecordFault, u32),
+    Record { fault: RecordFault, index: u32 },
     NoRoom(u32),
     TooMany(u32),
 }
@@ -107,8 +112,10 @@ fn from_start(
     places: &mut [usize; NODES],
     scratch: &mut [usize; NODES],
 ) -> SheetAnswer
-    ensures { λ _. ⌜ length (now (spare .exit)) ≡ length (now (spare .entry)) ⌝ }
-    ensures { λ r. ⌜ (now (ids .entry) ≡ clearTable → now (counts .entry) ≡ clearTable → Carries (now (spare .entry)) p (noRecords byOne) → length (now (out .entry)) ≤ length (now (spare .entry))
+    ensures spare { λ _. ⌜ length (now (spare .exit)) ≡ length (now (spare .entry)) ⌝ }
+    ensures told { λ r. ⌜
+        (now (ids .entry) ≡ clearTable → now (counts .entry) ≡ clearTable
+        → Carries (now (spare .entry)) p (noRecords byOne) → length (now (out .entry)) ≤ length (now (spare .entry))
         → SheetPut part (now (sheet .entry)) (now (out .entry)) (now (out .exit)) r) ⌝ }
 {
     let HeadRead::Count(count) = sheet_head(sheet) else {
@@ -126,16 +133,16 @@ fn from_start(
         scratch,
     ) {
         Records::Malformed(i) => SheetAnswer::Malformed(i),
-        Records::Refused(f, i) => SheetAnswer::Record(f, i),
+        Records::Refused { fault: f, index: i } => SheetAnswer::Record { fault: f, index: i },
         Records::Taken(q) => finished(finish(q, spare, out)),
     }
 }
 
 // Counts the nodes of a sheet's blocks that stand in a part, name by name. The spare keeps its length; what it holds afterwards is open.
 pub fn tally_sheet(sheet: &[u8], part: Part, out: &mut [u8], spare: &mut [u8]) -> SheetAnswer
-    ensures { λ r. ⌜ toldSheet r ≡ mapAnswer length (tallySheetOf byOne (now (sheet .entry)) part (length (now (out .entry))) (length (now (spare .entry)))) ⌝ }
-    ensures { λ _. ⌜ now (out .exit) ≡ lent (tallySheetOf byOne (now (sheet .entry)) part (length (now (out .entry))) (length (now (spare .entry)))) (now (out .entry)) ⌝ }
-    ensures { λ _. ⌜ length (now (spare .exit)) ≡ length (now (spare .entry)) ⌝ }
+    ensures told { λ r. ⌜ Answered (toldSheet r) (now (out .entry)) (now (out .exit))
+        (tallySheetOf byOne (now (sheet .entry)) part (length (now (out .entry))) (length (now (spare .entry)))) ⌝ }
+    ensures spare { λ _. ⌜ length (now (spare .exit)) ≡ length (now (spare .entry)) ⌝ }
 {
     // The tables come first and are cleared once: a large frame that is set up behind a test has lost a register's value in compiled code.
     let mut ids = [0u8; IDS];

@@ -48,9 +48,15 @@ impl Lot {
 
     // A constant has no contract of its own, so this one says what the whole world is.
     pub fn new(x0: i32, y0: i32, z0: i32, x1: i32, y1: i32, z1: i32) -> LotAnswer
-        ensures { λ r. ⌜ toldLot r ≡ lotOf x0 y0 z0 x1 y1 z1 ⌝ }
-        ensures { λ _. do ⌜ ((← ⟦Lot::WORLD.x0⟧ .entry) ≡ world .x0) × ((← ⟦Lot::WORLD.y0⟧ .entry) ≡ world .y0) × ((← ⟦Lot::WORLD.z0⟧ .entry) ≡ world .z0) ⌝ }
-        ensures { λ _. do ⌜ ((← ⟦Lot::WORLD.x1⟧ .entry) ≡ world .x1) × ((← ⟦Lot::WORLD.y1⟧ .entry) ≡ world .y1) × ((← ⟦Lot::WORLD.z1⟧ .entry) ≡ world .z1) ⌝ }
+        ensures told { λ r. ⌜ toldLot r ≡ lotOf x0 y0 z0 x1 y1 z1 ⌝ }
+        ensures least { λ _. do
+          ⌜ ((← ⟦Lot::WORLD.x0⟧ .entry) ≡ world .x0)
+              × ((← ⟦Lot::WORLD.y0⟧ .entry) ≡ world .y0)
+              × ((← ⟦Lot::WORLD.z0⟧ .entry) ≡ world .z0) ⌝ }
+        ensures greatest { λ _. do
+          ⌜ ((← ⟦Lot::WORLD.x1⟧ .entry) ≡ world .x1)
+              × ((← ⟦Lot::WORLD.y1⟧ .entry) ≡ world .y1)
+              × ((← ⟦Lot::WORLD.z1⟧ .entry) ≡ world .z1) ⌝ }
     {
         let l = Lot {
             x0,

@@ -28,8 +28,10 @@ impl Span {
 
     // A constant has no contract of its own, so this one says what all time is.
     pub fn new(from: u32, until: u32) -> SpanAnswer
-        ensures { λ r. ⌜ toldSpan r ≡ spanOf from until ⌝ }
-        ensures { λ _. do ⌜ ((← ⟦Span::ALL_TIME.from⟧ .entry) ≡ allTime .from) × ((← ⟦Span::ALL_TIME.until⟧ .entry) ≡ allTime .until) ⌝ }
+        ensures told { λ r. ⌜ toldSpan r ≡ spanOf from until ⌝ }
+        ensures constant { λ _. do
+          ⌜ ((← ⟦Span::ALL_TIME.from⟧ .entry) ≡ allTime .from)
+              × ((← ⟦Span::ALL_TIME.until⟧ .entry) ≡ allTime .until) ⌝ }
     {
         let s = Span { from, until };
         if s.is_good() {

@@ -7,8 +7,8 @@ ghost use Rattle.report.specs.Text.{decimal};
 
 // Puts the digits at a place of a buffer, where they fit, and tells how many they are.
 pub(crate) fn put_decimal(out: &mut [u8], at: usize, n: u64) -> usize
-    ensures { λ r. ⌜ r ≡ length (decimal n) ⌝ }
-    ensures { λ _. ⌜ now (out .exit) ≡ stored at (decimal n) (now (out .entry)) ⌝ }
+    ensures told { λ r. ⌜ r ≡ length (decimal n) ⌝ }
+    ensures out { λ _. ⌜ now (out .exit) ≡ stored at (decimal n) (now (out .entry)) ⌝ }
 {
     let mut digits = [0u8; 20];
     let k = io::decimal(n, &mut digits);

@@ -11,10 +11,9 @@ use tally::rows::RowRead;
 use tally::rows::front_row;
 use wire::heads::HEAD_LENGTH;
 use wire::store::put_bytes;
-ghost use mathlib.Core.Path.{_≡_};
 ghost use Prim.Native.Nat.{_+_, _≤_};
 ghost use lib.ListN.{length};
-ghost use Rattle.wire.specs.Answer.{lent, mapAnswer};
+ghost use Rattle.wire.specs.Answer.{Answered};
 ghost use Rattle.wire.specs.Store.{PutAt};
 ghost use Rattle.report.specs.Text.{line, opening, tallyTextOf};
 ghost use Rattle.report.specs.Told.{toldText, LinesFit, HasRoom, LinesPut};
@@ -32,7 +31,7 @@ fn lines_fit(rows: &[u8], room: usize) -> bool
     let mut rest = rows;
     let mut left = room;
     loop {
-        let RowRead::Row(n, count) = front_row(rest) else {
+        let RowRead::Row { size: n, count } = front_row(rest) else {
             return true;
         };
         let size = decimal_length(count) + n + MARKS;
@@ -47,7 +46,8 @@ fn lines_fit(rows: &[u8], room: usize) -> bool
 // The count, a space, the name and a newline at a place, and where they end.
 fn put_line(out: &mut [u8], at: usize, name: &[u8], count: u64) -> usize
     requires { ⌜ at + length (line (record { name = now name; count = count })) ≤ length (now out) ⌝ }
-    ensures { λ r. ⌜ PutAt at (line (record { name = now (name .entry); count = count })) (now (out .entry)) (now (out .exit)) r ⌝ }
+    ensures { λ r. ⌜ PutAt at (line (record { name = now (name .entry); count = count })) (now (out .entry))
+        (now (out .exit)) r ⌝ }
 {
     let space = at + put_decimal(out, at, count);
     put_bytes(out, space, b" ");
@@ -65,7 +65,7 @@ fn put_lines(out: &mut [u8], from: usize, rows: &[u8]) -> usize
     let mut rest = rows;
     let mut at = from;
     loop {
-        let RowRead::Row(n, count) = front_row(rest) else {
+        let RowRead::Row { size: n, count } = front_row(rest) else {
             return at;
         };
         at = put_line(out, at, &rest[NAME_AT..n + NAME_AT], count);
@@ -86,8 +86,8 @@ fn put_opening(out: &mut [u8], rows: u32) -> usize
 
 // The text of a tally: a line with the number of rows, and a line for each. It is measured before a byte is written.
 pub fn tally_text(t: &[u8], out: &mut [u8]) -> TextAnswer
-    ensures { λ r. ⌜ toldText r ≡ mapAnswer length (tallyTextOf (length (now (out .entry))) (now (t .entry))) ⌝ }
-    ensures { λ _. ⌜ now (out .exit) ≡ lent (tallyTextOf (length (now (out .entry))) (now (t .entry))) (now (out .entry)) ⌝ }
+    ensures { λ r. ⌜ Answered (toldText r) (now (out .entry)) (now (out .exit))
+        (tallyTextOf (length (now (out .entry))) (now (t .entry))) ⌝ }
 {
     let CheckAnswer::Tally(rows) = check(t) else {
         return TextAnswer::Malformed;

@@ -3,9 +3,8 @@ use crate::decimal::decimal_length;
 use crate::decimal::put_decimal;
 use crate::text::TextAnswer;
 use wire::store::put_bytes;
-ghost use mathlib.Core.Path.{_≡_};
 ghost use lib.ListN.{length};
-ghost use Rattle.wire.specs.Answer.{lent, mapAnswer};
+ghost use Rattle.wire.specs.Answer.{Answered};
 ghost use Rattle.report.specs.Text.{refusalTextOf};
 ghost use Rattle.report.specs.Told.{toldText};
 
@@ -16,8 +15,8 @@ const RECORD: usize = 8;
 
 // `refused N record R`, and a newline.
 pub fn refusal_text(number: u32, index: u32, out: &mut [u8]) -> TextAnswer
-    ensures { λ r. ⌜ toldText r ≡ mapAnswer length (refusalTextOf (length (now (out .entry))) number index) ⌝ }
-    ensures { λ _. ⌜ now (out .exit) ≡ lent (refusalTextOf (length (now (out .entry))) number index) (now (out .entry)) ⌝ }
+    ensures { λ r. ⌜ Answered (toldText r) (now (out .entry)) (now (out .exit))
+        (refusalTextOf (length (now (out .entry))) number index) ⌝ }
 {
     let record = REFUSED + decimal_length(number as u64);
     let end = record + RECORD + decimal_length(index as u64);

@@ -68,10 +68,14 @@ pub enum Spot {
 // Adds to the count of a name, where it has a row among those from a finger on.
 fn raise_row(t: &mut [u8], at: usize, size: usize, name: &[u8], count: u64) -> Spot
     requires { ⌜ (at ≤ size) × (size ≤ length (now t)) ⌝ }
-    ensures { λ r. ⌜ RaisedTo (now (t .entry)) (now (t .exit)) at size (record { name = now (name .entry); count = count }) r ⌝ }
+    ensures { λ r. ⌜ RaisedTo (now (t .entry)) (now (t .exit)) at size
+        (record { name = now (name .entry); count = count }) r ⌝ }
 {
     match look_up(&t[at..size], name) {
-        Lookup::Present(p, before) => {
+        Lookup::Present {
+            at: p,
+            count: before,
+        } => {
             let place = at + p;
             put_u64(
                 t,
@@ -86,14 +90,15 @@ fn raise_row(t: &mut [u8], at: usize, size: usize, name: &[u8], count: u64) -> S
 
 // How many bytes and rows the new names take, or that there is no room for them.
 pub enum Raised {
-    Missing(usize, u64),
+    Missing { bytes: usize, rows: u64 },
     NoRoom,
 }
 
 // The first pass.
 fn raise(s: &[u8], counts: &[u16; IDS], places: &[usize], t: &mut [u8], size: usize) -> Raised
     requires { ⌜ size ≤ length (now t) ⌝ }
-    ensures { λ r. ⌜ RaisedAs (now (s .entry)) (now (counts .entry)) (now (places .entry)) (now (t .entry)) (now (t .exit)) size r ⌝ }
+    ensures { λ r. ⌜ RaisedAs (now (s .entry)) (now (counts .entry)) (now (places .entry)) (now (t .entry))
+        (now (t .exit)) size r ⌝ }
 {
     let room = t.len() - size;
     let mut at: usize = 0;
@@ -120,7 +125,10 @@ fn raise(s: &[u8], counts: &[u16; IDS], places: &[usize], t: &mut [u8], size: us
             }
         }
     }
-    Raised::Missing(missing, rows)
+    Raised::Missing {
+        bytes: missing,
+        rows,
+    }
 }
 
 // Moves n bytes to a place before theirs, from the first on, so that none is lost.
@@ -147,12 +155,13 @@ pub struct Hole {
 // Moves the gap to a name's place, and puts its row there if it has none.
 fn fill_row(t: &mut [u8], hole: Hole, end: usize, name: &[u8], count: u64) -> Hole
     requires { ⌜ Inside (now t) hole end ⌝ }
-    ensures { λ r. ⌜ FilledTo (now (t .entry)) (now (t .exit)) hole r end (record { name = now (name .entry); count = count }) ⌝ }
+    ensures { λ r. ⌜ FilledTo (now (t .entry)) (now (t .exit)) hole r end
+        (record { name = now (name .entry); count = count }) ⌝ }
 {
     let read = hole.read;
     let write = hole.write;
     match look_up(&t[read..end], name) {
-        Lookup::Present(p, _) => {
+        Lookup::Present { at: p, count: _ } => {
             move_front(t, read, write, p);
             Hole {
                 read: read + p,
@@ -180,7 +189,8 @@ fn fill_row(t: &mut [u8], hole: Hole, end: usize, name: &[u8], count: u64) -> Ho
 // The second pass, until the gap is closed: it is as long as the rows that are missing.
 fn fill(s: &[u8], counts: &[u16; IDS], places: &[usize], t: &mut [u8], missing: usize, end: usize)
     requires { ⌜ (missing ≤ end) × (end ≤ length (now t)) ⌝ }
-    ensures { λ _. ⌜ ((G W T : Rows ones) → Fills (now (s .entry)) (now (counts .entry)) (now (places .entry)) (now (t .entry)) missing end G W T
+    ensures { λ _. ⌜ ((G W T : Rows ones)
+        → Fills (now (s .entry)) (now (counts .entry)) (now (places .entry)) (now (t .entry)) missing end G W T
         → Filled (now (t .entry)) (now (t .exit)) end T) ⌝ }
 {
     let mut hole = Hole {
@@ -209,7 +219,8 @@ fn spread(
     missing: usize,
 )
     requires { ⌜ size + missing ≤ length (now t) ⌝ }
-    ensures { λ _. ⌜ ((G W T : Rows ones) → Spreads (now (s .entry)) (now (counts .entry)) (now (places .entry)) (now (t .entry)) size missing G W T
+    ensures { λ _. ⌜ ((G W T : Rows ones)
+        → Spreads (now (s .entry)) (now (counts .entry)) (now (places .entry)) (now (t .entry)) size missing G W T
         → Filled (now (t .entry)) (now (t .exit)) (size + missing) T) ⌝ }
 {
     if missing == 0 {
@@ -229,9 +240,11 @@ pub fn absorb(
     t: &mut [u8],
     w: RunningTally,
 ) -> RunningTally
-    ensures { λ _. ⌜ length (now (t .exit)) ≡ length (now (t .entry)) ⌝ }
-    ensures { λ r. ⌜ ((R : Rows ones) → Absorbs (now (s .entry)) (now (counts .entry)) (now (places .entry)) (now (t .entry)) w R
-        → Absorbed (now (t .entry)) (now (t .exit)) r R (plus ones (countedNames (now (s .entry)) (now (counts .entry)) (now (places .entry))) R)) ⌝ }
+    ensures t { λ _. ⌜ length (now (t .exit)) ≡ length (now (t .entry)) ⌝ }
+    ensures told { λ r. ⌜
+        ((R : Rows ones) → Absorbs (now (s .entry)) (now (counts .entry)) (now (places .entry)) (now (t .entry)) w R
+        → Absorbed (now (t .entry)) (now (t .exit)) r R
+        (plus ones (countedNames (now (s .entry)) (now (counts .entry)) (now (places .entry))) R)) ⌝ }
 {
     if w.over {
         return w;
@@ -246,7 +259,10 @@ pub fn absorb(
             rows: 0,
             over: true,
         },
-        Raised::Missing(missing, rows) => {
+        Raised::Missing {
+            bytes: missing,
+            rows,
+        } => {
             spread(s, counts, places, t, size, missing);
             RunningTally {
                 size: size + missing,

@@ -25,7 +25,7 @@ pub const BLOCK_AT: usize = 12;
 
 // A record's key and the length of its block, or that it is not whole.
 pub enum FrameRead {
-    Record(i64, usize),
+    Record { key: i64, length: usize },
     Misframed,
 }
 
@@ -38,7 +38,7 @@ pub fn frame(s: &[u8]) -> FrameRead
     };
     match run32_at(s, LENGTH_AT) {
         Run::Ends(_) => FrameRead::Misframed,
-        Run::Bytes(n) => FrameRead::Record(key, n),
+        Run::Bytes(n) => FrameRead::Record { key, length: n },
     }
 }
 
@@ -62,19 +62,21 @@ fn is_rising(last: LastKey, key: i64) -> bool
 pub enum RecordFault {
     OutOfRange,
     NotRising,
-    Block(Fault, usize),
+    Block { fault: Fault, offset: usize },
 }
 
 pub enum RecordAnswer {
     // Where the block stands, and what the scan found in it.
-    Taken(Coordinates, Scanned),
+    Taken { at: Coordinates, scanned: Scanned },
     Refused(RecordFault),
 }
 
 // A record judged against the last key, by the ids that the table has free. The table comes back as it was.
 pub fn judge_record(last: LastKey, key: i64, block: &[u8], ids: &mut [u8; IDS]) -> RecordAnswer
-    ensures { λ _. ⌜ now (ids .exit) ≡ now (ids .entry) ⌝ }
-    ensures { λ r. ⌜ toldRecord r ≡ mapAnswer scannedAt (judgedIn (freeIn (now (ids .entry))) (lastOf last) (recordOf key (now (block .entry)))) ⌝ }
+    ensures ids { λ _. ⌜ now (ids .exit) ≡ now (ids .entry) ⌝ }
+    ensures told { λ r. ⌜ toldRecord r
+        ≡ mapAnswer scannedAt
+        (judgedIn (freeIn (now (ids .entry))) (lastOf last) (recordOf key (now (block .entry)))) ⌝ }
 {
     let SplitAnswer::At(at) = split(key) else {
         return RecordAnswer::Refused(RecordFault::OutOfRange);
@@ -83,7 +85,16 @@ pub fn judge_record(last: LastKey, key: i64, block: &[u8], ids: &mut [u8; IDS]) 
         return RecordAnswer::Refused(RecordFault::NotRising);
     }
     match scan(block, ids) {
-        ScanRead::Refused(f, p) => RecordAnswer::Refused(RecordFault::Block(f, p)),
-        ScanRead::Taken(found, _) => RecordAnswer::Taken(at, found),
+        ScanRead::Refused {
+            fault: f,
+            offset: p,
+        } => RecordAnswer::Refused(RecordFault::Block {
+            fault: f,
+            offset: p,
+        }),
+        ScanRead::Taken {
+            scanned: found,
+            length: _,
+        } => RecordAnswer::Taken { at, scanned: found },
     }
 }

@@ -59,7 +59,7 @@ pub(crate) enum NextFault {
     Misframed(u32),
     // Its block is longer than the program holds.
     TooLong(u32),
-    Record(RecordFault, u32),
+    Record { fault: RecordFault, index: u32 },
 }
 
 // What came of a record: how far the sheet was tallied then, or the refusal.
@@ -81,10 +81,12 @@ pub(crate) fn take_next(
     places: &mut [usize; NODES],
     scratch: &mut [usize; NODES],
 ) -> Step
-    ensures { λ _. ⌜ length (now (spare .exit)) ≡ length (now (spare .entry)) ⌝ }
-    ensures { λ _. ⌜ now (ids .exit) ≡ now (ids .entry) ⌝ }
-    ensures { λ r. ⌜ ((w : State byOne) → Steps (now (ids .entry)) (now (counts .entry)) (now (spare .entry)) p w
-        → Matches (CarriesFirst (now (spare .exit))) (toldNext r) (nextOf w (now (s .entry))) × (now (counts .exit) ≡ clearTable)) ⌝ }
+    ensures spare { λ _. ⌜ length (now (spare .exit)) ≡ length (now (spare .entry)) ⌝ }
+    ensures ids { λ _. ⌜ now (ids .exit) ≡ now (ids .entry) ⌝ }
+    ensures told { λ r. ⌜
+        ((w : State byOne) → Steps (now (ids .entry)) (now (counts .entry)) (now (spare .entry)) p w
+        → Matches (CarriesFirst (now (spare .exit))) (toldNext r) (nextOf w (now (s .entry)))
+        × (now (counts .exit) ≡ clearTable)) ⌝ }
 {
     match block_length(s) {
         LengthRead::Misframed => Step::Stop(NextFault::Misframed(p.records)),
@@ -100,8 +102,14 @@ pub(crate) fn take_next(
             scratch,
         ) {
             TakeAnswer::Misframed(i) => Step::Stop(NextFault::Misframed(i)),
-            TakeAnswer::Refused(f, i) => Step::Stop(NextFault::Record(f, i)),
-            TakeAnswer::Taken(next, _) => Step::On(next),
+            TakeAnswer::Refused { fault: f, index: i } => Step::Stop(NextFault::Record {
+                fault: f,
+                index: i,
+            }),
+            TakeAnswer::Taken {
+                progress: next,
+                length: _,
+            } => Step::On(next),
         },
     }
 }
@@ -113,14 +121,16 @@ pub(crate) fn stopped(f: NextFault) -> SheetAnswer
     match f {
         NextFault::Misframed(i) => SheetAnswer::Malformed(i),
         NextFault::TooLong(i) => SheetAnswer::NoRoom(i),
-        NextFault::Record(e, i) => SheetAnswer::Record(e, i),
+        NextFault::Record { fault: e, index: i } => SheetAnswer::Record { fault: e, index: i },
     }
 }
 
 // Behind the last record: no byte more, and then the tally. What it answers is promised where the spare carries the state that `p` tells, the
 // output has MAX_TALLY_LENGTH bytes and the spare no fewer. Of every state: a refusal leaves the output as it was.
 pub(crate) fn end_sheet(p: Progress, rest: &[u8], spare: &[u8], out: &mut [u8]) -> SheetAnswer
-    ensures { λ r. ⌜ ((w : State byOne) → Carries (now (spare .entry)) p w → length (now (out .entry)) ≡ maxTallyLength → maxTallyLength ≤ length (now (spare .entry))
+    ensures told { λ r. ⌜
+        ((w : State byOne) → Carries (now (spare .entry)) p w → length (now (out .entry)) ≡ maxTallyLength
+        → maxTallyLength ≤ length (now (spare .entry))
         → Answered (toldSheet r) (now (out .entry)) (now (out .exit)) (countedFrom 0 w (now (rest .entry)))) ⌝ }
     ensures { λ r. ⌜ Untouched (toldSheet r) (now (out .entry)) (now (out .exit)) ⌝ }
 {

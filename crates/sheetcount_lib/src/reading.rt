@@ -57,8 +57,8 @@ fn read_bytes(input: i32, bytes: &mut [u8]) -> BytesRead
 // Reads a record's block of so many bytes to its place behind the first twelve. Tells how many bytes there are, with those.
 fn read_block(input: i32, size: usize, bytes: &mut [u8]) -> BytesRead
     requires { ⌜ (length (now bytes) ≡ longest) × (size ≤ maxBlockLength) ⌝ }
-    ensures { λ r. ⌜ Within (12 + size) r ⌝ }
-    ensures { λ _. ⌜ take 12 (now (bytes .exit)) ≡ take 12 (now (bytes .entry)) ⌝ }
+    ensures told { λ r. ⌜ Within (12 + size) r ⌝ }
+    ensures bytes { λ _. ⌜ take 12 (now (bytes .exit)) ≡ take 12 (now (bytes .entry)) ⌝ }
 {
     let end = BLOCK_AT + size;
     match read_bytes(input, &mut bytes[BLOCK_AT..end]) {
@@ -71,7 +71,7 @@ fn read_block(input: i32, size: usize, bytes: &mut [u8]) -> BytesRead
 // long; no byte behind it. Tells how many bytes there are.
 fn read_record(input: i32, bytes: &mut [u8]) -> BytesRead
     requires { ⌜ length (now bytes) ≡ longest ⌝ }
-    ensures { λ r. ⌜ Within (length (now (bytes .entry))) r ⌝ }
+    ensures told { λ r. ⌜ Within (length (now (bytes .entry))) r ⌝ }
     ensures { λ r. ⌜ RecordWithin (now (bytes .exit)) r ⌝ }
 {
     let BytesRead::Bytes(head) = read_bytes(input, &mut bytes[..BLOCK_AT]) else {
@@ -104,8 +104,8 @@ fn take_all(
     scratch: &mut [usize; NODES],
 ) -> RecordsRead
     requires { ⌜ (length (now bytes) ≡ longest) × Begins (now spare) p (now ids) (now counts) ⌝ }
-    ensures { λ _. ⌜ length (now (spare .exit)) ≡ length (now (spare .entry)) ⌝ }
-    ensures { λ r. ⌜ AllTold count (now (spare .exit)) r ⌝ }
+    ensures spare { λ _. ⌜ length (now (spare .exit)) ≡ length (now (spare .entry)) ⌝ }
+    ensures told { λ r. ⌜ AllTold count (now (spare .exit)) r ⌝ }
 {
     let mut left = count;
     let mut now = p;
@@ -134,7 +134,8 @@ pub(crate) enum SheetRead {
 
 // Behind the last record: reads one byte more, of which there is none in a sheet.
 fn read_end(input: i32, p: Progress, bytes: &mut [u8], out: &mut [u8], spare: &[u8]) -> SheetRead
-    requires { ⌜ (length (now bytes) ≡ longest) × (length (now out) ≡ maxTallyLength) × (length (now spare) ≡ maxTallyLength) ⌝ }
+    requires { ⌜ (length (now bytes) ≡ longest) × (length (now out) ≡ maxTallyLength)
+        × (length (now spare) ≡ maxTallyLength) ⌝ }
     ensures { λ r. ⌜ IfRead (Ended (now (spare .entry)) p (now (out .entry)) (now (out .exit))) r ⌝ }
 {
     let BytesRead::Bytes(n) = read_bytes(input, &mut bytes[..1]) else {
@@ -155,7 +156,8 @@ fn read_sheet(
     places: &mut [usize; NODES],
     scratch: &mut [usize; NODES],
 ) -> SheetRead
-    requires { ⌜ Ready (now bytes) (now out) (now spare) (now ids) (now counts) × Carries (now spare) p (noRecords byOne) ⌝ }
+    requires { ⌜ Ready (now bytes) (now out) (now spare) (now ids) (now counts)
+        × Carries (now spare) p (noRecords byOne) ⌝ }
     ensures { λ r. ⌜ IfRead (CountedInto (now (out .entry)) (now (out .exit))) r ⌝ }
 {
     let BytesRead::Bytes(got) = read_bytes(input, &mut bytes[..HEAD_LENGTH]) else {

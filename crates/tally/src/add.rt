@@ -17,7 +17,7 @@ use wire::store::put_u64;
 ghost use mathlib.Core.Path.{_≡_};
 ghost use Prim.Native.Nat.{_+_, _≤_, _<_};
 ghost use lib.ListN.{length};
-ghost use Rattle.wire.specs.Answer.{lent, mapAnswer};
+ghost use Rattle.wire.specs.Answer.{Answered};
 ghost use Rattle.tally.specs.Tally.{one};
 ghost use Rattle.tally.specs.Operations.{addOf};
 ghost use Rattle.tally.specs.Told.{toldAdd};
@@ -26,7 +26,8 @@ ghost use Rattle.tally.specs.LookedUp.{rowInserted, AddReady, AddedAs};
 // A new row in front of the first n bytes of a part, which move back.
 fn insert_row(tail: &mut [u8], n: usize, name: &[u8], count: u64)
     requires { ⌜ (length (now name) < 65536) × (n + (length (now name) + 10) ≤ length (now tail)) ⌝ }
-    ensures { λ _. ⌜ now (tail .exit) ≡ rowInserted n (record { name = now (name .entry); count = count }) (now (tail .entry)) ⌝ }
+    ensures { λ _. ⌜ now (tail .exit)
+        ≡ rowInserted n (record { name = now (name .entry); count = count }) (now (tail .entry)) ⌝ }
 {
     move_back(tail, n, name.len() + ROW_OVERHEAD);
     put_row(tail, 0, name, count);
@@ -44,10 +45,11 @@ pub enum AddAnswer {
 // A count added to a tally of so many rows in the first `used` bytes of a buffer.
 fn add_row(buffer: &mut [u8], used: usize, rows: u32, name: &[u8], count: u64) -> AddAnswer
     requires { ⌜ AddReady (now buffer) used rows (record { name = now name; count = count }) ⌝ }
-    ensures { λ r. ⌜ AddedAs (now (buffer .entry)) (now (buffer .exit)) used (record { name = now (name .entry); count = count }) r ⌝ }
+    ensures { λ r. ⌜ AddedAs (now (buffer .entry)) (now (buffer .exit)) used
+        (record { name = now (name .entry); count = count }) r ⌝ }
 {
     match look_up(&buffer[HEAD_LENGTH..used], name) {
-        Lookup::Present(at, before) => {
+        Lookup::Present { at, count: before } => {
             if MAX_COUNT - before < count {
                 return AddAnswer::TooMany;
             }
@@ -76,8 +78,8 @@ fn add_row(buffer: &mut [u8], used: usize, rows: u32, name: &[u8], count: u64) -
 
 // Adds a count to a name in the tally that the first `used` bytes of a buffer are.
 pub fn add(buffer: &mut [u8], used: usize, name: &[u8], count: u64) -> AddAnswer
-    ensures { λ r. ⌜ toldAdd r ≡ mapAnswer length (addOf one (now (buffer .entry)) used (record { name = now (name .entry); count = count })) ⌝ }
-    ensures { λ _. ⌜ now (buffer .exit) ≡ lent (addOf one (now (buffer .entry)) used (record { name = now (name .entry); count = count })) (now (buffer .entry)) ⌝ }
+    ensures { λ r. ⌜ Answered (toldAdd r) (now (buffer .entry)) (now (buffer .exit))
+        (addOf one (now (buffer .entry)) used (record { name = now (name .entry); count = count })) ⌝ }
 {
     if MAX_NAME_LENGTH < name.len() {
         return AddAnswer::NameTooLong;

@@ -48,7 +48,7 @@ fn are_rows(s: &[u8], count: u32) -> bool
     let mut first = true;
     let mut left = count;
     while 0 < left {
-        let RowRead::Row(n, _) = front_row(rest) else {
+        let RowRead::Row { size: n, count: _ } = front_row(rest) else {
             return false;
         };
         let name = &rest[NAME_AT..n + NAME_AT];
@@ -79,8 +79,9 @@ pub fn check(t: &[u8]) -> CheckAnswer
 
 // The rows of a tally, to be taken from the front; an empty part where it is none.
 pub fn rows_of(t: &[u8]) -> &[u8]
-    ensures { λ r. ⌜ now r ≡ bytesOf (λ s. s) (rowsPart one (now (t .entry))) ⌝ }
-    ensures { λ r. ⌜ ptr r ≡ placeIn (t .entry) (startTold (λ _. headLength) (rowsPart one (now (t .entry)))) ⌝ }
+    ensures told { λ r. ⌜ now r ≡ bytesOf (λ s. s) (rowsPart one (now (t .entry))) ⌝ }
+    ensures place { λ r. ⌜ ptr r
+        ≡ placeIn (t .entry) (startTold (λ _. headLength) (rowsPart one (now (t .entry)))) ⌝ }
 {
     match check(t) {
         CheckAnswer::Tally(_) => &t[HEAD_LENGTH..],

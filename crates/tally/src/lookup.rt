@@ -10,7 +10,7 @@ ghost use Rattle.tally.specs.LookedUp.{lookupOf};
 
 // Where a name stands among rows: its row's place and count, or the place where its row would be.
 pub enum Lookup {
-    Present(usize, u64),
+    Present { at: usize, count: u64 },
     Absent(usize),
 }
 
@@ -21,7 +21,7 @@ pub fn look_up(s: &[u8], name: &[u8]) -> Lookup
     let mut rest = s;
     let mut at: usize = 0;
     loop {
-        let RowRead::Row(n, count) = front_row(rest) else {
+        let RowRead::Row { size: n, count } = front_row(rest) else {
             return Lookup::Absent(at);
         };
         match compare(&rest[NAME_AT..n + NAME_AT], name) {
@@ -30,7 +30,7 @@ pub fn look_up(s: &[u8], name: &[u8]) -> Lookup
                 at += n + ROW_OVERHEAD;
             }
             Order::Same => {
-                return Lookup::Present(at, count);
+                return Lookup::Present { at, count };
             }
             Order::After => {
                 return Lookup::Absent(at);

@@ -18,7 +18,7 @@ ghost use mathlib.Core.Path.{_≡_};
 ghost use mathlib.Core.List.{[]};
 ghost use Prim.Native.Nat.{_+_, _^_, _≤_, _<_};
 ghost use lib.ListN.{length};
-ghost use Rattle.wire.specs.Answer.{lent, mapAnswer};
+ghost use Rattle.wire.specs.Answer.{Answered};
 ghost use Rattle.tally.specs.Tally.{one};
 ghost use Rattle.tally.specs.Operations.{mergeOf};
 ghost use Rattle.tally.specs.Told.{toldMerge};
@@ -30,7 +30,12 @@ pub enum SumRow {
     // Its count would be too large.
     TooMany,
     // How many bytes of either list it takes the place of, its own size, and its count.
-    Row(usize, usize, usize, u64),
+    Row {
+        first: usize,
+        second: usize,
+        size: usize,
+        count: u64,
+    },
 }
 
 // The same where the first list is at its end.
@@ -39,34 +44,59 @@ fn sum_row_of_second(y: &[u8]) -> SumRow
 {
     match front_row(y) {
         RowRead::Malformed => SumRow::End,
-        RowRead::Row(m, d) => SumRow::Row(0, m + ROW_OVERHEAD, m + ROW_OVERHEAD, d),
+        RowRead::Row { size: m, count: d } => SumRow::Row {
+            first: 0,
+            second: m + ROW_OVERHEAD,
+            size: m + ROW_OVERHEAD,
+            count: d,
+        },
     }
 }
 
 fn sum_row(x: &[u8], y: &[u8]) -> SumRow
     ensures { λ r. ⌜ SumRowIs (now (x .entry)) (now (y .entry)) r ⌝ }
 {
-    let RowRead::Row(n, c) = front_row(x) else {
+    let RowRead::Row { size: n, count: c } = front_row(x) else {
         return sum_row_of_second(y);
     };
-    let RowRead::Row(m, d) = front_row(y) else {
-        return SumRow::Row(n + ROW_OVERHEAD, 0, n + ROW_OVERHEAD, c);
+    let RowRead::Row { size: m, count: d } = front_row(y) else {
+        return SumRow::Row {
+            first: n + ROW_OVERHEAD,
+            second: 0,
+            size: n + ROW_OVERHEAD,
+            count: c,
+        };
     };
     match compare(&x[NAME_AT..n + NAME_AT], &y[NAME_AT..m + NAME_AT]) {
-        Order::Before => SumRow::Row(n + ROW_OVERHEAD, 0, n + ROW_OVERHEAD, c),
-        Order::After => SumRow::Row(0, m + ROW_OVERHEAD, m + ROW_OVERHEAD, d),
+        Order::Before => SumRow::Row {
+            first: n + ROW_OVERHEAD,
+            second: 0,
+            size: n + ROW_OVERHEAD,
+            count: c,
+        },
+        Order::After => SumRow::Row {
+            first: 0,
+            second: m + ROW_OVERHEAD,
+            size: m + ROW_OVERHEAD,
+            count: d,
+        },
         Order::Same => {
             if MAX_COUNT - c < d {
                 return SumRow::TooMany;
             }
-            SumRow::Row(n + ROW_OVERHEAD, m + ROW_OVERHEAD, n + ROW_OVERHEAD, c + d)
+            SumRow::Row {
+                first: n + ROW_OVERHEAD,
+                second: m + ROW_OVERHEAD,
+                size: n + ROW_OVERHEAD,
+                count: c + d,
+            }
         }
     }
 }
 
 // How many rows a sum has and how long they are, or that a count is too large.
 pub enum Measured {
-    Rows(u64, usize),
+    Rows { rows: u64, size: usize },
     TooMany,
 }
 
@@ -80,12 +110,17 @@ fn measure(a: &[u8], b: &[u8]) -> Measured
     loop {
         match sum_row(x, y) {
             SumRow::End => {
-                return Measured::Rows(rows, size);
+                return Measured::Rows { rows, size };
             }
             SumRow::TooMany => {
                 return Measured::TooMany;
             }
-            SumRow::Row(first, second, n, _) => {
+            SumRow::Row {
+                first,
+                second,
+                size: n,
+                count: _,
+            } => {
                 x = &x[first..];
                 y = &y[second..];
                 rows += 1;
@@ -108,7 +143,8 @@ fn put_with_count(out: &mut [u8], at: usize, s: &[u8], size: usize, count: u64)
 // The next row of a sum, whose name stands in x, or in y where it takes the place of nothing in x.
 fn put_sum_row(out: &mut [u8], at: usize, x: &[u8], y: &[u8], first: usize, size: usize, count: u64)
     requires { ⌜ (8 ≤ size) × (size ≤ length (side first (now x) (now y))) × (at + size < 2 ^ 64) ⌝ }
-    ensures { λ _. ⌜ now (out .exit) ≡ putWithCount at (side first (now (x .entry)) (now (y .entry))) size count (now (out .entry)) ⌝ }
+    ensures { λ _. ⌜ now (out .exit)
+        ≡ putWithCount at (side first (now (x .entry)) (now (y .entry))) size count (now (out .entry)) ⌝ }
 {
     if first == 0 {
         put_with_count(out, at, y, size, count);
@@ -131,7 +167,12 @@ fn put_rows(out: &mut [u8], a: &[u8], b: &[u8])
             SumRow::TooMany => {
                 return;
             }
-            SumRow::Row(first, second, size, count) => {
+            SumRow::Row {
+                first,
+                second,
+                size,
+                count,
+            } => {
                 put_sum_row(out, at, x, y, first, size, count);
                 x = &x[first..];
                 y = &y[second..];
@@ -153,7 +194,7 @@ pub enum MergeAnswer {
 fn merge_rows(a: &[u8], b: &[u8], out: &mut [u8]) -> MergeAnswer
     ensures { λ r. ⌜ MergedAs (now (a .entry)) (now (b .entry)) (now (out .entry)) (now (out .exit)) r ⌝ }
 {
-    let Measured::Rows(rows, size) = measure(a, b) else {
+    let Measured::Rows { rows, size } = measure(a, b) else {
         return MergeAnswer::TooMany;
     };
     if (MAX_ROWS as u64) < rows {
@@ -172,8 +213,8 @@ fn merge_rows(a: &[u8], b: &[u8], out: &mut [u8]) -> MergeAnswer
 
 // The sum of two tallies, by name. It is measured before a byte is written, so that a refusal leaves the output as it was.
 pub fn merge(a: &[u8], b: &[u8], out: &mut [u8]) -> MergeAnswer
-    ensures { λ r. ⌜ toldMerge r ≡ mapAnswer length (mergeOf one (length (now (out .entry))) (now (a .entry)) (now (b .entry))) ⌝ }
-    ensures { λ _. ⌜ now (out .exit) ≡ lent (mergeOf one (length (now (out .entry))) (now (a .entry)) (now (b .entry))) (now (out .entry)) ⌝ }
+    ensures { λ r. ⌜ Answered (toldMerge r) (now (out .entry)) (now (out .exit))
+        (mergeOf one (length (now (out .entry))) (now (a .entry)) (now (b .entry))) ⌝ }
 {
     let CheckAnswer::Tally(_) = check(a) else {
         return MergeAnswer::Malformed;

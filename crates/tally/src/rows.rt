@@ -36,7 +36,7 @@ pub const MAX_ROWS: u32 = 4294967295;
 
 // The length of the name and the count, or that no row stands there.
 pub enum RowRead {
-    Row(usize, u64),
+    Row { size: usize, count: u64 },
     Malformed,
 }
 
@@ -53,12 +53,12 @@ pub fn front_row(s: &[u8]) -> RowRead
     if count == 0 {
         return RowRead::Malformed;
     }
-    RowRead::Row(n, count)
+    RowRead::Row { size: n, count }
 }
 
 pub enum RowAnswer {
     // The count, and the row's length.
-    Row(u64, usize),
+    Row { count: u64, length: usize },
     NoSuchRow,
     Malformed,
 }
@@ -71,36 +71,41 @@ pub fn row_of(part: &[u8]) -> RowAnswer
         return RowAnswer::NoSuchRow;
     }
     match front_row(part) {
-        RowRead::Row(n, count) => RowAnswer::Row(count, n + ROW_OVERHEAD),
+        RowRead::Row { size: n, count } => RowAnswer::Row {
+            count,
+            length: n + ROW_OVERHEAD,
+        },
         RowRead::Malformed => RowAnswer::Malformed,
     }
 }
 
 // The name in the front row.
 pub fn name_of(part: &[u8]) -> &[u8]
-    ensures { λ r. ⌜ now r ≡ bytesOf (λ (x : TallyRow one × ℕ). x .0 .name) (frontOf one (now (part .entry))) ⌝ }
-    ensures { λ r. ⌜ ptr r ≡ placeIn (part .entry) (startTold (λ _. 2) (frontOf one (now (part .entry)))) ⌝ }
+    ensures told { λ r. ⌜ now r ≡ bytesOf (λ (x : TallyRow one × ℕ). x .0 .name) (frontOf one (now (part .entry))) ⌝ }
+    ensures place { λ r. ⌜ ptr r ≡ placeIn (part .entry) (startTold (λ _. 2) (frontOf one (now (part .entry)))) ⌝ }
 {
     match front_row(part) {
-        RowRead::Row(n, _) => &part[NAME_AT..n + NAME_AT],
+        RowRead::Row { size: n, count: _ } => &part[NAME_AT..n + NAME_AT],
         RowRead::Malformed => &part[..0],
     }
 }
 
 // What remains behind the front row.
 pub fn behind_row(part: &[u8]) -> &[u8]
-    ensures { λ r. ⌜ now r ≡ rowsBehind (now (part .entry)) (frontOf one (now (part .entry))) ⌝ }
-    ensures { λ r. ⌜ ptr r ≡ placeIn (part .entry) (startTold (λ (x : TallyRow one × ℕ). x .1) (frontOf one (now (part .entry)))) ⌝ }
+    ensures told { λ r. ⌜ now r ≡ rowsBehind (now (part .entry)) (frontOf one (now (part .entry))) ⌝ }
+    ensures place { λ r. ⌜ ptr r
+        ≡ placeIn (part .entry) (startTold (λ (x : TallyRow one × ℕ). x .1) (frontOf one (now (part .entry)))) ⌝ }
 {
     match front_row(part) {
-        RowRead::Row(n, _) => &part[n + ROW_OVERHEAD..],
+        RowRead::Row { size: n, count: _ } => &part[n + ROW_OVERHEAD..],
         RowRead::Malformed => &part[..0],
     }
 }
 
 // A row at a place of a buffer, where it fits and its name is none too long; else nothing changes.
 pub fn put_row(out: &mut [u8], at: usize, name: &[u8], count: u64)
-    ensures { λ _. ⌜ now (out .exit) ≡ rowStored at (record { name = now (name .entry); count = count }) (now (out .entry)) ⌝ }
+    ensures { λ _. ⌜ now (out .exit)
+        ≡ rowStored at (record { name = now (name .entry); count = count }) (now (out .entry)) ⌝ }
 {
     if MAX_NAME_LENGTH < name.len() {
         return;

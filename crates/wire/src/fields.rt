@@ -142,7 +142,8 @@ pub fn s64_at(s: &[u8], at: usize) -> S64
 // A run behind its length of k bytes.
 fn run_at(s: &[u8], at: usize, k: usize) -> Run
     requires { ⌜ (0 < k) × (k ≤ 8) ⌝ }
-    ensures { λ r. ⌜ toldRun k (drop at (now (s .entry))) r ≡ prefixed {ends = short} k .read (drop at (now (s .entry))) ⌝ }
+    ensures { λ r. ⌜ toldRun k (drop at (now (s .entry))) r
+        ≡ prefixed {ends = short} k .read (drop at (now (s .entry))) ⌝ }
 {
     match number_at(s, at, k) {
         U64::Ends => Run::Ends(0),
@@ -159,14 +160,16 @@ fn run_at(s: &[u8], at: usize, k: usize) -> Run
 
 // A run behind a u16 length.
 pub fn run16_at(s: &[u8], at: usize) -> Run
-    ensures { λ r. ⌜ toldRun 2 (drop at (now (s .entry))) r ≡ prefixed {ends = short} 2 .read (drop at (now (s .entry))) ⌝ }
+    ensures { λ r. ⌜ toldRun 2 (drop at (now (s .entry))) r
+        ≡ prefixed {ends = short} 2 .read (drop at (now (s .entry))) ⌝ }
 {
     run_at(s, at, 2)
 }
 
 // A run behind a u32 length.
 pub fn run32_at(s: &[u8], at: usize) -> Run
-    ensures { λ r. ⌜ toldRun 4 (drop at (now (s .entry))) r ≡ prefixed {ends = short} 4 .read (drop at (now (s .entry))) ⌝ }
+    ensures { λ r. ⌜ toldRun 4 (drop at (now (s .entry))) r
+        ≡ prefixed {ends = short} 4 .read (drop at (now (s .entry))) ⌝ }
 {
     run_at(s, at, 4)
 }

@@ -49,7 +49,8 @@ pub fn read_head(s: &[u8], mark: &[u8; 3]) -> HeadRead
 
 // The head, where it fits; where it does not, nothing changes.
 pub fn put_head(out: &mut [u8], mark: &[u8; 3], number: u32)
-    ensures { λ _. ⌜ now (out .exit) ≡ stored 0 (head {ends = short} (now (mark .entry)) .encode number) (now (out .entry)) ⌝ }
+    ensures { λ _. ⌜ now (out .exit)
+        ≡ stored 0 (head {ends = short} (now (mark .entry)) .encode number) (now (out .entry)) ⌝ }
 {
     // A slice of an array tells proofs its length.
     let bytes: &[u8] = mark;

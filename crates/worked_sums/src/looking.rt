@@ -142,7 +142,7 @@ fn objects_and_timers(block: &[u8]) {
 // The count in the front row of a tally, 0 where there is none.
 fn count_of(rows: &[u8]) -> u64 {
     match row_of(rows) {
-        RowAnswer::Row(count, _) => count,
+        RowAnswer::Row { count, length: _ } => count,
         RowAnswer::NoSuchRow => 0,
         RowAnswer::Malformed => 0,
     }

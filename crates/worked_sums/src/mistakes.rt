@@ -34,7 +34,10 @@ fn negative_key() {
 fn inventory_length(s: &[u8]) -> usize {
     match inventory(s) {
         Reach::End(n) => n,
-        Reach::Refused(_, _) => 0,
+        Reach::Refused {
+            fault: _,
+            offset: _,
+        } => 0,
     }
 }
 
