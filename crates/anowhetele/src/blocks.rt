@@ -78,10 +78,7 @@ pub extern "C" fn anow_read(
             sections,
         },
         ReadAnswer::Misfit => no_block(plain(PARTS_MISFIT)),
-        ReadAnswer::Refused {
-            fault: f,
-            offset: p,
-        } => no_block(refused(f, p)),
+        ReadAnswer::Refused { fault, offset } => no_block(refused(fault, offset)),
     }
 }
 
@@ -95,10 +92,7 @@ pub extern "C" fn anow_sections(block: &[u8]) -> AnowBlock
             head,
             sections,
         },
-        SectionsAnswer::Refused {
-            fault: f,
-            offset: p,
-        } => no_block(refused(f, p)),
+        SectionsAnswer::Refused { fault, offset } => no_block(refused(fault, offset)),
     }
 }
 
@@ -127,9 +121,6 @@ pub extern "C" fn anow_node_name(block: &[u8], index: u64) -> AnowNode
             name,
         },
         NodeNameAnswer::NoSuchNode => no_node(plain(NO_SUCH)),
-        NodeNameAnswer::Refused {
-            fault: f,
-            offset: p,
-        } => no_node(refused(f, p)),
+        NodeNameAnswer::Refused { fault, offset } => no_node(refused(fault, offset)),
     }
 }

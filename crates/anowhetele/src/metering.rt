@@ -44,10 +44,7 @@ pub extern "C" fn anow_tally_block(
         BlockAnswer::Tallied(n) => done(n),
         BlockAnswer::BadPart => plain(BAD_PART),
         BlockAnswer::OutOfRange => plain(OUT_OF_RANGE),
-        BlockAnswer::Refused {
-            fault: f,
-            offset: p,
-        } => refused(f, p),
+        BlockAnswer::Refused { fault, offset } => refused(fault, offset),
         BlockAnswer::NoRoom => plain(NO_ROOM),
     }
 }
@@ -59,10 +56,7 @@ fn record_refused(fault: RecordFault, index: u32) -> AnowAnswer
     match fault {
         RecordFault::OutOfRange => in_record(OUT_OF_RANGE, index, 0),
         RecordFault::NotRising => in_record(SHEET_MALFORMED, index, 0),
-        RecordFault::Block {
-            fault: f,
-            offset: p,
-        } => in_record(refusal_number(f), index, p),
+        RecordFault::Block { fault: f, offset } => in_record(refusal_number(f), index, offset),
     }
 }
 
@@ -75,7 +69,7 @@ pub fn sheet_answer(answer: SheetAnswer) -> AnowAnswer
         SheetAnswer::BadPart => plain(BAD_PART),
         SheetAnswer::Misfit => plain(PARTS_MISFIT),
         SheetAnswer::Malformed(i) => in_record(SHEET_MALFORMED, i, 0),
-        SheetAnswer::Record { fault: f, index: i } => record_refused(f, i),
+        SheetAnswer::Record { fault, index: i } => record_refused(fault, i),
         SheetAnswer::NoRoom(i) => in_record(NO_ROOM, i, 0),
         SheetAnswer::TooMany(i) => in_record(TOO_MANY, i, 0),
     }

@@ -50,10 +50,7 @@ pub extern "C" fn anow_row_name(part: &[u8]) -> AnowNameRow
             }
         }
         NameRowAnswer::NoSuchRow => no_name(plain(NO_SUCH)),
-        NameRowAnswer::Refused {
-            fault: f,
-            offset: p,
-        } => no_name(refused(f, p)),
+        NameRowAnswer::Refused { fault, offset } => no_name(refused(fault, offset)),
     }
 }
 
@@ -103,10 +100,7 @@ pub extern "C" fn anow_row_metadata(version: u8, part: &[u8]) -> AnowMetadataRow
             }
         }
         MetadataRowAnswer::NoSuchRow => no_metadata(plain(NO_SUCH)),
-        MetadataRowAnswer::Refused {
-            fault: f,
-            offset: p,
-        } => no_metadata(refused(f, p)),
+        MetadataRowAnswer::Refused { fault, offset } => no_metadata(refused(fault, offset)),
     }
 }
 
@@ -151,10 +145,7 @@ pub extern "C" fn anow_row_object(part: &[u8]) -> AnowObjectRow
             }
         }
         ObjectRowAnswer::NoSuchRow => no_object(plain(NO_SUCH)),
-        ObjectRowAnswer::Refused {
-            fault: f,
-            offset: p,
-        } => no_object(refused(f, p)),
+        ObjectRowAnswer::Refused { fault, offset } => no_object(refused(fault, offset)),
     }
 }
 
@@ -190,9 +181,6 @@ pub extern "C" fn anow_row_timer(part: &[u8]) -> AnowTimerRow
             elapsed: row.elapsed,
         },
         TimerRowAnswer::NoSuchRow => no_timer(plain(NO_SUCH)),
-        TimerRowAnswer::Refused {
-            fault: f,
-            offset: p,
-        } => no_timer(refused(f, p)),
+        TimerRowAnswer::Refused { fault, offset } => no_timer(refused(fault, offset)),
     }
 }

@@ -43,10 +43,7 @@ pub extern "C" fn anow_write(
     ) {
         WriteAnswer::Written(n) => done(n),
         WriteAnswer::Misfit => plain(PARTS_MISFIT),
-        WriteAnswer::Refused {
-            fault: f,
-            offset: p,
-        } => refused(f, p),
+        WriteAnswer::Refused { fault, offset } => refused(fault, offset),
         WriteAnswer::NoRoom => plain(NO_ROOM),
     }
 }

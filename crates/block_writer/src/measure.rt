@@ -43,12 +43,9 @@ fn shift(at: usize, r: Reach) -> Reach
 {
     match r {
         Reach::End(n) => Reach::End(at + n),
-        Reach::Refused {
-            fault: f,
-            offset: p,
-        } => Reach::Refused {
-            fault: f,
-            offset: at + p,
+        Reach::Refused { fault, offset } => Reach::Refused {
+            fault,
+            offset: at + offset,
         },
     }
 }
@@ -334,13 +331,7 @@ pub(crate) fn measure(
             objects,
             timers,
         ) {
-            Reach::Refused {
-                fault: f,
-                offset: p,
-            } => Measured::Refused {
-                fault: f,
-                offset: p,
-            },
+            Reach::Refused { fault, offset } => Measured::Refused { fault, offset },
             Reach::End(n) => Measured::Fits {
                 counts: c,
                 length: n,

@@ -320,13 +320,7 @@ pub fn write(
         timers,
     ) {
         Measured::Misfit => WriteAnswer::Misfit,
-        Measured::Refused {
-            fault: f,
-            offset: p,
-        } => WriteAnswer::Refused {
-            fault: f,
-            offset: p,
-        },
+        Measured::Refused { fault, offset } => WriteAnswer::Refused { fault, offset },
         Measured::Fits {
             counts: c,
             length: n,

@@ -34,12 +34,9 @@ fn fixed_list(kind: ListKind, version: u8, s: &[u8], value: u8, fault: Fault) ->
         return Reach::Refused { fault, offset: 0 };
     }
     match listed(kind, version, &s[1..]) {
-        Reach::Refused {
+        Reach::Refused { fault: f, offset } => Reach::Refused {
             fault: f,
-            offset: p,
-        } => Reach::Refused {
-            fault: f,
-            offset: 1 + p,
+            offset: 1 + offset,
         },
         Reach::End(n) => Reach::End(1 + n),
     }
@@ -63,12 +60,9 @@ fn old_metadata(version: u8, s: &[u8]) -> Reach
         };
     }
     match listed(ListKind::Metadata, version, &s[2..]) {
-        Reach::Refused {
-            fault: f,
-            offset: p,
-        } => Reach::Refused {
-            fault: f,
-            offset: 2 + p,
+        Reach::Refused { fault, offset } => Reach::Refused {
+            fault,
+            offset: 2 + offset,
         },
         Reach::End(n) => Reach::End(2 + n),
     }
@@ -124,12 +118,9 @@ fn timers_of_24(s: &[u8]) -> EarlyRead
         return EarlyRead::Timers { byte: 0, length: 1 };
     }
     match listed(ListKind::Timers, 24, &s[1..]) {
-        Reach::Refused {
-            fault: f,
-            offset: p,
-        } => EarlyRead::Refused {
-            fault: f,
-            offset: 1 + p,
+        Reach::Refused { fault, offset } => EarlyRead::Refused {
+            fault,
+            offset: 1 + offset,
         },
         Reach::End(n) => EarlyRead::Timers {
             byte: 1,

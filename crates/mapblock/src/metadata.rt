@@ -98,13 +98,10 @@ fn variables(version: u8, s: &[u8], count: u32) -> Reach
     let mut left = count;
     while 0 < left {
         match variable(version, rest) {
-            Reach::Refused {
-                fault: f,
-                offset: p,
-            } => {
+            Reach::Refused { fault, offset } => {
                 return Reach::Refused {
-                    fault: f,
-                    offset: at + p,
+                    fault,
+                    offset: at + offset,
                 };
             }
             Reach::End(n) => {
@@ -167,20 +164,14 @@ fn new_row(version: u8, at: u16, s: &[u8]) -> MetadataRead
         };
     };
     match variables(version, &s[6..], count) {
-        Reach::Refused {
-            fault: f,
-            offset: p,
-        } => MetadataRead::Refused {
-            fault: f,
-            offset: 6 + p,
+        Reach::Refused { fault, offset } => MetadataRead::Refused {
+            fault,
+            offset: 6 + offset,
         },
         Reach::End(n) => match inventory(&s[6 + n..]) {
-            Reach::Refused {
-                fault: f,
-                offset: p,
-            } => MetadataRead::Refused {
-                fault: f,
-                offset: 6 + n + p,
+            Reach::Refused { fault, offset } => MetadataRead::Refused {
+                fault,
+                offset: 6 + n + offset,
             },
             Reach::End(m) => {
                 let fields = MetadataFields {

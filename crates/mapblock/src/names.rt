@@ -131,14 +131,11 @@ pub fn name_rows(s: &[u8], count: u16, ids: &mut [u8; IDS]) -> Reach
     let mut left = count;
     while 0 < left {
         match new_name_row(rest, ids) {
-            NameRead::Refused {
-                fault: f,
-                offset: p,
-            } => {
+            NameRead::Refused { fault, offset } => {
                 unmark(s, count - left, ids);
                 return Reach::Refused {
-                    fault: f,
-                    offset: at + p,
+                    fault,
+                    offset: at + offset,
                 };
             }
             NameRead::Row { row, length: n } => {
@@ -200,12 +197,9 @@ pub(crate) fn name_mapping(s: &[u8], ids: &mut [u8; IDS]) -> NameMappingRead
         };
     };
     match name_rows(&s[NAMES_HEAD_LENGTH..], count, ids) {
-        Reach::Refused {
-            fault: f,
-            offset: p,
-        } => NameMappingRead::Refused {
-            fault: f,
-            offset: NAMES_HEAD_LENGTH + p,
+        Reach::Refused { fault, offset } => NameMappingRead::Refused {
+            fault,
+            offset: NAMES_HEAD_LENGTH + offset,
         },
         Reach::End(n) => NameMappingRead::Rows {
             timestamp,

@@ -65,23 +65,14 @@ pub fn locate_node_name(block: &[u8], index: usize) -> NodeNameAnswer
     ensures { λ r. ⌜ toldNodeName r ≡ nodeNameOf (now (block .entry)) index ⌝ }
 {
     match judge(block) {
-        ScanRead::Refused {
-            fault: f,
-            offset: p,
-        } => NodeNameAnswer::Refused {
-            fault: f,
-            offset: p,
-        },
-        ScanRead::Taken {
-            scanned: found,
-            length: _,
-        } => {
+        ScanRead::Refused { fault, offset } => NodeNameAnswer::Refused { fault, offset },
+        ScanRead::Taken { scanned, length: _ } => {
             if NODES <= index {
                 return NodeNameAnswer::NoSuchNode;
             }
-            let head = found.head;
-            let lists = found.lists;
-            let sections = found.sections;
+            let head = scanned.head;
+            let lists = scanned.lists;
+            let sections = scanned.sections;
             let names = sections.names;
             let id = id_of(head.version, &block[lists..], index);
             NodeNameAnswer::Name(find(slice_of(block, names), names.start, id))

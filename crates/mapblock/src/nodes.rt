@@ -76,12 +76,9 @@ pub(crate) fn node_data(version: u8, s: &[u8]) -> Reach
         };
     }
     match params(version, &s[2..]) {
-        Reach::Refused {
-            fault: f,
-            offset: p,
-        } => Reach::Refused {
-            fault: f,
-            offset: 2 + p,
+        Reach::Refused { fault, offset } => Reach::Refused {
+            fault,
+            offset: 2 + offset,
         },
         Reach::End(n) => Reach::End(2 + n),
     }

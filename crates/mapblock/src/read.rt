@@ -118,20 +118,11 @@ pub fn read(block: &[u8], param0: &mut [u16], param1: &mut [u8], param2: &mut [u
         return ReadAnswer::Misfit;
     }
     match judge(block) {
-        ScanRead::Refused {
-            fault: f,
-            offset: p,
-        } => ReadAnswer::Refused {
-            fault: f,
-            offset: p,
-        },
-        ScanRead::Taken {
-            scanned: found,
-            length: _,
-        } => {
-            let head = found.head;
-            let lists = found.lists;
-            let sections = found.sections;
+        ScanRead::Refused { fault, offset } => ReadAnswer::Refused { fault, offset },
+        ScanRead::Taken { scanned, length: _ } => {
+            let head = scanned.head;
+            let lists = scanned.lists;
+            let sections = scanned.sections;
             fill(head.version, &block[lists..], param0, param1, param2);
             ReadAnswer::Block { head, sections }
         }
@@ -149,19 +140,10 @@ pub fn sections(block: &[u8]) -> SectionsAnswer
     ensures { λ r. ⌜ toldSections r ≡ sectionsOf (now (block .entry)) ⌝ }
 {
     match judge(block) {
-        ScanRead::Refused {
-            fault: f,
-            offset: p,
-        } => SectionsAnswer::Refused {
-            fault: f,
-            offset: p,
-        },
-        ScanRead::Taken {
-            scanned: found,
-            length: _,
-        } => {
-            let head = found.head;
-            let sections = found.sections;
+        ScanRead::Refused { fault, offset } => SectionsAnswer::Refused { fault, offset },
+        ScanRead::Taken { scanned, length: _ } => {
+            let head = scanned.head;
+            let sections = scanned.sections;
             SectionsAnswer::Block { head, sections }
         }
     }

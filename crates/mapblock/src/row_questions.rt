@@ -43,13 +43,7 @@ pub fn name_row_of(part: &[u8]) -> NameRowAnswer
     }
     match name_row(part) {
         NameRead::Row { row, length: n } => NameRowAnswer::Row { row, length: n },
-        NameRead::Refused {
-            fault: f,
-            offset: p,
-        } => NameRowAnswer::Refused {
-            fault: f,
-            offset: p,
-        },
+        NameRead::Refused { fault, offset } => NameRowAnswer::Refused { fault, offset },
     }
 }
 
@@ -97,13 +91,7 @@ pub fn metadata_row_of(version: u8, part: &[u8]) -> MetadataRowAnswer
     }
     match metadata_row(version, part) {
         MetadataRead::Row { row, length: n } => MetadataRowAnswer::Row { row, length: n },
-        MetadataRead::Refused {
-            fault: f,
-            offset: p,
-        } => MetadataRowAnswer::Refused {
-            fault: f,
-            offset: p,
-        },
+        MetadataRead::Refused { fault, offset } => MetadataRowAnswer::Refused { fault, offset },
     }
 }
 
@@ -168,13 +156,7 @@ pub fn object_row_of(part: &[u8]) -> ObjectRowAnswer
     }
     match object_row(part) {
         ObjectRead::Row { row, length: n } => ObjectRowAnswer::Row { row, length: n },
-        ObjectRead::Refused {
-            fault: f,
-            offset: p,
-        } => ObjectRowAnswer::Refused {
-            fault: f,
-            offset: p,
-        },
+        ObjectRead::Refused { fault, offset } => ObjectRowAnswer::Refused { fault, offset },
     }
 }
 
@@ -219,13 +201,7 @@ pub fn timer_row_of(part: &[u8]) -> TimerRowAnswer
             row,
             length: TIMER_ROW_LENGTH,
         },
-        TimerRead::Refused {
-            fault: f,
-            offset: p,
-        } => TimerRowAnswer::Refused {
-            fault: f,
-            offset: p,
-        },
+        TimerRead::Refused { fault, offset } => TimerRowAnswer::Refused { fault, offset },
     }
 }
 

@@ -33,33 +33,15 @@ fn row_alone(kind: ListKind, version: u8, s: &[u8]) -> Reach
     match kind {
         ListKind::Metadata => match metadata_row(version, s) {
             MetadataRead::Row { row: _, length: n } => Reach::End(n),
-            MetadataRead::Refused {
-                fault: f,
-                offset: p,
-            } => Reach::Refused {
-                fault: f,
-                offset: p,
-            },
+            MetadataRead::Refused { fault, offset } => Reach::Refused { fault, offset },
         },
         ListKind::Objects => match object_row(s) {
             ObjectRead::Row { row: _, length: n } => Reach::End(n),
-            ObjectRead::Refused {
-                fault: f,
-                offset: p,
-            } => Reach::Refused {
-                fault: f,
-                offset: p,
-            },
+            ObjectRead::Refused { fault, offset } => Reach::Refused { fault, offset },
         },
         ListKind::Timers => match timer_row(s) {
             TimerRead::Row(_) => Reach::End(TIMER_ROW_LENGTH),
-            TimerRead::Refused {
-                fault: f,
-                offset: p,
-            } => Reach::Refused {
-                fault: f,
-                offset: p,
-            },
+            TimerRead::Refused { fault, offset } => Reach::Refused { fault, offset },
         },
     }
 }
@@ -90,13 +72,10 @@ pub fn rows(kind: ListKind, version: u8, s: &[u8], count: u16) -> Reach
     let mut left = count;
     while 0 < left {
         match row_after(kind, version, rest, &mut marks) {
-            Reach::Refused {
-                fault: f,
-                offset: p,
-            } => {
+            Reach::Refused { fault, offset } => {
                 return Reach::Refused {
-                    fault: f,
-                    offset: at + p,
+                    fault,
+                    offset: at + offset,
                 };
             }
             Reach::End(n) => {
@@ -120,12 +99,9 @@ pub(crate) fn listed(kind: ListKind, version: u8, s: &[u8]) -> Reach
         };
     };
     match rows(kind, version, &s[2..], count) {
-        Reach::Refused {
-            fault: f,
-            offset: p,
-        } => Reach::Refused {
-            fault: f,
-            offset: 2 + p,
+        Reach::Refused { fault, offset } => Reach::Refused {
+            fault,
+            offset: 2 + offset,
         },
         Reach::End(n) => Reach::End(2 + n),
     }

@@ -128,12 +128,9 @@ fn plain_front(s: &[u8], o: OpeningFields, at: usize, ids: &[u8; IDS]) -> FrontR
 {
     sized(ids);
     match node_data(o.version, &s[at..]) {
-        Reach::Refused {
-            fault: f,
-            offset: p,
-        } => FrontRead::Refused {
-            fault: f,
-            offset: at + p,
+        Reach::Refused { fault, offset } => FrontRead::Refused {
+            fault,
+            offset: at + offset,
         },
         Reach::End(n) => FrontRead::Fields(FrontFields {
             version: o.version,
@@ -153,26 +150,20 @@ fn named_front(s: &[u8], o: OpeningFields, at: usize, ids: &mut [u8; IDS]) -> Fr
     ensures { λ r. ⌜ FrontTold (now (ids .entry)) (now (ids .exit)) (now (s .entry)) r ⌝ }
 {
     match name_mapping(&s[at..], ids) {
-        NameMappingRead::Refused {
-            fault: f,
-            offset: p,
-        } => FrontRead::Refused {
-            fault: f,
-            offset: at + p,
+        NameMappingRead::Refused { fault, offset } => FrontRead::Refused {
+            fault,
+            offset: at + offset,
         },
         NameMappingRead::Rows {
             timestamp,
             count,
             length: n,
         } => match node_data(o.version, &s[at + n..]) {
-            Reach::Refused {
-                fault: f,
-                offset: p,
-            } => {
+            Reach::Refused { fault, offset } => {
                 unmark(&s[at + NAMES_HEAD_LENGTH..], count, ids);
                 FrontRead::Refused {
-                    fault: f,
-                    offset: at + n + p,
+                    fault,
+                    offset: at + n + offset,
                 }
             }
             Reach::End(m) => FrontRead::Fields(FrontFields {
@@ -192,13 +183,7 @@ fn front(s: &[u8], ids: &mut [u8; IDS]) -> FrontRead
     ensures { λ r. ⌜ FrontTold (now (ids .entry)) (now (ids .exit)) (now (s .entry)) r ⌝ }
 {
     match opening(s) {
-        OpeningRead::Refused {
-            fault: f,
-            offset: p,
-        } => FrontRead::Refused {
-            fault: f,
-            offset: p,
-        },
+        OpeningRead::Refused { fault, offset } => FrontRead::Refused { fault, offset },
         OpeningRead::Fields {
             fields: o,
             length: n,
@@ -230,31 +215,19 @@ fn middle(version: u8, s: &[u8]) -> MiddleRead
     ensures { λ r. ⌜ MiddleTold version (now (s .entry)) r ⌝ }
 {
     match metadata_list(version, s) {
-        Reach::Refused {
-            fault: f,
-            offset: p,
-        } => MiddleRead::Refused {
-            fault: f,
-            offset: p,
-        },
+        Reach::Refused { fault, offset } => MiddleRead::Refused { fault, offset },
         Reach::End(metadata) => match early_timers(version, &s[metadata..]) {
-            EarlyRead::Refused {
-                fault: f,
-                offset: p,
-            } => MiddleRead::Refused {
-                fault: f,
-                offset: metadata + p,
+            EarlyRead::Refused { fault, offset } => MiddleRead::Refused {
+                fault,
+                offset: metadata + offset,
             },
             EarlyRead::Timers {
                 byte: timer,
                 length: early,
             } => match object_list(version, &s[metadata + early..]) {
-                Reach::Refused {
-                    fault: f,
-                    offset: p,
-                } => MiddleRead::Refused {
-                    fault: f,
-                    offset: metadata + early + p,
+                Reach::Refused { fault, offset } => MiddleRead::Refused {
+                    fault,
+                    offset: metadata + early + offset,
                 },
                 Reach::End(objects) => MiddleRead::Lists(MiddleFields {
                     metadata,
@@ -369,12 +342,9 @@ fn ending(s: &[u8], w: Scanned, at: usize, ids: &[u8; IDS]) -> ScanRead
     let version = head.version;
     let lists = w.lists;
     match late_timers(version, &s[at..]) {
-        Reach::Refused {
-            fault: f,
-            offset: p,
-        } => ScanRead::Refused {
-            fault: f,
-            offset: at + p,
+        Reach::Refused { fault, offset } => ScanRead::Refused {
+            fault,
+            offset: at + offset,
         },
         Reach::End(n) => {
             if at + n < s.len() {
@@ -408,12 +378,9 @@ fn names_behind(s: &[u8], w: FrontFields, m: MiddleFields, ids: &mut [u8; IDS]) 
 {
     let at = w.end + m.metadata + m.early + m.objects;
     match name_mapping(&s[at..], ids) {
-        NameMappingRead::Refused {
-            fault: f,
-            offset: p,
-        } => ScanRead::Refused {
-            fault: f,
-            offset: at + p,
+        NameMappingRead::Refused { fault, offset } => ScanRead::Refused {
+            fault,
+            offset: at + offset,
         },
         NameMappingRead::Rows {
             timestamp,
@@ -438,12 +405,9 @@ fn behind_front(s: &[u8], w: FrontFields, ids: &mut [u8; IDS]) -> ScanRead
 {
     let end = w.end;
     match middle(w.version, &s[end..]) {
-        MiddleRead::Refused {
-            fault: f,
-            offset: p,
-        } => ScanRead::Refused {
-            fault: f,
-            offset: end + p,
+        MiddleRead::Refused { fault, offset } => ScanRead::Refused {
+            fault,
+            offset: end + offset,
         },
         MiddleRead::Lists(m) => {
             if w.version < 29 {
@@ -463,13 +427,7 @@ pub fn scan(s: &[u8], ids: &mut [u8; IDS]) -> ScanRead
     ensures ids { λ _. ⌜ now (ids .exit) ≡ now (ids .entry) ⌝ }
 {
     match front(s, ids) {
-        FrontRead::Refused {
-            fault: f,
-            offset: p,
-        } => ScanRead::Refused {
-            fault: f,
-            offset: p,
-        },
+        FrontRead::Refused { fault, offset } => ScanRead::Refused { fault, offset },
         FrontRead::Fields(w) => {
             let r = behind_front(s, w, ids);
             // Version 29's names: their rows stand behind step 1 and the list's head. Before it there are none here.

@@ -80,16 +80,7 @@ pub fn tally_block(key: i64, block: &[u8], part: Part, out: &mut [u8]) -> BlockA
         return BlockAnswer::OutOfRange;
     };
     match scan(block, &mut ids) {
-        ScanRead::Refused {
-            fault: f,
-            offset: p,
-        } => BlockAnswer::Refused {
-            fault: f,
-            offset: p,
-        },
-        ScanRead::Taken {
-            scanned: found,
-            length: _,
-        } => put_tally(block, found, at, part, out),
+        ScanRead::Refused { fault, offset } => BlockAnswer::Refused { fault, offset },
+        ScanRead::Taken { scanned, length: _ } => put_tally(block, scanned, at, part, out),
     }
 }

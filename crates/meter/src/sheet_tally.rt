@@ -57,8 +57,8 @@ fn take_records(
             TakeAnswer::Misframed(i) => {
                 return Records::Malformed(i);
             }
-            TakeAnswer::Refused { fault: f, index: i } => {
-                return Records::Refused { fault: f, index: i };
+            TakeAnswer::Refused { fault, index: i } => {
+                return Records::Refused { fault, index: i };
             }
             TakeAnswer::Taken {
                 progress: next,
@@ -133,7 +133,7 @@ fn from_start(
         scratch,
     ) {
         Records::Malformed(i) => SheetAnswer::Malformed(i),
-        Records::Refused { fault: f, index: i } => SheetAnswer::Record { fault: f, index: i },
+        Records::Refused { fault, index: i } => SheetAnswer::Record { fault, index: i },
         Records::Taken(q) => finished(finish(q, spare, out)),
     }
 }

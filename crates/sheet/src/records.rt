@@ -85,16 +85,10 @@ pub fn judge_record(last: LastKey, key: i64, block: &[u8], ids: &mut [u8; IDS]) 
         return RecordAnswer::Refused(RecordFault::NotRising);
     }
     match scan(block, ids) {
-        ScanRead::Refused {
-            fault: f,
-            offset: p,
-        } => RecordAnswer::Refused(RecordFault::Block {
-            fault: f,
-            offset: p,
+        ScanRead::Refused { fault, offset } => RecordAnswer::Refused(RecordFault::Block {
+            fault,
+            offset,
         }),
-        ScanRead::Taken {
-            scanned: found,
-            length: _,
-        } => RecordAnswer::Taken { at, scanned: found },
+        ScanRead::Taken { scanned, length: _ } => RecordAnswer::Taken { at, scanned },
     }
 }

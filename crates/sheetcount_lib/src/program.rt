@@ -102,8 +102,8 @@ pub(crate) fn take_next(
             scratch,
         ) {
             TakeAnswer::Misframed(i) => Step::Stop(NextFault::Misframed(i)),
-            TakeAnswer::Refused { fault: f, index: i } => Step::Stop(NextFault::Record {
-                fault: f,
+            TakeAnswer::Refused { fault, index: i } => Step::Stop(NextFault::Record {
+                fault,
                 index: i,
             }),
             TakeAnswer::Taken {
@@ -121,7 +121,7 @@ pub(crate) fn stopped(f: NextFault) -> SheetAnswer
     match f {
         NextFault::Misframed(i) => SheetAnswer::Malformed(i),
         NextFault::TooLong(i) => SheetAnswer::NoRoom(i),
-        NextFault::Record { fault: e, index: i } => SheetAnswer::Record { fault: e, index: i },
+        NextFault::Record { fault, index: i } => SheetAnswer::Record { fault, index: i },
     }
 }
 

@@ -24,8 +24,8 @@ plain-requires c κs = search needs
 no-node-requires : tie.Need-no-node-requires
 no-node-requires c κs = search needs
 
-enum-known-f : tie.Need-enum-known-f
-enum-known-f c = search needs
+enum-known-fault : tie.Need-enum-known-fault
+enum-known-fault c = search needs
 
 refused-requires : tie.Need-refused-requires
 refused-requires c κs = search needs
@@ -40,7 +40,7 @@ returns-2 : tie.Need-returns-2
 returns-2 c = c .no-node .ensures ∙ ap noNode (c .before .plain .ensures) ∙ ap handedNode (told-as toldNodeName (c .before .before .before .before .locate-node-name .ensures) (c .before .before .enum-told .given .1))
 
 returns-3 : tie.Need-returns-3
-returns-3 c = c .no-node2 .ensures ∙ ap noNode (c .before .refused .ensures) ∙ ap handedNode (told-as toldNodeName (c .before .before .before .before .before .locate-node-name .ensures) (c .before .before .before .f .given .1))
+returns-3 c = c .no-node2 .ensures ∙ ap noNode (c .before .refused .ensures) ∙ ap handedNode (told-as toldNodeName (c .before .before .before .before .before .locate-node-name .ensures) (c .before .before .before .fault .given .1))
 
 pub anow-node-name-spec : {M : Type 1} → statement M
 anow-node-name-spec =
@@ -52,7 +52,7 @@ anow-node-name-spec =
     enum-told
     plain-requires
     no-node-requires
-    enum-known-f
+    enum-known-fault
     refused-requires
     no-node-requires-2
     returns

@@ -24,8 +24,8 @@ plain-requires c κs = search needs
 no-block-requires : tie.Need-no-block-requires
 no-block-requires c κs = search needs
 
-enum-known-f : tie.Need-enum-known-f
-enum-known-f c = search needs
+enum-known-fault : tie.Need-enum-known-fault
+enum-known-fault c = search needs
 
 refused-requires : tie.Need-refused-requires
 refused-requires c κs = search needs
@@ -71,7 +71,7 @@ same-length-9 c = search needs
 returns-3 : tie.Need-returns-3
 returns-3 c =
     let e = c .before .before .before .before .before .before .before .before .before .before .before .read .ensures in
-    (c .no-block2 .ensures ∙ ap noBlock (c .before .refused .ensures) ∙ ap handedBlock (told-as toldRead (e .0) (c .before .before .before .f .given .1)), e .1)
+    (c .no-block2 .ensures ∙ ap noBlock (c .before .refused .ensures) ∙ ap handedBlock (told-as toldRead (e .0) (c .before .before .before .fault .given .1)), e .1)
 
 pub anow-read-spec : {M : Type 1} → statement M
 anow-read-spec =
@@ -83,7 +83,7 @@ anow-read-spec =
     enum-told
     plain-requires
     no-block-requires
-    enum-known-f
+    enum-known-fault
     refused-requires
     no-block-requires-2
     same-length

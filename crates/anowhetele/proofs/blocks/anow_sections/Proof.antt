@@ -15,8 +15,8 @@ enum-known-head c = search needs
 done-requires : tie.Need-done-requires
 done-requires c κs = search needs
 
-enum-known-f : tie.Need-enum-known-f
-enum-known-f c = search needs
+enum-known-fault : tie.Need-enum-known-fault
+enum-known-fault c = search needs
 
 refused-requires : tie.Need-refused-requires
 refused-requires c κs = search needs
@@ -28,7 +28,7 @@ returns : tie.Need-returns
 returns c = rw (c .done .ensures) (ap handedBlock (told-as toldSections (c .before .before .before .before .sections .ensures) (c .before .before .head .given .1)))
 
 returns-2 : tie.Need-returns-2
-returns-2 c = c .no-block .ensures ∙ ap noBlock (c .before .refused .ensures) ∙ ap handedBlock (told-as toldSections (c .before .before .before .before .before .sections .ensures) (c .before .before .before .f .given .1))
+returns-2 c = c .no-block .ensures ∙ ap noBlock (c .before .refused .ensures) ∙ ap handedBlock (told-as toldSections (c .before .before .before .before .before .sections .ensures) (c .before .before .before .fault .given .1))
 
 pub anow-sections-spec : {M : Type 1} → statement M
 anow-sections-spec =
@@ -37,7 +37,7 @@ anow-sections-spec =
     sections-requires
     enum-known-head
     done-requires
-    enum-known-f
+    enum-known-fault
     refused-requires
     no-block-requires
     returns

@@ -39,8 +39,8 @@ enum-told-2 c = search needs
 plain-requires-2 : tie.Need-plain-requires-2
 plain-requires-2 c κs = search needs
 
-enum-known-f : tie.Need-enum-known-f
-enum-known-f c = search needs
+enum-known-fault : tie.Need-enum-known-fault
+enum-known-fault c = search needs
 
 refused-requires : tie.Need-refused-requires
 refused-requires c κs = search needs
@@ -73,7 +73,7 @@ same-length-4 : tie.Need-same-length-4
 same-length-4 c = search needs
 
 returns-4 : tie.Need-returns-4
-returns-4 c = let e = told (c .before .before .before .before .before .before) in (rw (c .refused .ensures) (ap handed (told-as toldBlock (e .0) (c .before .before .f .given .1))), e .1)
+returns-4 c = let e = told (c .before .before .before .before .before .before) in (rw (c .refused .ensures) (ap handed (told-as toldBlock (e .0) (c .before .before .fault .given .1))), e .1)
 
 same-length-5 : tie.Need-same-length-5
 same-length-5 c = search needs
@@ -92,7 +92,7 @@ anow-tally-block-spec =
     plain-requires
     enum-told-2
     plain-requires-2
-    enum-known-f
+    enum-known-fault
     refused-requires
     enum-told-3
     plain-requires-3

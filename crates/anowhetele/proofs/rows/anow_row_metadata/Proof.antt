@@ -33,8 +33,8 @@ no-metadata-requires c κs = search needs
 no-metadata-requires-2 : tie.Need-no-metadata-requires-2
 no-metadata-requires-2 c κs = search needs
 
-enum-known-f : tie.Need-enum-known-f
-enum-known-f c = search needs
+enum-known-fault : tie.Need-enum-known-fault
+enum-known-fault c = search needs
 
 refused-requires : tie.Need-refused-requires
 refused-requires c κs = search needs
@@ -46,7 +46,7 @@ returns-2 : tie.Need-returns-2
 returns-2 c = c .no-metadata .ensures ∙ ap noMetadata (c .before .plain .ensures) ∙ ap handedMetadata (told-as toldMetadataRow (c .before .before .before .before .metadata-row-of .ensures) (c .before .before .enum-told .given .1))
 
 returns-3 : tie.Need-returns-3
-returns-3 c = c .no-metadata2 .ensures ∙ ap noMetadata (c .before .refused .ensures) ∙ ap handedMetadata (told-as toldMetadataRow (c .before .before .before .before .before .metadata-row-of .ensures) (c .before .before .before .f .given .1))
+returns-3 c = c .no-metadata2 .ensures ∙ ap noMetadata (c .before .refused .ensures) ∙ ap handedMetadata (told-as toldMetadataRow (c .before .before .before .before .before .metadata-row-of .ensures) (c .before .before .before .fault .given .1))
 
 pub anow-row-metadata-spec : {M : Type 1} → statement M
 anow-row-metadata-spec =
@@ -60,7 +60,7 @@ anow-row-metadata-spec =
     enum-told
     plain-requires
     no-metadata-requires
-    enum-known-f
+    enum-known-fault
     refused-requires
     no-metadata-requires-2
     returns

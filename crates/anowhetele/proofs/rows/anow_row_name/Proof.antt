@@ -27,8 +27,8 @@ plain-requires c κs = search needs
 no-name-requires : tie.Need-no-name-requires
 no-name-requires c κs = search needs
 
-enum-known-f : tie.Need-enum-known-f
-enum-known-f c = search needs
+enum-known-fault : tie.Need-enum-known-fault
+enum-known-fault c = search needs
 
 refused-requires : tie.Need-refused-requires
 refused-requires c κs = search needs
@@ -43,7 +43,7 @@ returns-2 : tie.Need-returns-2
 returns-2 c = c .no-name .ensures ∙ ap noName (c .before .plain .ensures) ∙ ap handedName (told-as toldNameRow (c .before .before .before .before .name-row-of .ensures) (c .before .before .enum-told .given .1))
 
 returns-3 : tie.Need-returns-3
-returns-3 c = c .no-name2 .ensures ∙ ap noName (c .before .refused .ensures) ∙ ap handedName (told-as toldNameRow (c .before .before .before .before .before .name-row-of .ensures) (c .before .before .before .f .given .1))
+returns-3 c = c .no-name2 .ensures ∙ ap noName (c .before .refused .ensures) ∙ ap handedName (told-as toldNameRow (c .before .before .before .before .before .name-row-of .ensures) (c .before .before .before .fault .given .1))
 
 pub anow-row-name-spec : {M : Type 1} → statement M
 anow-row-name-spec =
@@ -56,7 +56,7 @@ anow-row-name-spec =
     enum-told
     plain-requires
     no-name-requires
-    enum-known-f
+    enum-known-fault
     refused-requires
     no-name-requires-2
     returns

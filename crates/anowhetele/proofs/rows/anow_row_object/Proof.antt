@@ -29,8 +29,8 @@ plain-requires c κs = search needs
 no-object-requires : tie.Need-no-object-requires
 no-object-requires c κs = search needs
 
-enum-known-f : tie.Need-enum-known-f
-enum-known-f c = search needs
+enum-known-fault : tie.Need-enum-known-fault
+enum-known-fault c = search needs
 
 refused-requires : tie.Need-refused-requires
 refused-requires c κs = search needs
@@ -49,7 +49,7 @@ returns-2 : tie.Need-returns-2
 returns-2 c = c .no-object .ensures ∙ ap noObject (c .before .plain .ensures) ∙ ap handedObject (told-as toldObjectRow (c .before .before .before .before .object-row-of .ensures) (c .before .before .enum-told .given .1))
 
 returns-3 : tie.Need-returns-3
-returns-3 c = c .no-object2 .ensures ∙ ap noObject (c .before .refused .ensures) ∙ ap handedObject (told-as toldObjectRow (c .before .before .before .before .before .object-row-of .ensures) (c .before .before .before .f .given .1))
+returns-3 c = c .no-object2 .ensures ∙ ap noObject (c .before .refused .ensures) ∙ ap handedObject (told-as toldObjectRow (c .before .before .before .before .before .object-row-of .ensures) (c .before .before .before .fault .given .1))
 
 pub anow-row-object-spec : {M : Type 1} → statement M
 anow-row-object-spec =
@@ -62,7 +62,7 @@ anow-row-object-spec =
     enum-told
     plain-requires
     no-object-requires
-    enum-known-f
+    enum-known-fault
     refused-requires
     no-object-requires-2
     returns

@@ -29,8 +29,8 @@ plain-requires c κs = search needs
 no-timer-requires : tie.Need-no-timer-requires
 no-timer-requires c κs = search needs
 
-enum-known-f : tie.Need-enum-known-f
-enum-known-f c = search needs
+enum-known-fault : tie.Need-enum-known-fault
+enum-known-fault c = search needs
 
 refused-requires : tie.Need-refused-requires
 refused-requires c κs = search needs
@@ -49,7 +49,7 @@ returns-2 : tie.Need-returns-2
 returns-2 c = c .no-timer .ensures ∙ ap noTimer (c .before .plain .ensures) ∙ ap handedTimer (told-as toldTimerRow (c .before .before .before .before .timer-row-of .ensures) (c .before .before .enum-told .given .1))
 
 returns-3 : tie.Need-returns-3
-returns-3 c = c .no-timer2 .ensures ∙ ap noTimer (c .before .refused .ensures) ∙ ap handedTimer (told-as toldTimerRow (c .before .before .before .before .before .timer-row-of .ensures) (c .before .before .before .f .given .1))
+returns-3 c = c .no-timer2 .ensures ∙ ap noTimer (c .before .refused .ensures) ∙ ap handedTimer (told-as toldTimerRow (c .before .before .before .before .before .timer-row-of .ensures) (c .before .before .before .fault .given .1))
 
 pub anow-row-timer-spec : {M : Type 1} → statement M
 anow-row-timer-spec =
@@ -62,7 +62,7 @@ anow-row-timer-spec =
     enum-told
     plain-requires
     no-timer-requires
-    enum-known-f
+    enum-known-fault
     refused-requires
     no-timer-requires-2
     returns

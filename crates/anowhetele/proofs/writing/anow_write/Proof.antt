@@ -27,8 +27,8 @@ enum-told-2 c = search needs
 plain-requires-2 : tie.Need-plain-requires-2
 plain-requires-2 c κs = search needs
 
-enum-known-f : tie.Need-enum-known-f
-enum-known-f c = search needs
+enum-known-fault : tie.Need-enum-known-fault
+enum-known-fault c = search needs
 
 refused-requires : tie.Need-refused-requires
 refused-requires c κs = search needs
@@ -49,7 +49,7 @@ same-length-3 : tie.Need-same-length-3
 same-length-3 c = search needs
 
 returns-3 : tie.Need-returns-3
-returns-3 c = let e = c .before .before .before .before .before .before .write .ensures in (rw (c .refused .ensures) (ap handed (told-as toldWrite (e .0) (c .before .before .f .given .1))), e .1)
+returns-3 c = let e = c .before .before .before .before .before .before .write .ensures in (rw (c .refused .ensures) (ap handed (told-as toldWrite (e .0) (c .before .before .fault .given .1))), e .1)
 
 same-length-4 : tie.Need-same-length-4
 same-length-4 c = search needs
@@ -66,7 +66,7 @@ anow-write-spec =
     done-requires
     enum-told
     plain-requires
-    enum-known-f
+    enum-known-fault
     refused-requires
     enum-told-2
     plain-requires-2

@@ -79,8 +79,8 @@ judge-requires c κs = (
   (held-parts (c .before .before .before .before .before .before .before .before), small (parts (c .before .before .before .before .before .before .before .before)) (c .before .c .given .0 .0) (fit-is (c .before .before .before .before)) (count-is c) (held-parts (c .before .before .before .before .before .before .before .before))),
 )
 
-enum-known-f : tie.Need-enum-known-f
-enum-known-f c = search needs
+enum-known-fault : tie.Need-enum-known-fault
+enum-known-fault c = search needs
 
 enum-known-n : tie.Need-enum-known-n
 enum-known-n c = search needs
@@ -89,7 +89,7 @@ returns-3 : tie.Need-returns-3
 returns-3 c = ragged (parts (c .before .before .before .before .before .before .before)) (version-is (c .before .before .before .before .before)) (fit-is (c .before .before .before)) (sym (ap toldCounts (c .enum-told .given .1)) ∙ c .before .before .count-all .ensures)
 
 returns-4 : tie.Need-returns-4
-returns-4 c = refuses (parts (c .before .before .before .before .before .before .before .before .before .before .before .before)) (c .before .before .before .before .before .c .given .0 .0) (fit-is (c .before .before .before .before .before .before .before .before)) (count-is (c .before .before .before .before)) (held-parts (c .before .before .before .before .before .before .before .before .before .before .before .before)) (version-is (c .before .before .before .before .before .before .before .before .before .before)) (sym (ap toldReach (c .before .f .given .1)) ∙ verdictOn-is (c .before .before .before))
+returns-4 c = refuses (parts (c .before .before .before .before .before .before .before .before .before .before .before .before)) (c .before .before .before .before .before .c .given .0 .0) (fit-is (c .before .before .before .before .before .before .before .before)) (count-is (c .before .before .before .before)) (held-parts (c .before .before .before .before .before .before .before .before .before .before .before .before)) (version-is (c .before .before .before .before .before .before .before .before .before .before)) (sym (ap toldReach (c .before .fault .given .1)) ∙ verdictOn-is (c .before .before .before))
 
 returns-5 : tie.Need-returns-5
 returns-5 c = writes (parts (c .before .before .before .before .before .before .before .before .before .before .before .before)) (c .before .before .before .before .before .c .given .0 .0) (fit-is (c .before .before .before .before .before .before .before .before)) (count-is (c .before .before .before .before)) (held-parts (c .before .before .before .before .before .before .before .before .before .before .before .before)) (version-is (c .before .before .before .before .before .before .before .before .before .before)) (sym (ap toldReach (c .before .n .given .1)) ∙ verdictOn-is (c .before .before .before))
@@ -106,7 +106,7 @@ measure-spec =
     enum-told
     enum-known-c
     judge-requires
-    enum-known-f
+    enum-known-fault
     enum-known-n
     returns-3
     returns-4

@@ -24,8 +24,8 @@ measure-requires c κs = search needs
 enum-told : tie.Need-enum-told
 enum-told c = search needs
 
-enum-known-f : tie.Need-enum-known-f
-enum-known-f c = search needs
+enum-known-fault : tie.Need-enum-known-fault
+enum-known-fault c = search needs
 
 enum-known-c : tie.Need-enum-known-c
 enum-known-c c = search needs
@@ -40,7 +40,7 @@ returns-2 : tie.Need-returns-2
 returns-2 c = answers-by (parts (c .before .before .before)) (now (c .before .before .before .before .before .before .before .before .before .before .before .args .out)) (plain partsMisfit) (subst (MeasuredAs (parts (c .before .before .before))) (c .enum-told .given .1) (c .before .before .measure .ensures) (length (now (c .before .before .before .before .before .before .before .before .before .before .before .args .out))))
 
 returns-3 : tie.Need-returns-3
-returns-3 c = answers-by (parts (c .before .before .before .before)) (now (c .before .before .before .before .before .before .before .before .before .before .before .before .args .out)) (refusal (refusalNumber (c .before .f .given .0 .0)) 0 (c .before .f .given .0 .1 .0)) (subst (MeasuredAs (parts (c .before .before .before .before))) (c .before .f .given .1) (c .before .before .before .measure .ensures) (length (now (c .before .before .before .before .before .before .before .before .before .before .before .before .args .out))))
+returns-3 c = answers-by (parts (c .before .before .before .before)) (now (c .before .before .before .before .before .before .before .before .before .before .before .before .args .out)) (refusal (refusalNumber (c .before .fault .given .0 .0)) 0 (c .before .fault .given .0 .1 .0)) (subst (MeasuredAs (parts (c .before .before .before .before))) (c .before .fault .given .1) (c .before .before .before .measure .ensures) (length (now (c .before .before .before .before .before .before .before .before .before .before .before .before .args .out))))
 
 same-length : tie.Need-same-length
 same-length c = search needs
@@ -54,7 +54,7 @@ write-spec =
     (tie.spec
     measure-requires
     enum-told
-    enum-known-f
+    enum-known-fault
     enum-known-c
     returns
     put-block-requires

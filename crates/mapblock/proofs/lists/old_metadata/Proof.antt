@@ -21,10 +21,10 @@ number c = by-number 2 _ toldU16 (c .before .before .before .u16-at .ensures) (c
 
 -- the list behind it: refused, or read
 no-list : (c : tie.After-known-told2) → let a = c .before .before .before .before .before .before .before .before .before .before .before .args in
-    refused (c .before .f .given .0 .0) (2 + c .before .f .given .0 .1 .0) ≡ ended (metadata (a .version) .read (now (a .s)))
+    refused (c .before .fault .given .0 .0) (2 + c .before .fault .given .0 .1 .0) ≡ ended (metadata (a .version) .read (now (a .s)))
 no-list c =
     let a = c .before .before .before .before .before .before .before .before .before .before .before .args in
-    fixed-told 2 1 fault.MetadataVersion (listed 2 (metadataRow (a .version))) (now (a .s)) (number (c .before .before .before .before .before .before)) (c .before .before .before .before .before .if1 .left) (c .before .before .before .listed .ensures) (c .before .f .given .1)
+    fixed-told 2 1 fault.MetadataVersion (listed 2 (metadataRow (a .version))) (now (a .s)) (number (c .before .before .before .before .before .before)) (c .before .before .before .before .before .if1 .left) (c .before .before .before .listed .ensures) (c .before .fault .given .1)
     ∙ ap ended (sym (metadata-old (a .version) (now (a .s)) (c .before .before .before .before .before .before .before .before .before .before .before .pre)))
 
 whole-list : (c : tie.After-known-told3) → let a = c .before .before .before .before .before .before .before .before .before .before .before .args in
@@ -65,8 +65,8 @@ part-listed-end c = search needs
 listed-requires : tie.Need-listed-requires
 listed-requires c κs = search needs
 
-enum-known-f : tie.Need-enum-known-f
-enum-known-f c = search needs
+enum-known-fault : tie.Need-enum-known-fault
+enum-known-fault c = search needs
 
 add-t18 : tie.Need-add-t18
 add-t18 c = let a = c .before .before .before .before .before .before .before .before .before .before .before .args in omega (arith, within-ended (metadata (a .version)) _ (no-list c))
@@ -96,7 +96,7 @@ old-metadata-spec =
     part-listed-start
     part-listed-end
     listed-requires
-    enum-known-f
+    enum-known-fault
     add-t18
     enum-known-n
     add-t19

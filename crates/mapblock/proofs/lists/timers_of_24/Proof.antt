@@ -18,8 +18,8 @@ first c = by-number 1 _ toldU8 (c .before .before .before .u8-at .ensures) (c .b
 
 -- the list behind it: refused, or read
 no-list : (c : tie.After-known-told2) →
-    refused (c .before .f .given .0 .0) (1 + c .before .f .given .0 .1 .0) ≡ mapRead timerByte (earlyTimers 24 .read (now (c .before .before .before .before .before .before .before .before .before .before .before .before .args .s)))
-no-list c = early-some _ (first (c .before .before .before .before .before .before .before)) (omega arith) (c .before .before .before .listed .ensures) (c .before .f .given .1)
+    refused (c .before .fault .given .0 .0) (1 + c .before .fault .given .0 .1 .0) ≡ mapRead timerByte (earlyTimers 24 .read (now (c .before .before .before .before .before .before .before .before .before .before .before .before .args .s)))
+no-list c = early-some _ (first (c .before .before .before .before .before .before .before)) (omega arith) (c .before .before .before .listed .ensures) (c .before .fault .given .1)
 
 whole-list : (c : tie.After-known-told3) →
     done 1 (1 + c .before .n .given .0 .0) ≡ mapRead timerByte (earlyTimers 24 .read (now (c .before .before .before .before .before .before .before .before .before .before .before .before .args .s)))
@@ -55,8 +55,8 @@ part-listed-end c = search needs
 listed-requires : tie.Need-listed-requires
 listed-requires c κs = search needs
 
-enum-known-f : tie.Need-enum-known-f
-enum-known-f c = search needs
+enum-known-fault : tie.Need-enum-known-fault
+enum-known-fault c = search needs
 
 add-t17 : tie.Need-add-t17
 add-t17 c = omega (arith, told-in timerByte (earlyTimers 24) _ (no-list c))
@@ -87,7 +87,7 @@ timers-of-24-spec =
     part-listed-start
     part-listed-end
     listed-requires
-    enum-known-f
+    enum-known-fault
     add-t17
     enum-known-n
     add-t18

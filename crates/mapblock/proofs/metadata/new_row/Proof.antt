@@ -27,10 +27,10 @@ six c = omega (arith, rw length-drop at (within (num 4) _ (count c)))
 -- the variables: refused, or read
 no-variables : (c : tie.After-known-told2) → let b = c .before .before .before .before .before .before in
     let a = b .before .before .before .before .args in
-    refused (c .before .f .given .0 .0) (c .before .f .given .0 .1 .0) ≡ ended (times (b .count .given .0 .0) (variable (a .version)) .read (drop 6 (now (a .s))))
+    refused (c .before .fault .given .0 .0) (c .before .fault .given .0 .1 .0) ≡ ended (times (b .count .given .0 .0) (variable (a .version)) .read (drop 6 (now (a .s))))
 no-variables c =
     let s = now (c .before .before .before .before .before .before .before .before .before .before .args .s) in
-    rw (rest-is 6 s) at (sym (ap toldReach (c .before .f .given .1)) ∙ c .before .before .before .variables .ensures)
+    rw (rest-is 6 s) at (sym (ap toldReach (c .before .fault .given .1)) ∙ c .before .before .before .variables .ensures)
 
 some-variables : (c : tie.After-known-told3) → let b = c .before .before .before .before .before .before in
     let a = b .before .before .before .before .args in
@@ -45,11 +45,11 @@ variables-in c = omega (arith, six (c .before .before .before .before .before), 
 -- the inventory: refused, or read
 no-inventory : (c : tie.After-known-told4) → let b = c .before .before .before .before .before .before in
     let s = now (b .before .before .before .before .before .before .before .before .before .args .s) in
-    refused (c .before .f2 .given .0 .0) (c .before .f2 .given .0 .1 .0) ≡ ended (inventory .read (drop (6 + b .n .given .0 .0) s))
+    refused (c .before .fault2 .given .0 .0) (c .before .fault2 .given .0 .1 .0) ≡ ended (inventory .read (drop (6 + b .n .given .0 .0) s))
 no-inventory c =
     let b = c .before .before .before .before .before .before in
     let s = now (b .before .before .before .before .before .before .before .before .before .args .s) in
-    rw (rest-is (6 + b .n .given .0 .0) s) at (sym (ap toldReach (c .before .f2 .given .1)) ∙ c .before .before .before .inventory .ensures)
+    rw (rest-is (6 + b .n .given .0 .0) s) at (sym (ap toldReach (c .before .fault2 .given .1)) ∙ c .before .before .before .inventory .ensures)
 
 some-inventory : (c : tie.After-known-told5) → let b = c .before .before .before .before .before .before in
     let s = now (b .before .before .before .before .before .before .before .before .before .args .s) in
@@ -85,8 +85,8 @@ part-variables-end c = search needs
 variables-requires : tie.Need-variables-requires
 variables-requires c κs = search needs
 
-enum-known-f : tie.Need-enum-known-f
-enum-known-f c = search needs
+enum-known-fault : tie.Need-enum-known-fault
+enum-known-fault c = search needs
 
 add-t20 : tie.Need-add-t20
 add-t20 c = omega (arith, six (c .before .before .before .before .before), rw length-drop at (within-ended (times _ _) _ (no-variables c)))
@@ -109,8 +109,8 @@ part-inventory-end c = search needs
 inventory-requires : tie.Need-inventory-requires
 inventory-requires c κs = search needs
 
-enum-known-f-2 : tie.Need-enum-known-f-2
-enum-known-f-2 c = search needs
+enum-known-fault-2 : tie.Need-enum-known-fault-2
+enum-known-fault-2 c = search needs
 
 add-t28 : tie.Need-add-t28
 add-t28 c = omega (arith, variables-in (c .before .before .before .before .before))
@@ -162,7 +162,7 @@ new-row-spec =
     part-variables-start
     part-variables-end
     variables-requires
-    enum-known-f
+    enum-known-fault
     add-t20
     enum-known-n
     add-inventory
@@ -170,7 +170,7 @@ new-row-spec =
     part-inventory-start
     part-inventory-end
     inventory-requires
-    enum-known-f-2
+    enum-known-fault-2
     add-t28
     add-t29
     enum-known-m

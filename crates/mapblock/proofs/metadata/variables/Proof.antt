@@ -19,8 +19,8 @@ abbrev μ-loop : tie.MeasureT-loop
 
 -- the front variable: refused, or read
 no-variable : (c : tie.After-known-told Inv-loop μ-loop) → let l = c .before .before .before .before .before in
-    refused (c .before .f .given .0 .0) (c .before .f .given .0 .1 .0) ≡ ended (variable (l .before .before .args .version) .read (now (l .loop .rest)))
-no-variable c = sym (ap toldReach (c .before .f .given .1)) ∙ c .before .before .before .variable .ensures
+    refused (c .before .fault .given .0 .0) (c .before .fault .given .0 .1 .0) ≡ ended (variable (l .before .before .args .version) .read (now (l .loop .rest)))
+no-variable c = sym (ap toldReach (c .before .fault .given .1)) ∙ c .before .before .before .variable .ensures
 
 one-variable : (c : tie.After-known-told2 Inv-loop μ-loop) → let l = c .before .before .before .before .before in
     done tt (c .before .n .given .0 .0) ≡ ended (variable (l .before .before .args .version) .read (now (l .loop .rest)))
@@ -32,8 +32,8 @@ loop-holds c = reading-start _ _ _
 variable-requires : tie.Need-variable-requires Inv-loop μ-loop
 variable-requires c κs = search needs
 
-enum-known-f : tie.Need-enum-known-f Inv-loop μ-loop
-enum-known-f c = search needs
+enum-known-fault : tie.Need-enum-known-fault Inv-loop μ-loop
+enum-known-fault c = search needs
 
 add-t12 : tie.Need-add-t12 Inv-loop μ-loop
 add-t12 c = omega (arith, reading-place (c .before .before .before .before .before .loop .inv) (no-variable c))
@@ -76,7 +76,7 @@ variables-spec =
     μ-loop
     loop-holds
     variable-requires
-    enum-known-f
+    enum-known-fault
     add-t12
     returns
     enum-known-n

@@ -87,15 +87,15 @@ part-name-rows-end c = search needs
 name-rows-requires : tie.Need-name-rows-requires
 name-rows-requires c κs = search needs
 
-enum-known-f : tie.Need-enum-known-f
-enum-known-f c = search needs
+enum-known-fault : tie.Need-enum-known-fault
+enum-known-fault c = search needs
 
 add-t24 : tie.Need-add-t24
 add-t24 c =
     let s = now (c .before .before .before .before .before .before .before .before .before .before .before .before .before .before .before .before .before .before .before .before .args .s) in
     let t = now (c .before .before .before .before .before .before .before .before .before .before .before .before .before .before .before .before .before .before .before .before .args .ids) in
     let e = rw (rest-is 7 s) at (c .before .before .before .name-rows .ensures .0) in
-    omega (arith, length-drop 7 s, read-behind (num 2) 5 s (count-is (c .before .before .before .before .before .before .before)) (lit< tt), within-ended (items (nameRow (freeIn t)) (c .before .before .before .before .before .before .before .count .given .0 .0)) (drop 7 s) (sym (ap toldReach (c .before .f .given .1)) ∙ e))
+    omega (arith, length-drop 7 s, read-behind (num 2) 5 s (count-is (c .before .before .before .before .before .before .before)) (lit< tt), within-ended (items (nameRow (freeIn t)) (c .before .before .before .before .before .before .before .count .given .0 .0)) (drop 7 s) (sym (ap toldReach (c .before .fault .given .1)) ∙ e))
 
 enum-known-n : tie.Need-enum-known-n
 enum-known-n c = search needs
@@ -119,7 +119,7 @@ returns-5 : tie.Need-returns-5
 returns-5 c =
     let a = c .before .before .before .before .before .before .before .before .before .before .before .before .before .before .before .before .before .before .before .before .args in
     let e = rw (rest-is 7 (now (a .s))) at (c .before .before .before .name-rows .ensures) in
-    told-no-rows (now (a .ids)) (now (a .s)) (time-is (c .before .before .before .before .before .before .before .before .before .before .before .before .before .before .before .before)) (zero-is (c .before .before .before .before .before .before .before .before .before .before)) (count-is (c .before .before .before .before .before .before .before)) (c .before .before .before .name-rows .last .1 .1 .0) (sym (ap toldReach (c .before .f .given .1)) ∙ e .0) (marks (c .before .before .before))
+    told-no-rows (now (a .ids)) (now (a .s)) (time-is (c .before .before .before .before .before .before .before .before .before .before .before .before .before .before .before .before)) (zero-is (c .before .before .before .before .before .before .before .before .before .before)) (count-is (c .before .before .before .before .before .before .before)) (c .before .before .before .name-rows .last .1 .1 .0) (sym (ap toldReach (c .before .fault .given .1)) ∙ e .0) (marks (c .before .before .before))
 
 returns-6 : tie.Need-returns-6
 returns-6 c =
@@ -148,7 +148,7 @@ name-mapping-spec =
     part-name-rows-start
     part-name-rows-end
     name-rows-requires
-    enum-known-f
+    enum-known-fault
     add-t24
     enum-known-n
     add-t25

@@ -25,8 +25,8 @@ loop-holds c = named-start _ _ _ (c .sized .ensures)
 new-name-row-requires : tie.Need-new-name-row-requires Inv-loop μ-loop
 new-name-row-requires c κs = search needs
 
-enum-known-f : tie.Need-enum-known-f Inv-loop μ-loop
-enum-known-f c = search needs
+enum-known-fault : tie.Need-enum-known-fault Inv-loop μ-loop
+enum-known-fault c = search needs
 
 sub-unmark : tie.Need-sub-unmark Inv-loop μ-loop
 sub-unmark c = c .before .before .before .before .before .before .loop .inv .few
@@ -37,13 +37,13 @@ unmark-requires c κs = search needs
 add-t19 : tie.Need-add-t19 Inv-loop μ-loop
 add-t19 c =
     let l = c .before .before .before .before .before .before .before .before .loop in
-    omega (arith, named-place (l .inv) (sym (ap toldName (c .before .before .before .f .given .1)) ∙ c .before .before .before .before .before .new-name-row .ensures (freeIn (now (c .before .before .before .before .before .before .before .before .before .before .before .before .args .ids))) (l .inv .seen) (l .inv .tabled)))
+    omega (arith, named-place (l .inv) (sym (ap toldName (c .before .before .before .fault .given .1)) ∙ c .before .before .before .before .before .new-name-row .ensures (freeIn (now (c .before .before .before .before .before .before .before .before .before .before .before .before .args .ids))) (l .inv .seen) (l .inv .tabled)))
 
 returns : tie.Need-returns Inv-loop μ-loop
 returns c =
     let l = c .before .before .before .before .before .before .before .before .loop in
     let a = c .before .before .before .before .before .before .before .before .before .before .before .before .args in
-    told-marked (now (a .ids)) (now (a .s)) (a .count) (l .inv .whole) (named-refused (l .inv) (c .before .before .before .before .before .before .before .loop-test .taken) (sym (ap toldName (c .before .before .before .f .given .1)) ∙ c .before .before .before .before .before .new-name-row .ensures (freeIn (now (c .before .before .before .before .before .before .before .before .before .before .before .before .args .ids))) (l .inv .seen) (l .inv .tabled)) (c .unmark .ensures ∙ named-front (l .inv)))
+    told-marked (now (a .ids)) (now (a .s)) (a .count) (l .inv .whole) (named-refused (l .inv) (c .before .before .before .before .before .before .before .loop-test .taken) (sym (ap toldName (c .before .before .before .fault .given .1)) ∙ c .before .before .before .before .before .new-name-row .ensures (freeIn (now (c .before .before .before .before .before .before .before .before .before .before .before .before .args .ids))) (l .inv .seen) (l .inv .tabled)) (c .unmark .ensures ∙ named-front (l .inv)))
 
 enum-known-row : tie.Need-enum-known-row Inv-loop μ-loop
 enum-known-row c = search needs
@@ -95,7 +95,7 @@ name-rows-spec =
     sized-requires
     loop-holds
     new-name-row-requires
-    enum-known-f
+    enum-known-fault
     sub-unmark
     unmark-requires
     add-t19

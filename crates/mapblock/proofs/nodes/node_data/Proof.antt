@@ -101,11 +101,11 @@ part-params-end c = search needs
 params-requires : tie.Need-params-requires
 params-requires c κs = search needs
 
-enum-known-f : tie.Need-enum-known-f
-enum-known-f c = search needs
+enum-known-fault : tie.Need-enum-known-fault
+enum-known-fault c = search needs
 
 add-t22 : tie.Need-add-t22
-add-t22 c = omega (arith, reached (c .before .before .before) (c .before .f .given .1))
+add-t22 c = omega (arith, reached (c .before .before .before) (c .before .fault .given .1))
 
 enum-known-n : tie.Need-enum-known-n
 enum-known-n c = search needs
@@ -114,7 +114,7 @@ add-t23 : tie.Need-add-t23
 add-t23 c = omega (arith, reached (c .before .before .before) (c .before .n .given .1))
 
 returns-5 : tie.Need-returns-5
-returns-5 c = answer (c .before .before .before) (c .before .f .given .1)
+returns-5 c = answer (c .before .before .before) (c .before .fault .given .1)
 
 returns-6 : tie.Need-returns-6
 returns-6 c = answer (c .before .before .before) (c .before .n .given .1)
@@ -139,7 +139,7 @@ node-data-spec =
     part-params-start
     part-params-end
     params-requires
-    enum-known-f
+    enum-known-fault
     add-t22
     enum-known-n
     add-t23

@@ -22,8 +22,8 @@ goes-on : (c : tie.Else1) {r : Answer Block} → let a = c .before .before .befo
     blockOf (now (a .block)) ≡ r → readOf (now (a .block)) (length (now (a .param0))) (length (now (a .param1))) (length (now (a .param2))) ≡ r
 goes-on c k = let a = c .before .before .before .before .before .before .args in read-block (now (a .block)) (length (now (a .param0))) (length (now (a .param1))) (length (now (a .param2))) (whole c) k
 
-block-is : (c : tie.After-found) → TakenAs (now (c .before .before .before .before .before .before .before .before .before .args .block)) (c .found .given .0 .0)
-block-is c = taken-as _ (λ i. c .before .before .before .before .before .before .before .before .shared-slice-known .given i .fits) (sym (ap toldScan (c .found .given .1)) ∙ c .before .before .judge .ensures)
+block-is : (c : tie.After-scanned) → TakenAs (now (c .before .before .before .before .before .before .before .before .before .args .block)) (c .scanned .given .0 .0)
+block-is c = taken-as _ (λ i. c .before .before .before .before .before .before .before .before .shared-slice-known .given i .fits) (sym (ap toldScan (c .scanned .given .1)) ∙ c .before .before .judge .ensures)
 
 are-whole-requires : tie.Need-are-whole-requires
 are-whole-requires c κs = search needs
@@ -37,11 +37,11 @@ returns c =
 judge-requires : tie.Need-judge-requires
 judge-requires c κs = search needs
 
-enum-known-f : tie.Need-enum-known-f
-enum-known-f c = search needs
+enum-known-fault : tie.Need-enum-known-fault
+enum-known-fault c = search needs
 
-enum-known-found : tie.Need-enum-known-found
-enum-known-found c = search needs
+enum-known-scanned : tie.Need-enum-known-scanned
+enum-known-scanned c = search needs
 
 sub-fill : tie.Need-sub-fill
 sub-fill c = omega (arith, block-is (c .before .before .before) .inside)
@@ -55,7 +55,7 @@ part-fill-end c = search needs
 fill-requires : tie.Need-fill-requires
 fill-requires c κs =
     let k = c .before .before .before .before .before .before .before in
-    let w = k .found .given .0 .0 in
+    let w = k .scanned .given .0 .0 in
     let s = now (k .before .before .before .before .before .before .before .before .before .args .block) in
     (rw (rest-is (w .lists) s, length-drop) (omega (arith, block-is k .inside)), whole-are (whole (k .before .before .before)))
 
@@ -63,7 +63,7 @@ returns-2 : tie.Need-returns-2
 returns-2 c =
     let a = c .before .before .before .before .before .before .before .before .before .before .args in
     lists-kept (now (a .param0)) (now (a .param1)) (now (a .param2))
-    (goes-on (c .before .before .before .before) (block-refused _ (sym (ap toldScan (c .before .f .given .1)) ∙ c .before .before .before .judge .ensures)))
+    (goes-on (c .before .before .before .before) (block-refused _ (sym (ap toldScan (c .before .fault .given .1)) ∙ c .before .before .before .judge .ensures)))
 
 same-length : tie.Need-same-length
 same-length c = search needs
@@ -97,8 +97,8 @@ read-spec =
     are-whole-requires
     returns
     judge-requires
-    enum-known-f
-    enum-known-found
+    enum-known-fault
+    enum-known-scanned
     sub-fill
     part-fill-start
     part-fill-end

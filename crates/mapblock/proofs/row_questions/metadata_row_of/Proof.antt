@@ -29,8 +29,8 @@ metadata-row-requires c κs = search needs
 enum-known-row : tie.Need-enum-known-row
 enum-known-row c = search needs
 
-enum-known-f : tie.Need-enum-known-f
-enum-known-f c = search needs
+enum-known-fault : tie.Need-enum-known-fault
+enum-known-fault c = search needs
 
 returns-3 : tie.Need-returns-3
 returns-3 c =
@@ -42,7 +42,7 @@ returns-4 : tie.Need-returns-4
 returns-4 c =
     let a = c .before .before .before .before .before .before .before .before .args in
     version-good (a .version) (now (a .part)) (sym (c .before .before .before .before .before .before .is-version .ensures) ∙ not-false _ (c .before .before .before .before .before .if1 .left))
-    (asked-row (now (a .part)) (c .before .before .before .before .if2 .left) (sym (ap toldMetadata (c .before .f .given .1)) ∙ c .before .before .before .metadata-row .ensures))
+    (asked-row (now (a .part)) (c .before .before .before .before .if2 .left) (sym (ap toldMetadata (c .before .fault .given .1)) ∙ c .before .before .before .metadata-row .ensures))
 
 pub metadata-row-of-spec : {M : Type 1} → statement M
 metadata-row-of-spec =
@@ -53,6 +53,6 @@ metadata-row-of-spec =
     returns-2
     metadata-row-requires
     enum-known-row
-    enum-known-f
+    enum-known-fault
     returns-3
     returns-4)

@@ -19,14 +19,14 @@ name-row-requires c κs = search needs
 enum-known-row : tie.Need-enum-known-row
 enum-known-row c = search needs
 
-enum-known-f : tie.Need-enum-known-f
-enum-known-f c = search needs
+enum-known-fault : tie.Need-enum-known-fault
+enum-known-fault c = search needs
 
 returns-2 : tie.Need-returns-2
 returns-2 c = asked-row (now (c .before .before .before .before .before .before .args .part)) (c .before .before .before .before .if1 .left) (sym (ap toldName (c .before .row .given .1)) ∙ c .before .before .before .name-row .ensures)
 
 returns-3 : tie.Need-returns-3
-returns-3 c = asked-row (now (c .before .before .before .before .before .before .args .part)) (c .before .before .before .before .if1 .left) (sym (ap toldName (c .before .f .given .1)) ∙ c .before .before .before .name-row .ensures)
+returns-3 c = asked-row (now (c .before .before .before .before .before .before .args .part)) (c .before .before .before .before .if1 .left) (sym (ap toldName (c .before .fault .given .1)) ∙ c .before .before .before .name-row .ensures)
 
 pub name-row-of-spec : {M : Type 1} → statement M
-name-row-of-spec = tie.close (tie.spec returns name-row-requires enum-known-row enum-known-f returns-2 returns-3)
+name-row-of-spec = tie.close (tie.spec returns name-row-requires enum-known-row enum-known-fault returns-2 returns-3)

@@ -21,10 +21,10 @@ count c = by-number 2 _ toldU16 (c .before .before .before .u16-at .ensures) (c 
 
 -- the rows behind it: refused, or read
 no-rows : (c : tie.After-known-told2) → let a = c .before .before .before .before .before .before .before .before .before .before .args in
-    refused (c .before .f .given .0 .0) (2 + c .before .f .given .0 .1 .0) ≡ ended (listed 2 (rowAfter (a .kind) (a .version)) .read (now (a .s)))
+    refused (c .before .fault .given .0 .0) (2 + c .before .fault .given .0 .1 .0) ≡ ended (listed 2 (rowAfter (a .kind) (a .version)) .read (now (a .s)))
 no-rows c =
     let a = c .before .before .before .before .before .before .before .before .before .before .args in
-    listed-told 2 (rowAfter (a .kind) (a .version)) (now (a .s)) (count (c .before .before .before .before .before)) (c .before .before .before .rows .ensures) (c .before .f .given .1)
+    listed-told 2 (rowAfter (a .kind) (a .version)) (now (a .s)) (count (c .before .before .before .before .before)) (c .before .before .before .rows .ensures) (c .before .fault .given .1)
 
 all-rows : (c : tie.After-known-told3) → let a = c .before .before .before .before .before .before .before .before .before .before .args in
     done tt (2 + c .before .n .given .0 .0) ≡ ended (listed 2 (rowAfter (a .kind) (a .version)) .read (now (a .s)))
@@ -56,8 +56,8 @@ part-rows-end c = search needs
 rows-requires : tie.Need-rows-requires
 rows-requires c κs = search needs
 
-enum-known-f : tie.Need-enum-known-f
-enum-known-f c = search needs
+enum-known-fault : tie.Need-enum-known-fault
+enum-known-fault c = search needs
 
 add-t16 : tie.Need-add-t16
 add-t16 c = let a = c .before .before .before .before .before .before .before .before .before .before .args in omega (arith, within-ended (listed 2 (rowAfter (a .kind) (a .version))) _ (no-rows c))
@@ -86,7 +86,7 @@ listed-spec =
     part-rows-start
     part-rows-end
     rows-requires
-    enum-known-f
+    enum-known-fault
     add-t16
     enum-known-n
     add-t17

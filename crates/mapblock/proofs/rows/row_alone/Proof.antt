@@ -16,8 +16,8 @@ metadata-row-requires c κs = search needs
 enum-known-n : tie.Need-enum-known-n
 enum-known-n c = search needs
 
-enum-known-f : tie.Need-enum-known-f
-enum-known-f c = search needs
+enum-known-fault : tie.Need-enum-known-fault
+enum-known-fault c = search needs
 
 enum-told-2 : tie.Need-enum-told-2
 enum-told-2 c = search needs
@@ -28,8 +28,8 @@ object-row-requires c κs = search needs
 enum-known-n-2 : tie.Need-enum-known-n-2
 enum-known-n-2 c = search needs
 
-enum-known-f-2 : tie.Need-enum-known-f-2
-enum-known-f-2 c = search needs
+enum-known-fault-2 : tie.Need-enum-known-fault-2
+enum-known-fault-2 c = search needs
 
 enum-told-3 : tie.Need-enum-told-3
 enum-told-3 c = search needs
@@ -40,26 +40,26 @@ timer-row-requires c κs = search needs
 enum-told-4 : tie.Need-enum-told-4
 enum-told-4 c = search needs
 
-enum-known-f-3 : tie.Need-enum-known-f-3
-enum-known-f-3 c = search needs
+enum-known-fault-3 : tie.Need-enum-known-fault-3
+enum-known-fault-3 c = search needs
 
 returns : tie.Need-returns
 returns c = row-told kind.Metadata _ _ (metadataFields (c .before .before .before .before .before .before .before .args .version)) (c .before .before .before .before .enum-told .given .1) (sym (ap toldMetadata (c .before .n .given .1)) ∙ c .before .before .before .metadata-row .ensures)
 
 returns-2 : tie.Need-returns-2
-returns-2 c = row-told kind.Metadata _ _ (metadataFields (c .before .before .before .before .before .before .before .args .version)) (c .before .before .before .before .enum-told .given .1) (sym (ap toldMetadata (c .before .f .given .1)) ∙ c .before .before .before .metadata-row .ensures)
+returns-2 c = row-told kind.Metadata _ _ (metadataFields (c .before .before .before .before .before .before .before .args .version)) (c .before .before .before .before .enum-told .given .1) (sym (ap toldMetadata (c .before .fault .given .1)) ∙ c .before .before .before .metadata-row .ensures)
 
 returns-3 : tie.Need-returns-3
 returns-3 c = row-told kind.Objects _ _ objectFields (c .before .before .before .before .enum-told2 .given .1) (sym (ap toldObject (c .before .n2 .given .1)) ∙ c .before .before .before .object-row .ensures)
 
 returns-4 : tie.Need-returns-4
-returns-4 c = row-told kind.Objects _ _ objectFields (c .before .before .before .before .enum-told2 .given .1) (sym (ap toldObject (c .before .f2 .given .1)) ∙ c .before .before .before .object-row .ensures)
+returns-4 c = row-told kind.Objects _ _ objectFields (c .before .before .before .before .enum-told2 .given .1) (sym (ap toldObject (c .before .fault2 .given .1)) ∙ c .before .before .before .object-row .ensures)
 
 returns-5 : tie.Need-returns-5
 returns-5 c = row-told kind.Timers _ _ timerFields (c .before .before .before .enum-told3 .given .1) (sym (ap toldTimer (c .enum-told4 .given .1)) ∙ c .before .before .timer-row .ensures)
 
 returns-6 : tie.Need-returns-6
-returns-6 c = row-told kind.Timers _ _ timerFields (c .before .before .before .before .enum-told3 .given .1) (sym (ap toldTimer (c .before .f3 .given .1)) ∙ c .before .before .before .timer-row .ensures)
+returns-6 c = row-told kind.Timers _ _ timerFields (c .before .before .before .before .enum-told3 .given .1) (sym (ap toldTimer (c .before .fault3 .given .1)) ∙ c .before .before .before .timer-row .ensures)
 
 pub row-alone-spec : {M : Type 1} → statement M
 row-alone-spec =
@@ -68,15 +68,15 @@ row-alone-spec =
     enum-told
     metadata-row-requires
     enum-known-n
-    enum-known-f
+    enum-known-fault
     enum-told-2
     object-row-requires
     enum-known-n-2
-    enum-known-f-2
+    enum-known-fault-2
     enum-told-3
     timer-row-requires
     enum-told-4
-    enum-known-f-3
+    enum-known-fault-3
     returns
     returns-2
     returns-3

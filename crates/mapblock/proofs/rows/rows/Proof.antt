@@ -19,9 +19,9 @@ abbrev μ-loop : tie.MeasureT-loop
 
 -- the front row: refused, or read
 no-row : (c : tie.After-known-told Inv-loop μ-loop) → let l = c .before .before .before .before .before .before in
-    refused (c .before .f .given .0 .0) (c .before .f .given .0 .1 .0)
+    refused (c .before .fault .given .0 .0) (c .before .fault .given .0 .1 .0)
     ≡ ended (rowAfter (l .before .before .args .kind) (l .before .before .args .version) (l .loop .inv .reading .seen) .read (now (l .loop .rest)))
-no-row c = walk-told (c .before .before .before .before .before .before .loop .inv) (c .before .before .before .row-after .ensures) (c .before .f .given .1)
+no-row c = walk-told (c .before .before .before .before .before .before .loop .inv) (c .before .before .before .row-after .ensures) (c .before .fault .given .1)
 
 one-row : (c : tie.After-known-told2 Inv-loop μ-loop) → let l = c .before .before .before .before .before .before in
     done tt (c .before .n .given .0 .0)
@@ -34,8 +34,8 @@ loop-holds c = walk-start _ _ _ _
 row-after-requires : tie.Need-row-after-requires Inv-loop μ-loop
 row-after-requires c κs = search needs
 
-enum-known-f : tie.Need-enum-known-f Inv-loop μ-loop
-enum-known-f c = search needs
+enum-known-fault : tie.Need-enum-known-fault Inv-loop μ-loop
+enum-known-fault c = search needs
 
 add-t15 : tie.Need-add-t15 Inv-loop μ-loop
 add-t15 c = omega (arith, reading-place (c .before .before .before .before .before .before .loop .inv .reading) (no-row c))
@@ -78,7 +78,7 @@ rows-spec =
     μ-loop
     loop-holds
     row-after-requires
-    enum-known-f
+    enum-known-fault
     add-t15
     returns
     enum-known-n

@@ -19,8 +19,8 @@ bytes : (c : tie.After-shared-slice-known) → Bytes (now (c .before .args .s))
 bytes c i = c .shared-slice-known .given i .fits
 
 -- the lists behind the node data, refused or read
-no-lists : (c : tie.After-f) → let a = c .before .before .before .before .before .args in middle (a .w .version) .read (drop (a .w .end) (now (a .s))) ≡ refused (c .f .given .0 .0) (c .f .given .0 .1 .0)
-no-lists c = let a = c .before .before .before .before .before .args in rw (c .f .given .1, rest-is (a .w .end) (now (a .s))) at (c .before .before .middle .ensures)
+no-lists : (c : tie.After-fault) → let a = c .before .before .before .before .before .args in middle (a .w .version) .read (drop (a .w .end) (now (a .s))) ≡ refused (c .fault .given .0 .0) (c .fault .given .0 .1 .0)
+no-lists c = let a = c .before .before .before .before .before .args in rw (c .fault .given .1, rest-is (a .w .end) (now (a .s))) at (c .before .before .middle .ensures)
 
 lists-are : (c : tie.After-m) → let a = c .before .before .before .before .before .args in MiddleIs (a .w .version) (drop (a .w .end) (now (a .s))) (c .m .given .0 .0)
 lists-are c = let a = c .before .before .before .before .before .args in rw (c .m .given .1, rest-is (a .w .end) (now (a .s))) at (c .before .before .middle .ensures)
@@ -40,8 +40,8 @@ part-middle-end c = search needs
 middle-requires : tie.Need-middle-requires
 middle-requires c κs = search needs
 
-enum-known-f : tie.Need-enum-known-f
-enum-known-f c = search needs
+enum-known-fault : tie.Need-enum-known-fault
+enum-known-fault c = search needs
 
 add-t16 : tie.Need-add-t16
 add-t16 c =
@@ -95,7 +95,7 @@ behind-front-spec =
     part-middle-start
     part-middle-end
     middle-requires
-    enum-known-f
+    enum-known-fault
     add-t16
     enum-known-m
     names-behind-requires

@@ -46,14 +46,14 @@ part-late-timers-end c = search needs
 late-timers-requires : tie.Need-late-timers-requires
 late-timers-requires c κs = search needs
 
-enum-known-f : tie.Need-enum-known-f
-enum-known-f c = search needs
+enum-known-fault : tie.Need-enum-known-fault
+enum-known-fault c = search needs
 
 add-t18 : tie.Need-add-t18
 add-t18 c =
     let a = c .before .before .before .before .before .before .before .args in
     let u = c .before .before .before .before .before .before .before .pre .1 in
-    let e = rw (rest-is (a .at) (now (a .s))) at (sym (ap toldReach (c .before .f .given .1)) ∙ c .before .before .before .late-timers .ensures) in
+    let e = rw (rest-is (a .at) (now (a .s))) at (sym (ap toldReach (c .before .fault .given .1)) ∙ c .before .before .before .late-timers .ensures) in
     omega (arith, length-drop (a .at) (now (a .s)), u .inside, within-ended (lateTimers (a .w .head .version)) (drop (a .at) (now (a .s))) e)
 
 enum-known-n : tie.Need-enum-known-n
@@ -110,7 +110,7 @@ add-t34 c = omega (arith, late-inside (c .before .before .before .before .before
 returns-2 : tie.Need-returns-2
 returns-2 c =
     let a = c .before .before .before .before .before .before .before .args in
-    let e = rw (rest-is (a .at) (now (a .s))) at (sym (ap toldReach (c .before .f .given .1)) ∙ c .before .before .before .late-timers .ensures) in
+    let e = rw (rest-is (a .at) (now (a .s))) at (sym (ap toldReach (c .before .fault .given .1)) ∙ c .before .before .before .late-timers .ensures) in
     λ free u. late-refused u e
 
 returns-3 : tie.Need-returns-3
@@ -135,7 +135,7 @@ ending-spec =
     part-late-timers-start
     part-late-timers-end
     late-timers-requires
-    enum-known-f
+    enum-known-fault
     add-t18
     enum-known-n
     add-if1

@@ -8,8 +8,8 @@ use Rattle.mapblock.proofs.scan.front.Tie as tie
 opening-requires : tie.Need-opening-requires
 opening-requires c κs = search needs
 
-enum-known-f : tie.Need-enum-known-f
-enum-known-f c = search needs
+enum-known-fault : tie.Need-enum-known-fault
+enum-known-fault c = search needs
 
 enum-known-o : tie.Need-enum-known-o
 enum-known-o c = search needs
@@ -21,7 +21,7 @@ named-front-requires : tie.Need-named-front-requires
 named-front-requires c κs = (c .before .if1 .left, sym (c .before .before .before .before .before .before .opening .ensures) ∙ ap toldOpening (c .before .before .before .before .o .given .1))
 
 returns : tie.Need-returns
-returns c = (front-refused _ _ (sym (c .before .before .before .opening .ensures) ∙ ap toldOpening (c .before .f .given .1)), refl)
+returns c = (front-refused _ _ (sym (c .before .before .before .opening .ensures) ∙ ap toldOpening (c .before .fault .given .1)), refl)
 
 returns-2 : tie.Need-returns-2
 returns-2 c = search needs
@@ -34,7 +34,7 @@ front-spec =
     tie.close
     (tie.spec
     opening-requires
-    enum-known-f
+    enum-known-fault
     enum-known-o
     plain-front-requires
     named-front-requires

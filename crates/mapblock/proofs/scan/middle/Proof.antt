@@ -32,8 +32,8 @@ timers-in c =
 metadata-list-requires : tie.Need-metadata-list-requires
 metadata-list-requires c κs = search needs
 
-enum-known-f : tie.Need-enum-known-f
-enum-known-f c = search needs
+enum-known-fault : tie.Need-enum-known-fault
+enum-known-fault c = search needs
 
 enum-known-metadata : tie.Need-enum-known-metadata
 enum-known-metadata c = search needs
@@ -50,14 +50,14 @@ part-early-timers-end c = search needs
 early-timers-requires : tie.Need-early-timers-requires
 early-timers-requires c κs = search needs
 
-enum-known-f-2 : tie.Need-enum-known-f-2
-enum-known-f-2 c = search needs
+enum-known-fault-2 : tie.Need-enum-known-fault-2
+enum-known-fault-2 c = search needs
 
 add-t21 : tie.Need-add-t21
 add-t21 c =
     let s = now (c .before .before .before .before .before .before .before .before .before .before .args .s) in
     let a = c .before .before .before .before .before .before .metadata .given .0 .0 in
-    let e = rw (rest-is a s) at (sym (ap toldEarly (c .before .f2 .given .1)) ∙ c .before .before .before .early-timers .ensures) in
+    let e = rw (rest-is a s) at (sym (ap toldEarly (c .before .fault2 .given .1)) ∙ c .before .before .before .early-timers .ensures) in
     omega (arith, metadata-in (c .before .before .before .before .before .before), length-drop a s, told-in timerByte (earlyTimers (c .before .before .before .before .before .before .before .before .before .before .args .version)) (drop a s) e)
 
 enum-known-timer : tie.Need-enum-known-timer
@@ -78,8 +78,8 @@ part-object-list-end c = search needs
 object-list-requires : tie.Need-object-list-requires
 object-list-requires c κs = search needs
 
-enum-known-f-3 : tie.Need-enum-known-f-3
-enum-known-f-3 c = search needs
+enum-known-fault-3 : tie.Need-enum-known-fault-3
+enum-known-fault-3 c = search needs
 
 add-t29 : tie.Need-add-t29
 add-t29 c = omega (arith, timers-in (c .before .before .before .before .before .before))
@@ -88,25 +88,25 @@ add-t30 : tie.Need-add-t30
 add-t30 c =
     let s = now (c .before .before .before .before .before .before .before .before .before .before .before .before .before .before .before .args .s) in
     let a = c .before .before .before .before .before .before .before .before .before .before .before .metadata .given .0 .0 + c .before .before .before .before .before .before .timer .given .0 .1 .0 in
-    let e = rw (rest-is a s) at (sym (ap toldReach (c .before .f3 .given .1)) ∙ c .before .before .before .object-list .ensures) in
+    let e = rw (rest-is a s) at (sym (ap toldReach (c .before .fault3 .given .1)) ∙ c .before .before .before .object-list .ensures) in
     omega (arith, timers-in (c .before .before .before .before .before .before), length-drop a s, within-ended objects (drop a s) e)
 
 enum-known-objects : tie.Need-enum-known-objects
 enum-known-objects c = search needs
 
 returns : tie.Need-returns
-returns c = middle-no-metadata _ _ (sym (ap toldReach (c .before .f .given .1)) ∙ c .before .before .before .metadata-list .ensures)
+returns c = middle-no-metadata _ _ (sym (ap toldReach (c .before .fault .given .1)) ∙ c .before .before .before .metadata-list .ensures)
 
 returns-2 : tie.Need-returns-2
 returns-2 c =
     let s = now (c .before .before .before .before .before .before .before .before .before .before .args .s) in
-    let e = rw (rest-is (c .before .before .before .before .before .before .metadata .given .0 .0) s) at (sym (ap toldEarly (c .before .f2 .given .1)) ∙ c .before .before .before .early-timers .ensures) in
+    let e = rw (rest-is (c .before .before .before .before .before .before .metadata .given .0 .0) s) at (sym (ap toldEarly (c .before .fault2 .given .1)) ∙ c .before .before .before .early-timers .ensures) in
     middle-no-early _ s (metadata-is (c .before .before .before .before .before .before)) e
 
 returns-3 : tie.Need-returns-3
 returns-3 c =
     let s = now (c .before .before .before .before .before .before .before .before .before .before .before .before .before .before .before .args .s) in
-    let e = rw (rest-is (c .before .before .before .before .before .before .before .before .before .before .before .metadata .given .0 .0 + c .before .before .before .before .before .before .timer .given .0 .1 .0) s) at (sym (ap toldReach (c .before .f3 .given .1)) ∙ c .before .before .before .object-list .ensures) in
+    let e = rw (rest-is (c .before .before .before .before .before .before .before .before .before .before .before .metadata .given .0 .0 + c .before .before .before .before .before .before .timer .given .0 .1 .0) s) at (sym (ap toldReach (c .before .fault3 .given .1)) ∙ c .before .before .before .object-list .ensures) in
     middle-no-objects _ s (metadata-is (c .before .before .before .before .before .before .before .before .before .before .before)) (timers-are (c .before .before .before .before .before .before)) e
 
 returns-4 : tie.Need-returns-4
@@ -120,13 +120,13 @@ middle-spec =
     tie.close
     (tie.spec
     metadata-list-requires
-    enum-known-f
+    enum-known-fault
     enum-known-metadata
     sub-early-timers
     part-early-timers-start
     part-early-timers-end
     early-timers-requires
-    enum-known-f-2
+    enum-known-fault-2
     add-t21
     enum-known-timer
     add-object-list
@@ -134,7 +134,7 @@ middle-spec =
     part-object-list-start
     part-object-list-end
     object-list-requires
-    enum-known-f-3
+    enum-known-fault-3
     add-t29
     add-t30
     enum-known-objects

@@ -45,14 +45,14 @@ part-name-mapping-end c = search needs
 name-mapping-requires : tie.Need-name-mapping-requires
 name-mapping-requires c κs = search needs
 
-enum-known-f : tie.Need-enum-known-f
-enum-known-f c = search needs
+enum-known-fault : tie.Need-enum-known-fault
+enum-known-fault c = search needs
 
 add-t20 : tie.Need-add-t20
 add-t20 c =
     let d = c .before .before .before in
     let a = start d .args in
-    omega (arith, opened-in shownMapping (nameMapping (freeIn (now (a .ids)))) (now (a .s)) (start d .pre .1) (told d (c .before .f .given .1)))
+    omega (arith, opened-in shownMapping (nameMapping (freeIn (now (a .ids)))) (now (a .s)) (start d .pre .1) (told d (c .before .fault .given .1)))
 
 enum-known-timestamp : tie.Need-enum-known-timestamp
 enum-known-timestamp c = search needs
@@ -72,8 +72,8 @@ part-node-data-end c = search needs
 node-data-requires : tie.Need-node-data-requires
 node-data-requires c κs = search needs
 
-enum-known-f-2 : tie.Need-enum-known-f-2
-enum-known-f-2 c = search needs
+enum-known-fault-2 : tie.Need-enum-known-fault-2
+enum-known-fault-2 c = search needs
 
 add-unmark : tie.Need-add-unmark
 add-unmark c = omega (arith, rows-in (names (c .before .before .before .before .before .before)))
@@ -94,7 +94,7 @@ add-t29 : tie.Need-add-t29
 add-t29 c = omega (arith, names-in (names (c .before .before .before .before .before .before .before .before .before)))
 
 add-t31 : tie.Need-add-t31
-add-t31 c = omega (arith, nodes-in (names (c .before .before .before .before .before .before .before .before .before)) (nodes-told (c .before .before .before .before .before .before) (c .before .before .before .before .f2 .given .1)))
+add-t31 c = omega (arith, nodes-in (names (c .before .before .before .before .before .before .before .before .before)) (nodes-told (c .before .before .before .before .before .before) (c .before .before .before .before .fault2 .given .1)))
 
 enum-known-m : tie.Need-enum-known-m
 enum-known-m c = search needs
@@ -114,10 +114,10 @@ add-t38 c = omega (arith, nodes-in (names (c .before .before .before .before .be
 returns : tie.Need-returns
 returns c =
     let d = c .before .before .before in
-    names-stop _ _ _ (start d .pre .1) (start d .pre .0) (marked d) (told d (c .before .f .given .1))
+    names-stop _ _ _ (start d .pre .1) (start d .pre .0) (marked d) (told d (c .before .fault .given .1))
 
 returns-2 : tie.Need-returns-2
-returns-2 c = named-stops (names (c .before .before .before .before .before .before .before .before .before)) (nodes-told (c .before .before .before .before .before .before) (c .before .before .before .before .f2 .given .1)) (rw rest-is at (c .unmark .ensures))
+returns-2 c = named-stops (names (c .before .before .before .before .before .before .before .before .before)) (nodes-told (c .before .before .before .before .before .before) (c .before .before .before .before .fault2 .given .1)) (rw rest-is at (c .unmark .ensures))
 
 returns-3 : tie.Need-returns-3
 returns-3 c = named-told (names (c .before .before .before .before .before .before)) (λ i. c .before .before .before .before .before .before .before .before .before .before .before .shared-slice-known .given i .fits) (nodes-told (c .before .before .before) (c .before .m .given .1))
@@ -130,7 +130,7 @@ named-front-spec =
     part-name-mapping-start
     part-name-mapping-end
     name-mapping-requires
-    enum-known-f
+    enum-known-fault
     add-t20
     enum-known-timestamp
     add-node-data
@@ -138,7 +138,7 @@ named-front-spec =
     part-node-data-start
     part-node-data-end
     node-data-requires
-    enum-known-f-2
+    enum-known-fault-2
     add-unmark
     sub-unmark
     part-unmark-start

@@ -60,14 +60,14 @@ part-name-mapping-end c = search needs
 name-mapping-requires : tie.Need-name-mapping-requires
 name-mapping-requires c κs = search needs
 
-enum-known-f : tie.Need-enum-known-f
-enum-known-f c = search needs
+enum-known-fault : tie.Need-enum-known-fault
+enum-known-fault c = search needs
 
 add-t21 : tie.Need-add-t21
 add-t21 c =
     let a = c .before .before .before .before .before .before .before .before .before .before .before .args in
     let s = now (a .s) in
-    let e = rw (rest-is _ s) at (sym (ap toldMapping (c .before .f .given .1)) ∙ c .before .before .before .name-mapping .ensures .0) in
+    let e = rw (rest-is _ s) at (sym (ap toldMapping (c .before .fault .given .1)) ∙ c .before .before .before .name-mapping .ensures .0) in
     omega (arith, inside (c .before .before .before .before .before .before .before .before .before .before), length-drop (a .w .end + a .m .metadata + a .m .early + a .m .objects) s, told-in shownMapping (nameMapping (freeIn (now (a .ids)))) (drop (a .w .end + a .m .metadata + a .m .early + a .m .objects) s) e)
 
 enum-known-timestamp : tie.Need-enum-known-timestamp
@@ -111,7 +111,7 @@ returns c =
     let at = a .w .end + a .m .metadata + a .m .early + a .m .objects in
     let r = nameMapping (freeIn (now (a .ids))) .read (drop at (now (a .s))) in
     let e = rw (rest-is at (now (a .s))) at (c .before .before .before .name-mapping .ensures) in
-    let k = sym (ap toldMapping (c .before .f .given .1)) ∙ e .0 in
+    let k = sym (ap toldMapping (c .before .fault .given .1)) ∙ e .0 in
     ((λ t F. no-names t _ _ _ F _ (p .2) (bytes (c .before .before .before .before .before .before .before .before .before .before)) (p .0) k), rw (map-refused shownMapping r _ _ (sym k)) at (e .1))
 
 returns-2 : tie.Need-returns-2
@@ -135,7 +135,7 @@ names-behind-spec =
     part-name-mapping-start
     part-name-mapping-end
     name-mapping-requires
-    enum-known-f
+    enum-known-fault
     add-t21
     enum-known-timestamp
     rows-of-requires

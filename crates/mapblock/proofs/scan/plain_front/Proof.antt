@@ -38,11 +38,11 @@ part-node-data-end c = search needs
 node-data-requires : tie.Need-node-data-requires
 node-data-requires c κs = search needs
 
-enum-known-f : tie.Need-enum-known-f
-enum-known-f c = search needs
+enum-known-fault : tie.Need-enum-known-fault
+enum-known-fault c = search needs
 
 add-t15 : tie.Need-add-t15
-add-t15 c = omega (arith, place (c .before .before .before) (c .before .f .given .1))
+add-t15 c = omega (arith, place (c .before .before .before) (c .before .fault .given .1))
 
 enum-known-n : tie.Need-enum-known-n
 enum-known-n c = search needs
@@ -57,7 +57,7 @@ returns : tie.Need-returns
 returns c =
     let n = c .before .before .before in
     let a = start n .args in
-    plain-stops (now (a .ids)) (now (a .s)) (start n .pre .1) (start n .pre .0) (told n (c .before .f .given .1))
+    plain-stops (now (a .ids)) (now (a .s)) (start n .pre .1) (start n .pre .0) (told n (c .before .fault .given .1))
 
 returns-2 : tie.Need-returns-2
 returns-2 c =
@@ -74,7 +74,7 @@ plain-front-spec =
     part-node-data-start
     part-node-data-end
     node-data-requires
-    enum-known-f
+    enum-known-fault
     add-t15
     enum-known-n
     add-t16

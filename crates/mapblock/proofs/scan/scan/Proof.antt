@@ -21,8 +21,8 @@ long c = omega (arith, front-inside _ _ _ _ (front-is c), front-is c .ends)
 front-requires : tie.Need-front-requires
 front-requires c κs = search needs
 
-enum-known-f : tie.Need-enum-known-f
-enum-known-f c = search needs
+enum-known-fault : tie.Need-enum-known-fault
+enum-known-fault c = search needs
 
 enum-known-w : tie.Need-enum-known-w
 enum-known-w c = search needs
@@ -43,7 +43,7 @@ unmark-requires : tie.Need-unmark-requires
 unmark-requires c κs = search needs
 
 returns : tie.Need-returns
-returns c = let e = rw (c .before .f .given .1) at (c .before .before .before .front .ensures) in (verdict-refused _ _ (block-no-front _ _ (e .0)), e .1)
+returns c = let e = rw (c .before .fault .given .1) at (c .before .before .before .front .ensures) in (verdict-refused _ _ (block-no-front _ _ (e .0)), e .1)
 
 returns-2 : tie.Need-returns-2
 returns-2 c =
@@ -56,7 +56,7 @@ scan-spec =
     tie.close
     (tie.spec
     front-requires
-    enum-known-f
+    enum-known-fault
     enum-known-w
     behind-front-requires
     sub-unmark

@@ -40,23 +40,23 @@ returns-2 c = block-astray _ _ (c .before .before .before .before .before .befor
 scan-requires : tie.Need-scan-requires
 scan-requires c κs = search needs
 
-enum-known-f : tie.Need-enum-known-f
-enum-known-f c = search needs
+enum-known-fault : tie.Need-enum-known-fault
+enum-known-fault c = search needs
 
-enum-known-found : tie.Need-enum-known-found
-enum-known-found c = search needs
+enum-known-scanned : tie.Need-enum-known-scanned
+enum-known-scanned c = search needs
 
 put-tally-requires : tie.Need-put-tally-requires
-put-tally-requires c κs = block-found _ _ (c .before .before .before .before .before .before .before .before .before .before .before .before .before .before .args .part) (now (c .before .before .before .before .before .before .before .before .before .before .before .before .before .before .args .out)) (part-told (c .before .before .before .before .before .before .before .before .before .before .before) (not-false _ (c .before .before .before .before .before .before .before .before .before .before .if1 .left))) (told-as toldSplit (told (c .before .before .before .before .before .before .before .before .before)) (c .before .before .before .before .before .before .before .at .given .1)) (λ i. c .before .before .before .before .before .before .before .before .before .before .before .before .before .shared-slice-known .given i .fits) (told-as toldScan (c .before .before .before .before .scan .ensures .0) (c .before .before .found .given .1))
+put-tally-requires c κs = block-found _ _ (c .before .before .before .before .before .before .before .before .before .before .before .before .before .before .args .part) (now (c .before .before .before .before .before .before .before .before .before .before .before .before .before .before .args .out)) (part-told (c .before .before .before .before .before .before .before .before .before .before .before) (not-false _ (c .before .before .before .before .before .before .before .before .before .before .if1 .left))) (told-as toldSplit (told (c .before .before .before .before .before .before .before .before .before)) (c .before .before .before .before .before .before .before .at .given .1)) (λ i. c .before .before .before .before .before .before .before .before .before .before .before .before .before .shared-slice-known .given i .fits) (told-as toldScan (c .before .before .before .before .scan .ensures .0) (c .before .before .scanned .given .1))
 
 returns-3 : tie.Need-returns-3
-returns-3 c = block-refuses _ _ (c .before .before .before .before .before .before .before .before .before .before .before .before .before .args .part) (now (c .before .before .before .before .before .before .before .before .before .before .before .before .before .args .out)) (part-told (c .before .before .before .before .before .before .before .before .before .before) (not-false _ (c .before .before .before .before .before .before .before .before .before .if1 .left))) (told-as toldSplit (told (c .before .before .before .before .before .before .before .before)) (c .before .before .before .before .before .before .at .given .1)) (told-as toldScan (c .before .before .before .scan .ensures .0) (c .before .f .given .1))
+returns-3 c = block-refuses _ _ (c .before .before .before .before .before .before .before .before .before .before .before .before .before .args .part) (now (c .before .before .before .before .before .before .before .before .before .before .before .before .before .args .out)) (part-told (c .before .before .before .before .before .before .before .before .before .before) (not-false _ (c .before .before .before .before .before .before .before .before .before .if1 .left))) (told-as toldSplit (told (c .before .before .before .before .before .before .before .before)) (c .before .before .before .before .before .before .at .given .1)) (told-as toldScan (c .before .before .before .scan .ensures .0) (c .before .fault .given .1))
 
 same-length : tie.Need-same-length
 same-length c = search needs
 
 returns-4 : tie.Need-returns-4
-returns-4 c = block-put _ _ (c .before .before .before .before .before .before .before .before .before .before .before .before .before .before .before .before .before .args .part) (now (c .before .before .before .before .before .before .before .before .before .before .before .before .before .before .before .before .before .args .out)) (part-told (c .before .before .before .before .before .before .before .before .before .before .before .before .before .before) (not-false _ (c .before .before .before .before .before .before .before .before .before .before .before .before .before .if1 .left))) (told-as toldSplit (told (c .before .before .before .before .before .before .before .before .before .before .before .before)) (c .before .before .before .before .before .before .before .before .before .before .at .given .1)) (λ i. c .before .before .before .before .before .before .before .before .before .before .before .before .before .before .before .before .shared-slice-known .given i .fits) (told-as toldScan (c .before .before .before .before .before .before .before .scan .ensures .0) (c .before .before .before .before .before .found .given .1)) _ (c .before .before .put-tally .result) (c .before .before .put-tally .ensures)
+returns-4 c = block-put _ _ (c .before .before .before .before .before .before .before .before .before .before .before .before .before .before .before .before .before .args .part) (now (c .before .before .before .before .before .before .before .before .before .before .before .before .before .before .before .before .before .args .out)) (part-told (c .before .before .before .before .before .before .before .before .before .before .before .before .before .before) (not-false _ (c .before .before .before .before .before .before .before .before .before .before .before .before .before .if1 .left))) (told-as toldSplit (told (c .before .before .before .before .before .before .before .before .before .before .before .before)) (c .before .before .before .before .before .before .before .before .before .before .at .given .1)) (λ i. c .before .before .before .before .before .before .before .before .before .before .before .before .before .before .before .before .shared-slice-known .given i .fits) (told-as toldScan (c .before .before .before .before .before .before .before .scan .ensures .0) (c .before .before .before .before .before .scanned .given .1)) _ (c .before .before .put-tally .result) (c .before .before .put-tally .ensures)
 
 pub tally-block-spec : {M : Type 1} → statement M
 tally-block-spec =
@@ -69,8 +69,8 @@ tally-block-spec =
     enum-told
     returns-2
     scan-requires
-    enum-known-f
-    enum-known-found
+    enum-known-fault
+    enum-known-scanned
     put-tally-requires
     returns-3
     same-length

@@ -58,8 +58,8 @@ take-records-requires c κs = search needs
 enum-known-i : tie.Need-enum-known-i
 enum-known-i c = search needs
 
-enum-known-f : tie.Need-enum-known-f
-enum-known-f c = search needs
+enum-known-fault : tie.Need-enum-known-fault
+enum-known-fault c = search needs
 
 enum-known-q : tie.Need-enum-known-q
 enum-known-q c = search needs
@@ -80,7 +80,7 @@ same-length-2 : tie.Need-same-length-2
 same-length-2 c = search needs
 
 returns-3 : tie.Need-returns-3
-returns-3 c = (c .before .before .before .before .before .take-records .ensures .0, λ i d k f. put-refused (c .before .before .before .before .before .before .before .before .before .before .before .before .before .before .before .before .before .before .before .args .part) _ (now (c .before .before .before .before .before .before .before .before .before .before .before .before .before .before .before .before .before .before .before .args .out)) (λ i. c .before .before .before .before .before .before .before .before .before .before .before .before .before .before .before .before .before .before .shared-slice-known .given i .fits) (headed (c .before .before .before .before .before .before .before .before .before .before .before .before)) (walked (c .before .before .before .before .before) i d k (c .before .f .given .1)))
+returns-3 c = (c .before .before .before .before .before .take-records .ensures .0, λ i d k f. put-refused (c .before .before .before .before .before .before .before .before .before .before .before .before .before .before .before .before .before .before .before .args .part) _ (now (c .before .before .before .before .before .before .before .before .before .before .before .before .before .before .before .before .before .before .before .args .out)) (λ i. c .before .before .before .before .before .before .before .before .before .before .before .before .before .before .before .before .before .before .shared-slice-known .given i .fits) (headed (c .before .before .before .before .before .before .before .before .before .before .before .before)) (walked (c .before .before .before .before .before) i d k (c .before .fault .given .1)))
 
 same-length-3 : tie.Need-same-length-3
 same-length-3 c = search needs
@@ -104,7 +104,7 @@ from-start-spec =
     part-take-records-end
     take-records-requires
     enum-known-i
-    enum-known-f
+    enum-known-fault
     enum-known-q
     finish-requires
     finished-requires

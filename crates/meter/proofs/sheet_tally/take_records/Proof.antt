@@ -46,8 +46,8 @@ returns c =
     let l = x .before .before .before .before .before .before .before in
     (x .take-record .ensures .0 ∙ l .loop .inv .size, λ i d w g m. walking-misframed (l .loop .inv) (x .before .before .before .before .before .before .loop-test .taken) (counts x) (spare x) (x .take-record .result) (x .take-record .ensures .1 .1 .1) (c .before .i .given .1) w (begins g m i d))
 
-enum-known-f : tie.Need-enum-known-f Inv-loop μ-loop
-enum-known-f c = search needs
+enum-known-fault : tie.Need-enum-known-fault Inv-loop μ-loop
+enum-known-fault c = search needs
 
 same-length-2 : tie.Need-same-length-2 Inv-loop μ-loop
 same-length-2 c = search needs
@@ -56,7 +56,7 @@ returns-2 : tie.Need-returns-2 Inv-loop μ-loop
 returns-2 c =
     let x = c .before .before .before .before .before in
     let l = x .before .before .before .before .before .before .before in
-    (x .take-record .ensures .0 ∙ l .loop .inv .size, λ i d w g m. walking-refused (l .loop .inv) (x .before .before .before .before .before .before .loop-test .taken) (counts x) (spare x) (x .take-record .result) (x .take-record .ensures .1 .1 .1) (c .before .f .given .1) w (begins g m i d))
+    (x .take-record .ensures .0 ∙ l .loop .inv .size, λ i d w g m. walking-refused (l .loop .inv) (x .before .before .before .before .before .before .loop-test .taken) (counts x) (spare x) (x .take-record .result) (x .take-record .ensures .1 .1 .1) (c .before .fault .given .1) w (begins g m i d))
 
 enum-known-next : tie.Need-enum-known-next Inv-loop μ-loop
 enum-known-next c = search needs
@@ -105,7 +105,7 @@ take-records-spec =
     enum-known-i
     same-length
     returns
-    enum-known-f
+    enum-known-fault
     same-length-2
     returns-2
     enum-known-next

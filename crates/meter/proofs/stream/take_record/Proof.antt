@@ -61,8 +61,8 @@ part-step-end c = inside c
 step-requires : tie.Need-step-requires
 step-requires c κs = search needs
 
-enum-known-f : tie.Need-enum-known-f
-enum-known-f c = search needs
+enum-known-fault : tie.Need-enum-known-fault
+enum-known-fault c = search needs
 
 enum-known-next : tie.Need-enum-known-next
 enum-known-next c = search needs
@@ -80,7 +80,7 @@ returns-2 c =
     let x = c .before .before .before .before .before in
     let m = x .before .before .before .before .before .before .before in
     let s = m .before .before .before .before .before .before in
-    (x .step .ensures .0, (x .step .ensures .1 .0, (tt, λ w k. told-refused (whole s) w (bytes s) (framed-as (bytes s) (key m) (size m) (framed m)) (x .step .last .1 .1 .1 .1 .1 .1 .0) (x .step .last .1 .1 .1 .1 .0) (x .step .result) (simp (toZ-ofZ w64 (key m) (record { sfits = m .known-told .given .0 .1 })) at (x .step .ensures .1 .1 w k)) (c .before .f .given .1))))
+    (x .step .ensures .0, (x .step .ensures .1 .0, (tt, λ w k. told-refused (whole s) w (bytes s) (framed-as (bytes s) (key m) (size m) (framed m)) (x .step .last .1 .1 .1 .1 .1 .1 .0) (x .step .last .1 .1 .1 .1 .0) (x .step .result) (simp (toZ-ofZ w64 (key m) (record { sfits = m .known-told .given .0 .1 })) at (x .step .ensures .1 .1 w k)) (c .before .fault .given .1))))
 
 same-length-2 : tie.Need-same-length-2
 same-length-2 c = search needs
@@ -104,7 +104,7 @@ take-record-spec =
     part-step-start
     part-step-end
     step-requires
-    enum-known-f
+    enum-known-fault
     enum-known-next
     returns
     same-length

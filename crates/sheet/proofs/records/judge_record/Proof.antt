@@ -39,17 +39,17 @@ returns-2 c = (refl, judged-falling _ _ (recordOf _ _) (told-as toldSplit (told 
 scan-requires : tie.Need-scan-requires
 scan-requires c κs = search needs
 
-enum-known-f : tie.Need-enum-known-f
-enum-known-f c = search needs
+enum-known-fault : tie.Need-enum-known-fault
+enum-known-fault c = search needs
 
-enum-known-found : tie.Need-enum-known-found
-enum-known-found c = search needs
+enum-known-scanned : tie.Need-enum-known-scanned
+enum-known-scanned c = search needs
 
 returns-3 : tie.Need-returns-3
-returns-3 c = (c .before .before .before .scan .ensures .1, judged-refused _ _ (recordOf _ _) (told-as toldSplit (told (c .before .before .before .before .before .before .before .before .before .before)) (c .before .before .before .before .before .before .before .before .at .given .1)) (sym (rising (c .before .before .before .before .before .before)) ∙ not-false _ (c .before .before .before .before .before .if1 .left)) (told-as toldScan (c .before .before .before .scan .ensures .0) (c .before .f .given .1)))
+returns-3 c = (c .before .before .before .scan .ensures .1, judged-refused _ _ (recordOf _ _) (told-as toldSplit (told (c .before .before .before .before .before .before .before .before .before .before)) (c .before .before .before .before .before .before .before .before .at .given .1)) (sym (rising (c .before .before .before .before .before .before)) ∙ not-false _ (c .before .before .before .before .before .if1 .left)) (told-as toldScan (c .before .before .before .scan .ensures .0) (c .before .fault .given .1)))
 
 returns-4 : tie.Need-returns-4
-returns-4 c = (c .before .before .before .scan .ensures .1, judged-taken _ _ (recordOf _ _) (told-as toldSplit (told (c .before .before .before .before .before .before .before .before .before .before)) (c .before .before .before .before .before .before .before .before .at .given .1)) (sym (rising (c .before .before .before .before .before .before)) ∙ not-false _ (c .before .before .before .before .before .if1 .left)) (told-as toldScan (c .before .before .before .scan .ensures .0) (c .before .found .given .1)))
+returns-4 c = (c .before .before .before .scan .ensures .1, judged-taken _ _ (recordOf _ _) (told-as toldSplit (told (c .before .before .before .before .before .before .before .before .before .before)) (c .before .before .before .before .before .before .before .before .at .given .1)) (sym (rising (c .before .before .before .before .before .before)) ∙ not-false _ (c .before .before .before .before .before .if1 .left)) (told-as toldScan (c .before .before .before .scan .ensures .0) (c .before .scanned .given .1)))
 
 pub judge-record-spec : {M : Type 1} → statement M
 judge-record-spec =
@@ -62,7 +62,7 @@ judge-record-spec =
     is-rising-requires
     returns-2
     scan-requires
-    enum-known-f
-    enum-known-found
+    enum-known-fault
+    enum-known-scanned
     returns-3
     returns-4)

@@ -34,8 +34,8 @@ take-record-requires c κs = search needs
 enum-known-i : tie.Need-enum-known-i
 enum-known-i c = search needs
 
-enum-known-f : tie.Need-enum-known-f
-enum-known-f c = search needs
+enum-known-fault : tie.Need-enum-known-fault
+enum-known-fault c = search needs
 
 enum-known-next : tie.Need-enum-known-next
 enum-known-next c = search needs
@@ -66,7 +66,7 @@ returns-4 : tie.Need-returns-4
 returns-4 c =
     let x = c .before .before .before .before .before in
     let b = sized x in
-    (x .take-record .ensures .0, (x .take-record .ensures .1 .0, λ w k. next-refused w (bytes b) _ (told-as (toldLength (w .records)) (b .block-length .ensures (w .records)) (x .before .before .before .before .before .before .enum-told3 .given .1)) (x .take-record .last .1 .1 .1 .1 .1 .0) (x .take-record .last .1 .1 .1 .0) (x .take-record .result) (x .take-record .ensures .1 .1 .1 w k) (c .before .f .given .1)))
+    (x .take-record .ensures .0, (x .take-record .ensures .1 .0, λ w k. next-refused w (bytes b) _ (told-as (toldLength (w .records)) (b .block-length .ensures (w .records)) (x .before .before .before .before .before .before .enum-told3 .given .1)) (x .take-record .last .1 .1 .1 .1 .1 .0) (x .take-record .last .1 .1 .1 .0) (x .take-record .result) (x .take-record .ensures .1 .1 .1 w k) (c .before .fault .given .1)))
 
 same-length-3 : tie.Need-same-length-3
 same-length-3 c = search needs
@@ -87,7 +87,7 @@ take-next-spec =
     enum-told-3
     take-record-requires
     enum-known-i
-    enum-known-f
+    enum-known-fault
     enum-known-next
     returns
     returns-2
