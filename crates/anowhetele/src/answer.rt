@@ -16,6 +16,7 @@ pub struct AnowAnswer {
     pub length: u64,
 }
 
+// Makes the answer of a call that is done.
 pub(crate) fn done(length: usize) -> AnowAnswer
     ensures { λ r. ⌜ r ≡ doneWith length ⌝ }
 {
@@ -27,7 +28,7 @@ pub(crate) fn done(length: usize) -> AnowAnswer
     }
 }
 
-// A refusal that has neither record nor offset.
+// Makes a refusal that has neither record nor offset.
 pub(crate) fn plain(number: u32) -> AnowAnswer
     ensures { λ r. ⌜ r ≡ refusedWith number 0 0 ⌝ }
 {
@@ -39,7 +40,7 @@ pub(crate) fn plain(number: u32) -> AnowAnswer
     }
 }
 
-// A fault in a block or a row, at its place.
+// Makes the refusal of a fault in a block or a row, at its place.
 pub(crate) fn refused(fault: Fault, offset: usize) -> AnowAnswer
     ensures { λ r. ⌜ r ≡ refusedWith (refusalNumber fault) 0 offset ⌝ }
 {
@@ -51,7 +52,7 @@ pub(crate) fn refused(fault: Fault, offset: usize) -> AnowAnswer
     }
 }
 
-// A refusal in a sheet: the record at an index.
+// Makes a refusal in a sheet: that of the record at an index.
 pub(crate) fn in_record(number: u32, index: u32, offset: usize) -> AnowAnswer
     ensures { λ r. ⌜ r ≡ refusedWith number index offset ⌝ }
 {

@@ -31,6 +31,7 @@ pub struct AnowBlock {
     pub sections: Sections,
 }
 
+// Makes what is handed of a block that is refused.
 fn no_block(answer: AnowAnswer) -> AnowBlock
     ensures { λ r. ⌜ r ≡ noBlock answer ⌝ }
 {
@@ -47,6 +48,7 @@ fn no_block(answer: AnowAnswer) -> AnowBlock
     }
 }
 
+// Reads a block into the three lent lists, and tells its head and where its sections are.
 #[no_mangle]
 pub extern "C" fn anow_read(
     block: &[u8],
@@ -82,6 +84,7 @@ pub extern "C" fn anow_read(
     }
 }
 
+// Tells a block's head and where its sections are.
 #[no_mangle]
 pub extern "C" fn anow_sections(block: &[u8]) -> AnowBlock
     ensures { λ r. ⌜ r ≡ handedBlock (sectionsOf (now (block .entry))) ⌝ }
@@ -102,6 +105,7 @@ pub struct AnowNode {
     pub name: Range,
 }
 
+// Makes what is handed of a node that is refused.
 fn no_node(answer: AnowAnswer) -> AnowNode
     ensures { λ r. ⌜ r ≡ noNode answer ⌝ }
 {
@@ -111,6 +115,7 @@ fn no_node(answer: AnowAnswer) -> AnowNode
     }
 }
 
+// Tells where the name of the node at an index stands.
 #[no_mangle]
 pub extern "C" fn anow_node_name(block: &[u8], index: u64) -> AnowNode
     ensures { λ r. ⌜ r ≡ handedNode (nodeNameOf (now (block .entry)) index) ⌝ }

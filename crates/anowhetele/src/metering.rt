@@ -29,6 +29,7 @@ ghost use Rattle.sheet.specs.Records.{faultNumber, faultOffset};
 ghost use Rattle.meter.specs.SheetTold.{toldSheet};
 ghost use Rattle.anowhetele.specs.Answers.{Handed, handed, refusedWith};
 
+// Tallies the nodes of the block at a key that stand in a part.
 #[no_mangle]
 pub extern "C" fn anow_tally_block(
     key: i64,
@@ -49,7 +50,7 @@ pub extern "C" fn anow_tally_block(
     }
 }
 
-// A fault of the record at an index.
+// Makes the refusal of the record at an index.
 fn record_refused(fault: RecordFault, index: u32) -> AnowAnswer
     ensures { λ r. ⌜ r ≡ refusedWith (faultNumber fault) index (faultOffset fault) ⌝ }
 {
@@ -60,7 +61,7 @@ fn record_refused(fault: RecordFault, index: u32) -> AnowAnswer
     }
 }
 
-// What tallying a sheet answered, as it is handed to a host.
+// Gives what tallying a sheet answered, as it is handed to a host.
 pub fn sheet_answer(answer: SheetAnswer) -> AnowAnswer
     ensures { λ r. ⌜ r ≡ handed (toldSheet answer) ⌝ }
 {
@@ -75,7 +76,7 @@ pub fn sheet_answer(answer: SheetAnswer) -> AnowAnswer
     }
 }
 
-// The spare keeps its length; what it holds afterwards is open.
+// Tallies the nodes of a sheet's blocks that stand in a part. The spare keeps its length; what it holds afterwards is open.
 #[no_mangle]
 pub extern "C" fn anow_tally_sheet(
     sheet: &[u8],

@@ -30,6 +30,7 @@ pub struct AnowInside {
     pub inside: u32,
 }
 
+// Gives the key of a block, by its coordinates.
 #[no_mangle]
 pub extern "C" fn anow_key_join(x: i32, y: i32, z: i32) -> AnowKey
     ensures { λ r. ⌜ r ≡ handedKey (joinOf x y z) ⌝ }
@@ -43,6 +44,7 @@ pub extern "C" fn anow_key_join(x: i32, y: i32, z: i32) -> AnowKey
     }
 }
 
+// Gives the coordinates of the block that has a key.
 #[no_mangle]
 pub extern "C" fn anow_key_split(key: i64) -> AnowCoordinates
     ensures { λ r. ⌜ r ≡ handedCoordinates (splitOf key) ⌝ }
@@ -63,7 +65,7 @@ pub extern "C" fn anow_key_split(key: i64) -> AnowCoordinates
     }
 }
 
-// The answer for a lot or a span: whether it is good, and whether it has what was asked for.
+// Makes the answer for a lot or a span: whether it is good, and whether it has what was asked for.
 fn inside(fit: bool, has: bool) -> AnowInside
     ensures { λ r. ⌜ r ≡ handedInside (asked fit has) ⌝ }
 {
@@ -86,6 +88,7 @@ fn inside(fit: bool, has: bool) -> AnowInside
     }
 }
 
+// Tells whether a node lies in a lot.
 #[no_mangle]
 pub extern "C" fn anow_lot_has(lot: Lot, x: i32, y: i32, z: i32) -> AnowInside
     ensures { λ r. ⌜ r ≡ handedInside (lotHas lot x y z) ⌝ }
@@ -93,6 +96,7 @@ pub extern "C" fn anow_lot_has(lot: Lot, x: i32, y: i32, z: i32) -> AnowInside
     inside(lot.is_good(), lot.has(x, y, z))
 }
 
+// Tells whether a second lies in a span.
 #[no_mangle]
 pub extern "C" fn anow_span_has(span: Span, second: u32) -> AnowInside
     ensures { λ r. ⌜ r ≡ handedInside (spanHas span second) ⌝ }

@@ -26,6 +26,7 @@ pub struct AnowNameRow {
     pub name: Range,
 }
 
+// Makes what is handed of a row of names that is refused.
 fn no_name(answer: AnowAnswer) -> AnowNameRow
     ensures { λ r. ⌜ r ≡ noName answer ⌝ }
 {
@@ -36,6 +37,7 @@ fn no_name(answer: AnowAnswer) -> AnowNameRow
     }
 }
 
+// Tells of the front row of names.
 #[no_mangle]
 pub extern "C" fn anow_row_name(part: &[u8]) -> AnowNameRow
     ensures { λ r. ⌜ r ≡ handedName (nameRowOf (now (part .entry))) ⌝ }
@@ -66,6 +68,7 @@ pub struct AnowMetadataRow {
     pub inventory: Range,
 }
 
+// Makes what is handed of a row of metadata that is refused.
 fn no_metadata(answer: AnowAnswer) -> AnowMetadataRow
     ensures { λ r. ⌜ r ≡ noMetadata answer ⌝ }
 {
@@ -80,6 +83,7 @@ fn no_metadata(answer: AnowAnswer) -> AnowMetadataRow
     }
 }
 
+// Tells of the front row of metadata.
 #[no_mangle]
 pub extern "C" fn anow_row_metadata(version: u8, part: &[u8]) -> AnowMetadataRow
     ensures { λ r. ⌜ r ≡ handedMetadata (metadataRowOf version (now (part .entry))) ⌝ }
@@ -115,6 +119,7 @@ pub struct AnowObjectRow {
     pub content: Range,
 }
 
+// Makes what is handed of a static object that is refused.
 fn no_object(answer: AnowAnswer) -> AnowObjectRow
     ensures { λ r. ⌜ r ≡ noObject answer ⌝ }
 {
@@ -128,6 +133,7 @@ fn no_object(answer: AnowAnswer) -> AnowObjectRow
     }
 }
 
+// Tells of the front row of static objects.
 #[no_mangle]
 pub extern "C" fn anow_row_object(part: &[u8]) -> AnowObjectRow
     ensures { λ r. ⌜ r ≡ handedObject (objectRowOf (now (part .entry))) ⌝ }
@@ -158,6 +164,7 @@ pub struct AnowTimerRow {
     pub elapsed: i32,
 }
 
+// Makes what is handed of a timer that is refused.
 fn no_timer(answer: AnowAnswer) -> AnowTimerRow
     ensures { λ r. ⌜ r ≡ noTimer answer ⌝ }
 {
@@ -169,6 +176,7 @@ fn no_timer(answer: AnowAnswer) -> AnowTimerRow
     }
 }
 
+// Tells of the front row of timers.
 #[no_mangle]
 pub extern "C" fn anow_row_timer(part: &[u8]) -> AnowTimerRow
     ensures { λ r. ⌜ r ≡ handedTimer (timerRowOf (now (part .entry))) ⌝ }

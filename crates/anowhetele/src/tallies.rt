@@ -18,6 +18,7 @@ ghost use Rattle.tally.specs.Tally.{one};
 ghost use Rattle.tally.specs.Operations.{checkOf, addOf, mergeOf};
 ghost use Rattle.anowhetele.specs.Answers.{Handed, handed, nothingWritten};
 
+// Tells whether bytes are a tally.
 #[no_mangle]
 pub extern "C" fn anow_tally_check(tally: &[u8]) -> AnowAnswer
     ensures { λ r. ⌜ r ≡ handed (nothingWritten (checkOf one (now (tally .entry)))) ⌝ }
@@ -28,6 +29,7 @@ pub extern "C" fn anow_tally_check(tally: &[u8]) -> AnowAnswer
     }
 }
 
+// Adds a count to a name in the tally at the front of a buffer.
 #[no_mangle]
 pub extern "C" fn anow_tally_add(
     buffer: &mut [u8],
@@ -47,6 +49,7 @@ pub extern "C" fn anow_tally_add(
     }
 }
 
+// Adds two tallies by name.
 #[no_mangle]
 pub extern "C" fn anow_tally_merge(a: &[u8], b: &[u8], out: &mut [u8]) -> AnowAnswer
     ensures { λ r. ⌜ Handed r (now (out .entry)) (now (out .exit))

@@ -13,6 +13,7 @@ ghost use Rattle.block_writer.specs.BlockParts.{blockParts};
 ghost use Rattle.block_writer.specs.Write.{writeOf};
 ghost use Rattle.anowhetele.specs.Answers.{Handed};
 
+// Writes a block from its head, its lists and its sections.
 #[no_mangle]
 pub extern "C" fn anow_write(
     head: Head,

@@ -46,25 +46,28 @@ const LEAST_KEY: i64 = -SHIFT;
 
 const GREATEST_KEY: i64 = 34_351_347_711;
 
-// `&` and not `&&`, here and below: no test can trap, and without a branch there is one return to prove.
+// Tells whether c lies from a to b. `&` and not `&&`, here and below: no test can trap, and without a branch there is one return to prove.
 pub(crate) fn is_between(a: i32, c: i32, b: i32) -> bool
     ensures { λ r. ⌜ r ≡ between a c b ⌝ }
 {
     (a <= c) & (c <= b)
 }
 
+// Tells whether a block coordinate is in range.
 pub(crate) fn is_inside(c: i32) -> bool
     ensures { λ r. ⌜ r ≡ inside c ⌝ }
 {
     is_between(LEAST, c, GREATEST)
 }
 
+// Tells whether all three are.
 pub(crate) fn are_inside(x: i32, y: i32, z: i32) -> bool
     ensures { λ r. ⌜ r ≡ allInside x y z ⌝ }
 {
     is_inside(x) & (is_inside(y) & is_inside(z))
 }
 
+// Works out the key of coordinates in range.
 fn key_of(x: i64, y: i64, z: i64) -> i64
     requires { ⌜ allInside x y z ≡ true ⌝ }
     ensures { λ r. ⌜ r ≡ keyOf x y z ⌝ }
@@ -72,7 +75,7 @@ fn key_of(x: i64, y: i64, z: i64) -> i64
     z * Z_STEP + y * Y_STEP + x
 }
 
-// The key of a block, by its coordinates.
+// Gives the key of a block, by its coordinates.
 pub fn join(x: i32, y: i32, z: i32) -> JoinAnswer
     ensures { λ r. ⌜ toldJoin r ≡ joinOf x y z ⌝ }
 {
@@ -83,14 +86,14 @@ pub fn join(x: i32, y: i32, z: i32) -> JoinAnswer
     }
 }
 
-// The range is tested on the key itself: the shifted number of a key near 2^63 would not fit.
+// Tells whether a key is in range. The test is on the key itself: the shifted number of a key near 2^63 would not fit.
 pub(crate) fn is_key(key: i64) -> bool
     ensures { λ r. ⌜ r ≡ isKey key ⌝ }
 {
     (LEAST_KEY <= key) & (key <= GREATEST_KEY)
 }
 
-// The whole shift comes before any remainder, so that none is taken of a negative number and rounds toward zero.
+// Shifts a key so that no field is below 0. The whole shift comes before any remainder, so that none is taken of a negative number and rounds toward zero.
 fn shifted(key: i64) -> u64
     requires { ⌜ isKey key ≡ true ⌝ }
     ensures { λ r. ⌜ r ≡ natAbs (moved key) ⌝ }
@@ -98,6 +101,7 @@ fn shifted(key: i64) -> u64
     (key + SHIFT) as u64
 }
 
+// Takes the shift off a field: this is the coordinate.
 fn low(field: u64) -> i32
     requires { ⌜ field < 4096 ⌝ }
     ensures { λ r. ⌜ r ≡ lowered field ⌝ }
@@ -105,7 +109,7 @@ fn low(field: u64) -> i32
     field as i32 - HALF
 }
 
-// The coordinates of the block that has a key. The range is judged first: near 2^63 the shift would not fit.
+// Gives the coordinates of the block that has a key. The range is judged first: near 2^63 the shift would not fit.
 pub fn split(key: i64) -> SplitAnswer
     ensures { λ r. ⌜ toldSplit r ≡ splitOf key ⌝ }
 {

@@ -24,6 +24,7 @@ const LEAST: i32 = -32768;
 
 const GREATEST: i32 = 32767;
 
+// Tells whether the ends on one axis lie in the world and are not turned round.
 fn is_axis(a: i32, b: i32) -> bool
     ensures { λ r. ⌜ r ≡ axis a b ⌝ }
 {
@@ -40,13 +41,14 @@ impl Lot {
         z1: GREATEST,
     };
 
+    // Tells whether the lot lies in the world and is not turned round.
     pub fn is_good(self) -> bool
         ensures { λ r. ⌜ r ≡ goodLot self ⌝ }
     {
         is_axis(self.x0, self.x1) & (is_axis(self.y0, self.y1) & is_axis(self.z0, self.z1))
     }
 
-    // A constant has no contract of its own, so this one says what the whole world is.
+    // Makes a lot, if it is good. A constant has no contract of its own, so this one says what the whole world is.
     pub fn new(x0: i32, y0: i32, z0: i32, x1: i32, y1: i32, z1: i32) -> LotAnswer
         ensures told { λ r. ⌜ toldLot r ≡ lotOf x0 y0 z0 x1 y1 z1 ⌝ }
         ensures least { λ _. do
@@ -73,6 +75,7 @@ impl Lot {
         }
     }
 
+    // Tells whether a node lies in the lot.
     pub fn has(self, x: i32, y: i32, z: i32) -> bool
         ensures { λ r. ⌜ r ≡ inLot self x y z ⌝ }
     {

@@ -13,7 +13,7 @@ pub enum NodeCoordinatesAnswer {
     NoSuchNode,
 }
 
-// One axis: the block's first node, and the step from it.
+// Works out a node's coordinate on one axis: the block's first node, and the step from it.
 fn axis_coordinate(c: i32, step: usize) -> i32
     requires { ⌜ (inside c ≡ true) × (step < 16) ⌝ }
     ensures { λ r. ⌜ r ≡ axisCoordinate c step ⌝ }
@@ -21,7 +21,7 @@ fn axis_coordinate(c: i32, step: usize) -> i32
     c * 16 + step as i32
 }
 
-// Where the node at an index of a block stands.
+// Tells where the node at an index of a block stands.
 pub fn node_coordinates(block: Coordinates, index: usize) -> NodeCoordinatesAnswer
     ensures { λ r. ⌜ toldNodeCoordinates r ≡ nodeCoordinatesOf block index ⌝ }
 {

@@ -17,7 +17,7 @@ impl Part {
         span: Span::ALL_TIME,
     };
 
-    // Neither the lot nor the span is bad.
+    // Tells whether neither the lot nor the span is bad.
     pub fn is_good(self) -> bool
         ensures { λ r. ⌜ r ≡ goodPart self ⌝ }
     {

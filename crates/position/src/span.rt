@@ -20,13 +20,14 @@ impl Span {
         until: 0xffff_ffff,
     };
 
+    // Tells whether the span is not turned round.
     pub fn is_good(self) -> bool
         ensures { λ r. ⌜ r ≡ goodSpan self ⌝ }
     {
         self.from <= self.until
     }
 
-    // A constant has no contract of its own, so this one says what all time is.
+    // Makes a span, if it is good. A constant has no contract of its own, so this one says what all time is.
     pub fn new(from: u32, until: u32) -> SpanAnswer
         ensures told { λ r. ⌜ toldSpan r ≡ spanOf from until ⌝ }
         ensures constant { λ _. do
@@ -41,6 +42,7 @@ impl Span {
         }
     }
 
+    // Tells whether a second lies in the span.
     pub fn has(self, second: u32) -> bool
         ensures { λ r. ⌜ r ≡ inSpan self second ⌝ }
     {

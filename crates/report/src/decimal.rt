@@ -16,7 +16,7 @@ pub(crate) fn put_decimal(out: &mut [u8], at: usize, n: u64) -> usize
     k
 }
 
-// How many digits a number has.
+// Tells how many digits a number has.
 pub(crate) fn decimal_length(n: u64) -> usize
     ensures { λ r. ⌜ r ≡ length (decimal n) ⌝ }
 {

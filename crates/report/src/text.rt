@@ -9,7 +9,7 @@ pub enum TextAnswer {
     NoRoom,
 }
 
-// The length of the text that was put; 0 where none was.
+// Gives the length of the text that was put; 0 where none was.
 pub fn put_length(answer: TextAnswer) -> usize
     ensures { λ r. ⌜ r ≡ lengthPut answer ⌝ }
 {

@@ -9,6 +9,7 @@ pub struct RunningTally {
     pub over: bool,
 }
 
+// Makes a running tally of no rows.
 pub fn empty() -> RunningTally
     ensures { λ r. ⌜ r ≡ none ⌝ }
 {

@@ -6,7 +6,7 @@ ghost use Rattle.wire.specs.Read.{toOption};
 ghost use Rattle.wire.specs.Told.{toldHead};
 ghost use Rattle.sheet.specs.Sheet.{sheetHead};
 
-// The number of records that it states.
+// Reads the number of records that the head states.
 pub fn sheet_head(s: &[u8]) -> HeadRead
     ensures { λ r. ⌜ toldHead r ≡ toOption (sheetHead .read (now (s .entry))) ⌝ }
 {

@@ -29,7 +29,7 @@ pub enum FrameRead {
     Misframed,
 }
 
-// The framing of the record at the front.
+// Reads the framing of the record at the front.
 pub fn frame(s: &[u8]) -> FrameRead
     ensures { λ r. ⌜ toldFrame (now (s .entry)) r ≡ toOption (frame .read (now (s .entry))) ⌝ }
 {
@@ -48,7 +48,7 @@ pub enum LastKey {
     Key(i64),
 }
 
-// Keys rise as numbers.
+// Tells whether a key follows the last one: keys rise as numbers.
 fn is_rising(last: LastKey, key: i64) -> bool
     ensures { λ r. ⌜ r ≡ rises (lastOf last) key ⌝ }
 {
@@ -71,7 +71,7 @@ pub enum RecordAnswer {
     Refused(RecordFault),
 }
 
-// A record judged against the last key, by the ids that the table has free. The table comes back as it was.
+// Judges a record against the last key, by the ids that the table has free. The table comes back as it was.
 pub fn judge_record(last: LastKey, key: i64, block: &[u8], ids: &mut [u8; IDS]) -> RecordAnswer
     ensures ids { λ _. ⌜ now (ids .exit) ≡ now (ids .entry) ⌝ }
     ensures told { λ r. ⌜ toldRecord r

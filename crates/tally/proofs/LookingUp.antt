@@ -1,4 +1,4 @@
--- A name sought among rows, from the first on: what the search finds in bytes that hold rows, and what the code knows on its way.
+-- A name looked up among rows, from the first on: what the search finds in bytes that hold rows, and what the code knows on its way.
 use Prim.Native.Nat.{ℕ, zero, suc, _+_, _-_, _<_, _≤_}
 use mathlib.Core.Path.{_≡_, refl, sym, ap, ap₂, subst, _∙_}
 use mathlib.Core.List.{List, [], _∷_, _++_, append-assoc}
@@ -73,8 +73,8 @@ pub record LookingUp (s name rest : List ℕ) (at : ℕ) : Type 0 where
   pub size : at + length rest ≡ length s
   pub passed : (L : Rows ones) → Holds one s L → Passed name rest at L
 
-pub seeking-start : (s name : List ℕ) → LookingUp s name s 0
-seeking-start s name = record {
+pub looking-up-start : (s name : List ℕ) → LookingUp s name s 0
+looking-up-start s name = record {
   size = zero-add (length s);
   passed = λ L h. record { D = []; R = L; split = refl; below = tt; place = refl; left = h };
 }
@@ -89,8 +89,8 @@ module _ {s name rest : List ℕ} {at : ℕ} (w : LookingUp s name rest at) wher
   )
 
   -- the rows end
-  pub seeking-end : toldRow rest rows.Malformed ≡ toOption (row one [] .read rest) → LookedUp s name (lookups.Absent at)
-  seeking-end e = place-at (λ L h. rw (no-row rest (w .passed L h .R) e (w .passed L h .left)) tt)
+  pub looking-up-end : toldRow rest rows.Malformed ≡ toOption (row one [] .read rest) → LookedUp s name (lookups.Absent at)
+  looking-up-end e = place-at (λ L h. rw (no-row rest (w .passed L h .R) e (w .passed L h .left)) tt)
 
   -- a row of n bytes of name stands there
   module _ (n c : ℕ) (e : toldRow rest (rows.Row n c) ≡ toOption (row one [] .read rest)) where
@@ -104,8 +104,8 @@ module _ {s name rest : List ℕ} {at : ℕ} (w : LookingUp s name rest at) wher
       stands : (L : Rows ones) (h : Holds one s L) → order (first L h .r .name) name ≡ o
       stands L h = ap (λ (m : List ℕ). order m name) (sym (first L h .name)) ∙ named
 
-    pub seeking-on : Before ≡ order (take ((n + 2) - 2) (drop 2 rest)) name → LookingUp s name (take (length rest - (n + 10)) (drop (n + 10) rest)) (at + (n + 10))
-    seeking-on k = rw (rest-is (n + 10) rest) record {
+    pub looking-up-on : Before ≡ order (take ((n + 2) - 2) (drop 2 rest)) name → LookingUp s name (take (length rest - (n + 10)) (drop (n + 10) rest)) (at + (n + 10))
+    looking-up-on k = rw (rest-is (n + 10) rest) record {
       size = rest-ends rest n c e s at (w .size);
       passed = λ L h.
           let p = w .passed L h in
@@ -120,8 +120,8 @@ module _ {s name rest : List ℕ} {at : ℕ} (w : LookingUp s name rest at) wher
           };
     }
 
-    pub seeking-row : Same ≡ order (take ((n + 2) - 2) (drop 2 rest)) name → LookedUp s name (lookups.Present at c)
-    seeking-row k =
+    pub looking-up-row : Same ≡ order (take ((n + 2) - 2) (drop 2 rest)) name → LookedUp s name (lookups.Present at c)
+    looking-up-row k =
         let long : length name ≡ n = ap length (sym (order-same (take n (drop 2 rest)) name (named k))) ∙ name-long rest n c e in (
           omega (arith, long, row-ends rest n c e s at (w .size)),
           λ L h.
@@ -139,8 +139,8 @@ module _ {s name rest : List ℕ} {at : ℕ} (w : LookingUp s name rest at) wher
               },
         )
 
-    pub seeking-over : After ≡ order (take ((n + 2) - 2) (drop 2 rest)) name → LookedUp s name (lookups.Absent at)
-    seeking-over k = place-at (λ L h.
+    pub looking-up-over : After ≡ order (take ((n + 2) - 2) (drop 2 rest)) name → LookedUp s name (lookups.Absent at)
+    looking-up-over k = place-at (λ L h.
         let f = first L h in
         let v : order name (f .r .name) ≡ Before = order-flip (f .r .name) name ∙ ap flip (stands k L h) in
         rw (f .split) (v, above-weak ones name (f .r .name) (f .R) v (f .canonical .3)))
@@ -173,7 +173,7 @@ module _ (s name : List ℕ) where
   finds zero rest at w h b = by-row (row one [] .read rest) refl
     where
       by-row : (x : Read Malformed (Row ℕ)) → row one [] .read rest ≡ x → LookedUp s name (lookups.Absent at)
-      by-row (refused f p) e = seeking-end w (ap toOption (sym e))
+      by-row (refused f p) e = looking-up-end w (ap toOption (sym e))
       by-row (done r m) e = absurd (omega (arith, row-inside rest (length (r .name)) (r .count) (row-shape rest r m b e)))
   finds (suc k) rest at w h b = by-row (finds k) (row one [] .read rest) refl
     where
@@ -192,38 +192,38 @@ module _ (s name : List ℕ) where
               → LookedUp s name (choose o (lookupIn name (at + (length (r .name) + 10)) (rowsRead (row one [] .read) k (drop m rest))) (lookups.Present at (r .count)) (lookups.Absent at))
           by-case Before v z =
               let told = row-shape rest r m b e in
-              let on = rw (rest-is (length (r .name) + 10) rest, z) at (seeking-on w (length (r .name)) (r .count) told v) in
+              let on = rw (rest-is (length (r .name) + 10) rest, z) at (looking-up-on w (length (r .name)) (r .count) told v) in
               let less : length (drop m rest) ≤ k = rw length-drop (omega (arith, row-inside rest (length (r .name)) (r .count) told)) in
               rw z (next (drop m rest) (at + m) on less (bytes-drop m rest b))
-          by-case Same v z = seeking-row w (length (r .name)) (r .count) (row-shape rest r m b e) v
-          by-case After v z = seeking-over w (length (r .name)) (r .count) (row-shape rest r m b e) v
+          by-case Same v z = looking-up-row w (length (r .name)) (r .count) (row-shape rest r m b e) v
+          by-case After v z = looking-up-over w (length (r .name)) (r .count) (row-shape rest r m b e) v
 
       by-row : Finds k → (x : Read Malformed (Row ℕ)) → row one [] .read rest ≡ x
           → LookedUp s name (lookupIn name at (rowThen x (λ n. rowsRead (row one [] .read) k (drop n rest))))
-      by-row next (refused f p) e = seeking-end w (ap toOption (sym e))
+      by-row next (refused f p) e = looking-up-end w (ap toOption (sym e))
       by-row next (done r m) e = by-order next r m e (order (r .name) name) refl
 
   pub looked-up : Bytes s → LookedUp s name (lookupOf s name)
-  looked-up b = finds (length s) s 0 (seeking-start s name) (omega arith) b
+  looked-up b = finds (length s) s 0 (looking-up-start s name) (omega arith) b
 
 -- by what the code told of n bytes from a place on
 pub looked-up-told : (t : List ℕ) (at n : ℕ) (name : List ℕ) {q r : Lookup} → Bytes t → q ≡ lookupOf (take n (drop at t)) name → q ≡ r → LookedUp (take n (drop at t)) name r
 looked-up-told t at n name b e h = subst (LookedUp (take n (drop at t)) name) (sym e ∙ h) (looked-up (take n (drop at t)) name (bytes-take n (drop at t) (bytes-drop at t b)))
 
 -- ---- the loop
-pub record Seeks (s name rest : List ℕ) (at : ℕ) : Type 0 where
-  pub maxCount : ℕ
+pub record LooksUp (s name rest : List ℕ) (at : ℕ) : Type 0 where
+  pub bound : ℕ
   pub size : at + length rest ≡ length s
-  pub enough : length rest ≤ maxCount
-  pub same : lookupIn name at (rowsRead (row one [] .read) maxCount rest) ≡ lookupOf s name
+  pub enough : length rest ≤ bound
+  pub same : lookupIn name at (rowsRead (row one [] .read) bound rest) ≡ lookupOf s name
 
-pub seeks-start : (s name : List ℕ) → Seeks s name s 0
-seeks-start s name = record { maxCount = length s; size = zero-add (length s); enough = omega arith; same = refl }
+pub looks-up-start : (s name : List ℕ) → LooksUp s name s 0
+looks-up-start s name = record { bound = length s; size = zero-add (length s); enough = omega arith; same = refl }
 
-module _ {s name rest : List ℕ} {at : ℕ} (w : Seeks s name rest at) where
-  pub seeks-end : toldRow rest rows.Malformed ≡ toOption (row one [] .read rest) → lookups.Absent at ≡ lookupOf s name
+module _ {s name rest : List ℕ} {at : ℕ} (w : LooksUp s name rest at) where
+  pub looks-up-end : toldRow rest rows.Malformed ≡ toOption (row one [] .read rest) → lookups.Absent at ≡ lookupOf s name
   unfolding lookupIn rowsRead
-  seeks-end e = ap (lookupIn name at) (sym (none-there (toOption-none (row one [] .read rest) e) (w .maxCount))) ∙ w .same
+  looks-up-end e = ap (lookupIn name at) (sym (none-there (toOption-none (row one [] .read rest) e) (w .bound))) ∙ w .same
     where
       none-there : Misread (row one [] .read rest) → (k : ℕ) → rowsRead (row one [] .read) k rest ≡ []
       none-there m zero = refl
@@ -241,7 +241,7 @@ module _ {s name rest : List ℕ} {at : ℕ} (w : Seeks s name rest at) where
 
     first-is : First
     unfolding rowsRead
-    first-is = by-most (w .maxCount) (w .enough) (w .same)
+    first-is = by-most (w .bound) (w .enough) (w .same)
       where
         by-most : (k : ℕ) → length rest ≤ k → lookupIn name at (rowsRead (row one [] .read) k rest) ≡ lookupOf s name → First
         by-most zero h g = absurd (omega (arith, row-inside rest n c e))
@@ -251,19 +251,19 @@ module _ {s name rest : List ℕ} {at : ℕ} (w : Seeks s name rest at) where
           is = ap (λ (x : Read Malformed (Row ℕ)). lookupIn name at (rowThen x (λ m. rowsRead (row one [] .read) k (drop m rest)))) (sym (toOption-done (row one [] .read rest) e)) ∙ g;
         }
 
-    pub seeks-on : Before ≡ order (take ((n + 2) - 2) (drop 2 rest)) name → Seeks s name (take (length rest - (n + 10)) (drop (n + 10) rest)) (at + (n + 10))
+    pub looks-up-on : Before ≡ order (take ((n + 2) - 2) (drop 2 rest)) name → LooksUp s name (take (length rest - (n + 10)) (drop (n + 10) rest)) (at + (n + 10))
     unfolding lookupIn
-    seeks-on k = rw (rest-is (n + 10) rest) record {
-      maxCount = first-is .more;
+    looks-up-on k = rw (rest-is (n + 10) rest) record {
+      bound = first-is .more;
       size = rest-ends rest n c e s at (w .size);
       enough = first-is .enough;
       same = rw (name-order name rest n k, name-long rest n c e) at (first-is .is);
     }
 
-    pub seeks-row : Same ≡ order (take ((n + 2) - 2) (drop 2 rest)) name → lookups.Present at c ≡ lookupOf s name
+    pub looks-up-row : Same ≡ order (take ((n + 2) - 2) (drop 2 rest)) name → lookups.Present at c ≡ lookupOf s name
     unfolding lookupIn
-    seeks-row k = rw (name-order name rest n k) at (first-is .is)
+    looks-up-row k = rw (name-order name rest n k) at (first-is .is)
 
-    pub seeks-over : After ≡ order (take ((n + 2) - 2) (drop 2 rest)) name → lookups.Absent at ≡ lookupOf s name
+    pub looks-up-over : After ≡ order (take ((n + 2) - 2) (drop 2 rest)) name → lookups.Absent at ≡ lookupOf s name
     unfolding lookupIn
-    seeks-over k = rw (name-order name rest n k) at (first-is .is)
+    looks-up-over k = rw (name-order name rest n k) at (first-is .is)

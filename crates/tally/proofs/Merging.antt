@@ -41,7 +41,7 @@ module _ {A B : Rows ones} {rows size : ℕ} (m : MeasuredRows rows size A B) wh
   measured-many h = and-no (limited one (plus ones A B)) _ (inr (lt-leb (length (plus ones A B)) maxRows (omega (arith, m .counts))))
 
 -- ---- what merging rows answers, by what was measured
--- what is laid into a part that goes to the end, in the whole
+-- what is put into a slice that goes to the end, in the whole
 part-overwrite : (n : ℕ) (w t ys : List ℕ) → n + length w ≤ length t → ys ≡ overwrite 0 w (drop n t) → putMid n (length t - n) t ys ≡ overwrite n w t
 part-overwrite n w t ys h e = part-back n t ys (omega arith) ∙ ap (λ (z : List ℕ). take n t ++ z) (e ∙ rw (zero-add, drop-drop (length w) n t))
 

@@ -60,7 +60,7 @@ row-opened n r d a e h room p q =
     rw (size, was, ends) (drop-at (take k d) (take n d ++ drop (n + length (fields one .encode r)) d) k (length-take-le k d (omega arith))) in
     q ∙ row-fits 0 r a h (omega arith) ∙ ap (λ (x : List ℕ). fields one .encode r ++ x) behind
 
--- ---- bytes laid over as many others
+-- ---- bytes put over as many others
 shape : (A u m v Z : List ℕ) → A ++ ((u ++ (m ++ v)) ++ Z) ≡ (A ++ (u ++ m)) ++ (v ++ Z)
 shape A u m v Z = simp append-assoc
 

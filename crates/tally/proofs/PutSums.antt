@@ -1,4 +1,4 @@
--- Writing a sum: its rows are laid into a buffer, one behind the other.
+-- Writing a sum: its rows are put into a buffer, one behind the other.
 use Prim.Native.Nat.{ℕ, _+_, _-_, _≤_}
 use mathlib.Core.Path.{_≡_, refl, ap, sym, subst, _∙_}
 use mathlib.Core.List.{List, [], _++_, append-assoc, append-nil}
@@ -37,7 +37,7 @@ row-put at size s d r z l h =
       overwrites = ap (λ (n : ℕ). stored (at + n) count (stored at lead d)) (sym long) ∙ two-put at lead count d (omega (arith, z, ap length e)) ∙ ap (λ (b : List ℕ). overwrite at b d) (sym e);
     }
 
--- ---- the rows before the place are laid, and the rest is left
+-- ---- the rows before the place are put, and the rest is left
 pub record Written (x y d out : List ℕ) (at : ℕ) (A B : Rows ones) : Type 0 where
   pub rest : Rest x y A B
   pub W : List ℕ

@@ -1,4 +1,4 @@
--- A name sought among rows, and a row added there, as the functions of this crate tell each other: document 01, "a new row opens its place".
+-- A name looked up among rows, and a row added there, as the functions of this crate tell each other: document 01, "a new row opens its place".
 use Prim.Native.Nat.{ℕ, _+_, _≤_, _<_}
 use mathlib.Core.Path.{_≡_}
 use mathlib.Core.List.{List, [], _∷_, _++_}
@@ -18,7 +18,7 @@ use Rattle.tally.specs.declared.lookup.Lookup.{Lookup}
 use Rattle.tally.specs.declared.lookup.Lookup.the-variants as lookups
 use Rattle.tally.specs.declared.add.AddAnswer.{AddAnswer}
 
--- ---- a name sought among the rows at the front of some bytes
+-- ---- a name looked up among the rows at the front of some bytes
 -- the rows at the front, each judged alone: a row has bytes, so that there are no more rows than bytes
 abbrev pub allRows : List ℕ → Rows ones
 allRows s = rowsRead (row one [] .read) (length s) s

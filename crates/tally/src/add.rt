@@ -23,7 +23,7 @@ ghost use Rattle.tally.specs.Operations.{addOf};
 ghost use Rattle.tally.specs.Told.{toldAdd};
 ghost use Rattle.tally.specs.LookedUp.{rowInserted, AddReady, AddedAs};
 
-// A new row in front of the first n bytes of a part, which move back.
+// Puts a new row in front of the first n bytes of a buffer, which move back.
 fn insert_row(tail: &mut [u8], n: usize, name: &[u8], count: u64)
     requires { ⌜ (length (now name) < 65536) × (n + (length (now name) + 10) ≤ length (now tail)) ⌝ }
     ensures { λ _. ⌜ now (tail .exit)
@@ -42,7 +42,7 @@ pub enum AddAnswer {
     NoRoom,
 }
 
-// A count added to a tally of so many rows in the first `used` bytes of a buffer.
+// Adds a count to a tally of so many rows in the first `used` bytes of a buffer.
 fn add_row(buffer: &mut [u8], used: usize, rows: u32, name: &[u8], count: u64) -> AddAnswer
     requires { ⌜ AddReady (now buffer) used rows (record { name = now name; count = count }) ⌝ }
     ensures { λ r. ⌜ AddedAs (now (buffer .entry)) (now (buffer .exit)) used

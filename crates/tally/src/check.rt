@@ -25,7 +25,7 @@ pub enum CheckAnswer {
     Malformed,
 }
 
-// Whether a name may follow the last one: it comes later, or none was before it.
+// Tells whether a name may follow the last one: it comes later, or none was before it.
 fn may_follow(first: bool, last: &[u8], name: &[u8]) -> bool
     ensures { λ r. ⌜ r ≡ mayFollow first (now (last .entry)) (now (name .entry)) ⌝ }
 {
@@ -39,7 +39,7 @@ fn may_follow(first: bool, last: &[u8], name: &[u8]) -> bool
     }
 }
 
-// Whether bytes are so many rows in order, and nothing else.
+// Tells whether bytes are so many rows in order, and nothing else.
 fn are_rows(s: &[u8], count: u32) -> bool
     ensures { λ r. ⌜ r ≡ takes (items (row one) count) (now (s .entry)) ⌝ }
 {
@@ -63,7 +63,7 @@ fn are_rows(s: &[u8], count: u32) -> bool
     rest.len() == 0
 }
 
-// Whether bytes are a tally, and of how many rows: the whole of it is judged, so that whoever walks its rows afterwards need not.
+// Tells whether bytes are a tally, and of how many rows: the whole of it is judged, so that whoever walks its rows afterwards need not.
 pub fn check(t: &[u8]) -> CheckAnswer
     ensures { λ r. ⌜ toldCheck r ≡ checkOf one (now (t .entry)) ⌝ }
 {
@@ -77,7 +77,7 @@ pub fn check(t: &[u8]) -> CheckAnswer
     }
 }
 
-// The rows of a tally, to be taken from the front; an empty part where it is none.
+// Gives the rows of a tally, to be taken from the front; an empty slice where it is none.
 pub fn rows_of(t: &[u8]) -> &[u8]
     ensures told { λ r. ⌜ now r ≡ bytesOf (λ s. s) (rowsPart one (now (t .entry))) ⌝ }
     ensures place { λ r. ⌜ ptr r

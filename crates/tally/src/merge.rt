@@ -38,7 +38,7 @@ pub enum SumRow {
     },
 }
 
-// The same where the first list is at its end.
+// Finds the next row of the sum where the first list is at its end.
 fn sum_row_of_second(y: &[u8]) -> SumRow
     ensures { λ r. ⌜ SumRowIs [] (now (y .entry)) r ⌝ }
 {
@@ -53,6 +53,7 @@ fn sum_row_of_second(y: &[u8]) -> SumRow
     }
 }
 
+// Finds the next row of the sum of two lists of rows.
 fn sum_row(x: &[u8], y: &[u8]) -> SumRow
     ensures { λ r. ⌜ SumRowIs (now (x .entry)) (now (y .entry)) r ⌝ }
 {
@@ -100,6 +101,7 @@ pub enum Measured {
     TooMany,
 }
 
+// Measures the sum of two lists of rows: how many rows it has, and how many bytes.
 fn measure(a: &[u8], b: &[u8]) -> Measured
     ensures { λ r. ⌜ MeasuredAs (now (a .entry)) (now (b .entry)) r ⌝ }
 {
@@ -130,7 +132,7 @@ fn measure(a: &[u8], b: &[u8]) -> Measured
     }
 }
 
-// The row of so many bytes at the front of s, with another count.
+// Puts the row of so many bytes at the front of s, with another count.
 fn put_with_count(out: &mut [u8], at: usize, s: &[u8], size: usize, count: u64)
     requires { ⌜ (8 ≤ size) × (size ≤ length (now s)) × (at + size < 2 ^ 64) ⌝ }
     ensures { λ _. ⌜ now (out .exit) ≡ putWithCount at (now (s .entry)) size count (now (out .entry)) ⌝ }
@@ -140,7 +142,7 @@ fn put_with_count(out: &mut [u8], at: usize, s: &[u8], size: usize, count: u64)
     put_u64(out, at + lead, count);
 }
 
-// The next row of a sum, whose name stands in x, or in y where it takes the place of nothing in x.
+// Puts the next row of a sum, whose name stands in x, or in y where it takes the place of nothing in x.
 fn put_sum_row(out: &mut [u8], at: usize, x: &[u8], y: &[u8], first: usize, size: usize, count: u64)
     requires { ⌜ (8 ≤ size) × (size ≤ length (side first (now x) (now y))) × (at + size < 2 ^ 64) ⌝ }
     ensures { λ _. ⌜ now (out .exit)
@@ -153,6 +155,7 @@ fn put_sum_row(out: &mut [u8], at: usize, x: &[u8], y: &[u8], first: usize, size
     }
 }
 
+// Puts the rows of the sum, which are known to fit.
 fn put_rows(out: &mut [u8], a: &[u8], b: &[u8])
     ensures { λ _. ⌜ SumPut (now (a .entry)) (now (b .entry)) (now (out .entry)) (now (out .exit)) ⌝ }
 {
@@ -190,7 +193,7 @@ pub enum MergeAnswer {
     NoRoom,
 }
 
-// The sum of two lists of rows, as a tally.
+// Puts the sum of two lists of rows as a tally, where it fits.
 fn merge_rows(a: &[u8], b: &[u8], out: &mut [u8]) -> MergeAnswer
     ensures { λ r. ⌜ MergedAs (now (a .entry)) (now (b .entry)) (now (out .entry)) (now (out .exit)) r ⌝ }
 {
@@ -211,7 +214,7 @@ fn merge_rows(a: &[u8], b: &[u8], out: &mut [u8]) -> MergeAnswer
     MergeAnswer::Merged(size + HEAD_LENGTH)
 }
 
-// The sum of two tallies, by name. It is measured before a byte is written, so that a refusal leaves the output as it was.
+// Adds two tallies by name. The sum is measured before a byte is written, so that a refusal leaves the output as it was.
 pub fn merge(a: &[u8], b: &[u8], out: &mut [u8]) -> MergeAnswer
     ensures { λ r. ⌜ Answered (toldMerge r) (now (out .entry)) (now (out .exit))
         (mergeOf one (length (now (out .entry))) (now (a .entry)) (now (b .entry))) ⌝ }

@@ -40,7 +40,7 @@ pub enum RowRead {
     Malformed,
 }
 
-// The row at the front of a part, judged alone.
+// Reads the row at the front of some rows, judged alone.
 pub fn front_row(s: &[u8]) -> RowRead
     ensures { λ r. ⌜ toldRow (now (s .entry)) r ≡ toOption (row one [] .read (now (s .entry))) ⌝ }
 {
@@ -63,7 +63,7 @@ pub enum RowAnswer {
     Malformed,
 }
 
-// The front row of a part, its count and its length. Whether rows are in order is asked of the whole tally.
+// Tells the front row's count and its length. Whether rows are in order is asked of the whole tally.
 pub fn row_of(part: &[u8]) -> RowAnswer
     ensures { λ r. ⌜ toldFront r ≡ mapAnswer shownRow (frontOf one (now (part .entry))) ⌝ }
 {
@@ -79,7 +79,7 @@ pub fn row_of(part: &[u8]) -> RowAnswer
     }
 }
 
-// The name in the front row.
+// Gives the name in the front row.
 pub fn name_of(part: &[u8]) -> &[u8]
     ensures told { λ r. ⌜ now r ≡ bytesOf (λ (x : TallyRow one × ℕ). x .0 .name) (frontOf one (now (part .entry))) ⌝ }
     ensures place { λ r. ⌜ ptr r ≡ placeIn (part .entry) (startTold (λ _. 2) (frontOf one (now (part .entry)))) ⌝ }
@@ -90,7 +90,7 @@ pub fn name_of(part: &[u8]) -> &[u8]
     }
 }
 
-// What remains behind the front row.
+// Gives what remains behind the front row.
 pub fn behind_row(part: &[u8]) -> &[u8]
     ensures told { λ r. ⌜ now r ≡ rowsBehind (now (part .entry)) (frontOf one (now (part .entry))) ⌝ }
     ensures place { λ r. ⌜ ptr r
@@ -102,7 +102,7 @@ pub fn behind_row(part: &[u8]) -> &[u8]
     }
 }
 
-// A row at a place of a buffer, where it fits and its name is none too long; else nothing changes.
+// Puts a row at a place of a buffer, where it fits and its name is none too long; else nothing changes.
 pub fn put_row(out: &mut [u8], at: usize, name: &[u8], count: u64)
     ensures { λ _. ⌜ now (out .exit)
         ≡ rowStored at (record { name = now (name .entry); count = count }) (now (out .entry)) ⌝ }

@@ -1,4 +1,4 @@
--- Bytes laid into a buffer: what a store of one byte does at either end of them, and what callers of the stores cite.
+-- Bytes put into a buffer: what a store of one byte does at either end of them, and what callers of the stores cite.
 use Prim.Native.Nat.{ℕ, suc, _+_, _-_, _<_, _≤_}
 use mathlib.Core.Path.{_≡_, ap, ap₂, sym, _∙_}
 use mathlib.Core.List.{List, [], _∷_, _++_, append-assoc, append-nil}
@@ -10,7 +10,7 @@ use borrow.Author.Tests.{le-leb, lt-leb}
 use borrow.Rule.Slice.PartMut.{putMid, postOf, post-is}
 use Rattle.wire.specs.Store.{overwrite, stored, movedBack}
 
--- ---- what is laid
+-- ---- what is put
 pub overwrite-none : (at : ℕ) (d : List ℕ) → overwrite at [] d ≡ d
 overwrite-none at d = rw add-zero (take-append-drop at d)
 

@@ -26,7 +26,7 @@ module _ (at : ℕ) (b d out : List ℕ) (i : ℕ) (room : at + length b ≤ len
   pub copy-end : length b ≤ i → out ≡ stored at b d
   copy-end k = h ∙ rw (take-all i b k, stored-fits at b d room)
 
--- ---- a number, the last byte first: the bytes W are laid, and x is left to be spelt in i bytes
+-- ---- a number, the last byte first: the bytes W are put, and x is left to be put in i bytes
 pub record Spelling (at k v : ℕ) (d out : List ℕ) (x i : ℕ) : Type 0 where
   pub W : List ℕ
   pub shape : out ≡ overwrite (at + i) W d

@@ -17,7 +17,7 @@ abbrev pub toBE : ℕ → ℕ → List ℕ
 toBE zero v = []
 toBE (suc k) v = toBE k (v / 256) ++ v % 256 ∷ []
 
--- the number that bytes spell, after the digits of v
+-- the number whose bytes these are, after the digits of v
 abbrev pub fromBE : ℕ → List ℕ → ℕ
 fromBE v [] = v
 fromBE v (b ∷ l) = fromBE (v * 256 + b) l
@@ -72,7 +72,7 @@ module _ (k : ℕ) (l : List ℕ) (h : length l ≡ suc k) where
   fromBE-apart : fromBE 0 l ≡ fromBE 0 (take k l) * 256 + getD l k 0
   fromBE-apart = ap (fromBE 0) last-apart ∙ fromBE-last 0 (take k l) (getD l k 0)
 
--- k bytes are those of the number that they spell
+-- k bytes are those of the number that they make
 pub toBE-fromBE : (k : ℕ) (l : List ℕ) → length l ≡ k → Bytes l → toBE k (fromBE 0 l) ≡ l
 toBE-fromBE zero [] h b = refl
 toBE-fromBE zero (x ∷ l) h b = absurd (omega arith)

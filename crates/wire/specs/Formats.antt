@@ -2,10 +2,10 @@
 -- has them.
 --     number k, u8 .. u64, s32, s64     a number of k bytes; the usual widths
 --     f ▹ g, f ⨾ λ a. g                 f, then g; then g, which may look at what f read
---     such test e f                     f, refused with e where the test fails
+--     refine test e f                   f, refused with e where the test fails
 --     fixed k v e f, mark m e f         the number v in k bytes, or the bytes m, refused with e where another stands there; then f
---     headed m v e f, head m            the mark m and the u16 version v, then f; the version 1, then a u32 number
---     counted k                         a length of k bytes, and so many bytes
+--     headed m v e f, head m            the mark m and the u16 version v, then f; the version 1, then a u32 count
+--     prefixed k                        a length of k bytes, and so many bytes
 --     listed k item, times n f          a count of k bytes, and so many items, each told those before it; n of the same
 --     only b a f                        f where b holds; else nothing, read as a
 --     into shape f                      f, as a record

@@ -18,7 +18,7 @@ stored at b d = cond (leb (at + length b) (length d)) (overwrite at b d) d
 unfoldable pub movedBack : ℕ → ℕ → List ℕ → List ℕ
 movedBack n by d = cond (leb (by + n) (length d)) (overwrite by (take n d) d) d
 
--- bytes laid into a buffer at a place, and where they end
+-- bytes put into a buffer at a place, and where they end
 pub record PutAt (at : ℕ) (bytes before after : List ℕ) (end : ℕ) : Type 0 where
   pub ends : end ≡ at + length bytes
   pub overwrites : after ≡ overwrite at bytes before

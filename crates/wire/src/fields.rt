@@ -47,13 +47,14 @@ pub enum Run {
     Ends(usize),
 }
 
+// Widens a byte; the contract spares its callers the cast.
 fn wide(b: u8) -> u64
     ensures { λ r. ⌜ r ≡ b ⌝ }
 {
     b as u64
 }
 
-// The number of k bytes at a place: one loop for every width.
+// Reads the number of k bytes at a place: one loop serves every width.
 fn number_at(s: &[u8], at: usize, k: usize) -> U64
     requires { ⌜ (0 < k) × (k ≤ 8) ⌝ }
     ensures { λ r. ⌜ NumberAt k (drop at (now (s .entry))) r ⌝ }
@@ -75,6 +76,7 @@ fn number_at(s: &[u8], at: usize, k: usize) -> U64
     U64::Value(v)
 }
 
+// Reads the u8 at a place.
 pub fn u8_at(s: &[u8], at: usize) -> U8
     ensures { λ r. ⌜ toldU8 r ≡ u8 {ends = short} .read (drop at (now (s .entry))) ⌝ }
 {
@@ -84,6 +86,7 @@ pub fn u8_at(s: &[u8], at: usize) -> U8
     }
 }
 
+// Reads the u16 at a place.
 pub fn u16_at(s: &[u8], at: usize) -> U16
     ensures { λ r. ⌜ toldU16 r ≡ u16 {ends = short} .read (drop at (now (s .entry))) ⌝ }
 {
@@ -93,6 +96,7 @@ pub fn u16_at(s: &[u8], at: usize) -> U16
     }
 }
 
+// Reads the u32 at a place.
 pub fn u32_at(s: &[u8], at: usize) -> U32
     ensures { λ r. ⌜ toldU32 r ≡ u32 {ends = short} .read (drop at (now (s .entry))) ⌝ }
 {
@@ -102,13 +106,14 @@ pub fn u32_at(s: &[u8], at: usize) -> U32
     }
 }
 
+// Reads the u64 at a place.
 pub fn u64_at(s: &[u8], at: usize) -> U64
     ensures { λ r. ⌜ toldU64 r ≡ u64 {ends = short} .read (drop at (now (s .entry))) ⌝ }
 {
     number_at(s, at, 8)
 }
 
-// The number that v stands for in two's complement, where half is half of what the width holds.
+// Gives the number that v stands for in two's complement, where half is half of what the width holds.
 fn signed(v: u64, half: u64) -> i64
     requires { ⌜ (0 < half) × (half ≤ 2 ^ 63) × (v < half + half) ⌝ }
     ensures { λ r. ⌜ r ≡ signedOf half v ⌝ }
@@ -121,6 +126,7 @@ fn signed(v: u64, half: u64) -> i64
     -1 - (m as i64)
 }
 
+// Reads the s32 at a place.
 pub fn s32_at(s: &[u8], at: usize) -> S32
     ensures { λ r. ⌜ toldS32 r ≡ s32 {ends = short} .read (drop at (now (s .entry))) ⌝ }
 {
@@ -130,6 +136,7 @@ pub fn s32_at(s: &[u8], at: usize) -> S32
     }
 }
 
+// Reads the s64 at a place.
 pub fn s64_at(s: &[u8], at: usize) -> S64
     ensures { λ r. ⌜ toldS64 r ≡ s64 {ends = short} .read (drop at (now (s .entry))) ⌝ }
 {
@@ -139,7 +146,7 @@ pub fn s64_at(s: &[u8], at: usize) -> S64
     }
 }
 
-// A run behind its length of k bytes.
+// Reads the run behind its length of k bytes at a place.
 fn run_at(s: &[u8], at: usize, k: usize) -> Run
     requires { ⌜ (0 < k) × (k ≤ 8) ⌝ }
     ensures { λ r. ⌜ toldRun k (drop at (now (s .entry))) r
@@ -158,7 +165,7 @@ fn run_at(s: &[u8], at: usize, k: usize) -> Run
     }
 }
 
-// A run behind a u16 length.
+// Reads the run behind a u16 length at a place.
 pub fn run16_at(s: &[u8], at: usize) -> Run
     ensures { λ r. ⌜ toldRun 2 (drop at (now (s .entry))) r
         ≡ prefixed {ends = short} 2 .read (drop at (now (s .entry))) ⌝ }
@@ -166,7 +173,7 @@ pub fn run16_at(s: &[u8], at: usize) -> Run
     run_at(s, at, 2)
 }
 
-// A run behind a u32 length.
+// Reads the run behind a u32 length at a place.
 pub fn run32_at(s: &[u8], at: usize) -> Run
     ensures { λ r. ⌜ toldRun 4 (drop at (now (s .entry))) r
         ≡ prefixed {ends = short} 4 .read (drop at (now (s .entry))) ⌝ }

@@ -28,7 +28,7 @@ pub enum HeadRead {
     Malformed,
 }
 
-// The number that the head with this mark states.
+// Reads the count that the head with this mark states.
 pub fn read_head(s: &[u8], mark: &[u8; 3]) -> HeadRead
     ensures { λ r. ⌜ toldHead r ≡ toOption (head {ends = short} (now (mark .entry)) .read (now (s .entry))) ⌝ }
 {
@@ -47,7 +47,7 @@ pub fn read_head(s: &[u8], mark: &[u8; 3]) -> HeadRead
     }
 }
 
-// The head, where it fits; where it does not, nothing changes.
+// Puts the head at the front, where it fits; where it does not, nothing changes.
 pub fn put_head(out: &mut [u8], mark: &[u8; 3], number: u32)
     ensures { λ _. ⌜ now (out .exit)
         ≡ stored 0 (head {ends = short} (now (mark .entry)) .encode number) (now (out .entry)) ⌝ }

@@ -3,7 +3,7 @@ ghost use mathlib.Core.Path.{_≡_};
 ghost use lib.ListN.{drop};
 ghost use Rattle.wire.specs.Marks.{starts};
 
-// Whether the bytes at a place begin with the mark.
+// Tells whether the bytes at a place begin with the mark.
 pub fn mark_at(s: &[u8], at: usize, mark: &[u8]) -> bool
     ensures { λ r. ⌜ r ≡ starts (now (mark .entry)) (drop at (now (s .entry))) ⌝ }
 {

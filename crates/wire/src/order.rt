@@ -10,7 +10,7 @@ pub enum Order {
     After,
 }
 
-// How a stands to b, a byte at a time.
+// Tells how a stands to b, a byte at a time.
 fn compare_bytes(a: &[u8], b: &[u8]) -> Order
     ensures { λ r. ⌜ r ≡ order (now (a .entry)) (now (b .entry)) ⌝ }
 {
@@ -36,7 +36,7 @@ fn compare_bytes(a: &[u8], b: &[u8]) -> Order
     }
 }
 
-// How a stands to b: eight bytes at a time, which as numbers have the same order, and what is left a byte at a time.
+// Tells how a stands to b: it compares eight bytes at a time, which as numbers have the same order, and what is left a byte at a time.
 pub fn compare(a: &[u8], b: &[u8]) -> Order
     ensures { λ r. ⌜ r ≡ order (now (a .entry)) (now (b .entry)) ⌝ }
 {

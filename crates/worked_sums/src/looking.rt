@@ -90,6 +90,7 @@ fn text_line(asked: &[u8], part: &[u8], expected: &[u8]) {
     say_verdict(are_same(part, expected));
 }
 
+// Shows the rows of names, and the slices handed back of them.
 fn names(block: &[u8]) {
     let rows = names_section(block);
     let rest = behind_name_row(rows);
@@ -102,6 +103,7 @@ fn names(block: &[u8]) {
     text_line(b"  of node 4096: ", node_name(block, 4096), b"");
 }
 
+// Shows the rows of metadata from version 23 on.
 fn metadata(block: &[u8]) {
     let rows = metadata_section(block);
     bytes_line(b"metadata:", rows, &METADATA_29);
@@ -119,6 +121,7 @@ fn metadata(block: &[u8]) {
     text_line(b"  behind it: ", behind_metadata_row(29, rows), b"");
 }
 
+// Shows a row of metadata of version 22.
 fn metadata_of_22(block: &[u8]) {
     let rows = metadata_section(block);
     bytes_line(b"metadata in version 22:", rows, &METADATA_22);
@@ -129,6 +132,7 @@ fn metadata_of_22(block: &[u8]) {
     text_line(b"  timers, which 22 has not: ", timers_section(block), b"");
 }
 
+// Shows the rows of static objects and of timers.
 fn objects_and_timers(block: &[u8]) {
     let objects = objects_section(block);
     let timers = timers_section(block);
@@ -148,6 +152,7 @@ fn count_of(rows: &[u8]) -> u64 {
     }
 }
 
+// Shows the front row of a tally beside what is expected.
 fn row_line(asked: &[u8], rows: &[u8], name: &[u8], count: u64) {
     let told = tally::rows::name_of(rows);
     let n = count_of(rows);
@@ -159,6 +164,7 @@ fn row_line(asked: &[u8], rows: &[u8], name: &[u8], count: u64) {
     say_verdict(are_same(told, name) & (n == count));
 }
 
+// Shows the rows of a tally from the front.
 fn tally_rows(block: &[u8]) {
     let mut out = [0u8; 256];
     let answer = anow_tally_block(0, block, Lot::WORLD, Span::ALL_TIME, &mut out);
@@ -200,6 +206,7 @@ fn lot_line(asked: &[u8], least: i32, greatest: i32, x: i32) {
     }
 }
 
+// Shows whether a second lies in a span, or that the span is bad.
 fn span_line(asked: &[u8], from: u32, until: u32, second: u32) {
     say(asked);
     match Span::new(from, until) {
@@ -214,6 +221,7 @@ fn span_line(asked: &[u8], from: u32, until: u32, second: u32) {
     }
 }
 
+// Shows nodes, lots and spans.
 fn positions() {
     say(b"\nNodes, lots and spans\n");
     node_line(b"node 0 of the block at (-1, 0, 0): ", 0, -16, 0, 0);
@@ -229,6 +237,7 @@ fn positions() {
     span_line(b"a span from 2 to 1: ", 2, 1, 1);
 }
 
+// Shows all of it.
 pub(crate) fn run() {
     let mut room = [0u8; ROOM];
     say(b"\nA block of version 29 with rows in every section\n");

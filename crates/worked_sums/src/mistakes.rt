@@ -20,6 +20,7 @@ use mapblock::inventory::inventory;
 use position::lot::Lot;
 use position::span::Span;
 
+// Shows that a negative key is not rounded toward zero.
 fn negative_key() {
     say(b"\nA remainder that rounds toward zero on negative keys\n");
     let at = anow_key_split(-2049);
@@ -41,6 +42,7 @@ fn inventory_length(s: &[u8]) -> usize {
     }
 }
 
+// Shows that an inventory does not end inside a longer line.
 fn longer_line() {
     say(b"\nEnding an inventory at EndInventory inside a longer line\n");
     let n = inventory_length(b"EndInventoryList\nEndInventory\n");
@@ -66,6 +68,7 @@ fn two_blocks(asked: &[u8], key: i64, next: i64, names: &[u8], expected: &[u8]) 
     say_tally(asked, answer, &out, expected);
 }
 
+// Shows that counts are added by name across blocks and ids.
 fn ids_and_names() {
     say(b"\nAdding counts by id across blocks; forgetting that two ids may share a name\n");
     two_blocks(
@@ -89,6 +92,7 @@ fn ids_and_names() {
     );
 }
 
+// Shows that version 23 takes an id from param0 and param2.
 fn ids_of_23() {
     say(b"\nIn version 23, using param0 alone as the id\n");
     one_block(
@@ -105,10 +109,12 @@ fn ids_of_23() {
     );
 }
 
+// Shows what a sheet of two keys comes to.
 fn keys(asked: &[u8], key: i64, next: i64, expected: &[u8]) {
     two_blocks(asked, key, next, &AIR, expected);
 }
 
+// Shows what a block saved at a second comes to in a span.
 fn saved_line(asked: &[u8], timestamp: u32, span: Span, expected: &[u8]) {
     one_block(
         asked,
@@ -120,6 +126,7 @@ fn saved_line(asked: &[u8], timestamp: u32, span: Span, expected: &[u8]) {
     );
 }
 
+// Shows that keys and seconds are compared as numbers.
 fn keys_and_seconds() {
     let first = Span {
         from: 0,
@@ -159,6 +166,7 @@ fn keys_and_seconds() {
     );
 }
 
+// Shows all of them.
 pub(crate) fn run() {
     negative_key();
     longer_line();

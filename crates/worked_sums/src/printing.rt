@@ -8,14 +8,17 @@ use report::text::put_length;
 use wire::order::Order;
 use wire::order::compare;
 
+// Prints words.
 pub(crate) fn say(words: &[u8]) {
     io::write_all(STDOUT_FILENO, words);
 }
 
+// Prints a number.
 pub(crate) fn say_number(n: u64) {
     io::print_decimal(STDOUT_FILENO, n);
 }
 
+// Prints a signed number.
 fn say_signed(z: i64) {
     if 0 <= z {
         say_number(z as u64);
@@ -27,6 +30,7 @@ fn say_signed(z: i64) {
     say_number(m + 1);
 }
 
+// Prints a coordinate behind its axis.
 pub(crate) fn say_coordinate(axis: &[u8], c: i32) {
     say(axis);
     say_signed(c as i64);
@@ -42,6 +46,7 @@ pub(crate) fn say_answer(asked: &[u8], answer: AnowAnswer) {
     }
 }
 
+// Prints a byte in hexadecimal digits.
 fn say_byte(b: u8) {
     say(b" ");
     io::print_hex(STDOUT_FILENO, b as u64, 2);
@@ -65,6 +70,7 @@ fn say_letter(b: u8) {
     }
 }
 
+// Prints text.
 pub(crate) fn say_text(text: &[u8]) {
     let mut i: usize = 0;
     while i < text.len() {
@@ -73,6 +79,7 @@ pub(crate) fn say_text(text: &[u8]) {
     }
 }
 
+// Prints whether a result is right.
 pub(crate) fn say_verdict(is_right: bool) {
     if is_right {
         say(b"ok\n");
@@ -81,6 +88,7 @@ pub(crate) fn say_verdict(is_right: bool) {
     }
 }
 
+// Tells whether two slices hold the same bytes.
 pub(crate) fn are_same(a: &[u8], b: &[u8]) -> bool {
     match compare(a, b) {
         Order::Before => false,

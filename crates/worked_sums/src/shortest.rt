@@ -28,6 +28,7 @@ fn read(block: &[u8]) -> AnowAnswer {
     told.answer
 }
 
+// Tells whether an answer has this number and this place.
 fn is_answer(answer: AnowAnswer, number: u32, place: usize) -> bool {
     (answer.number == number) & (answer.offset == place as u64)
 }
@@ -83,6 +84,7 @@ fn shortest(version: u8, timer: u8, length: usize, last: usize)
     full_tally(written);
 }
 
+// Shows what the reader says of no bytes.
 fn no_bytes() {
     let answer = read(b"");
     say_answer(b"no bytes: ", answer);

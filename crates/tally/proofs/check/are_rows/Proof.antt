@@ -1,3 +1,4 @@
+-- The invariant: the rows so far were taken, and those that are left give the answer asked. The measure: `left`, the rows that are left.
 use borrow.Author.Needs.{needs}
 use Prim.Native.Nat.{_+_}
 use mathlib.Core.Path.{_≡_, ap, sym, _∙_}

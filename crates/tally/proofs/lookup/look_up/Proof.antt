@@ -1,4 +1,4 @@
--- The invariant: sought from the place on, among the rows that are left, the name is found as from the front. What is left gets shorter.
+-- The invariant: looked up from the place on, among the rows that are left, the name is as from the front. The measure: the bytes that are left.
 use borrow.Author.Needs.{needs}
 use Prim.Native.Nat.{_+_, _≤_}
 use mathlib.Core.Path.{_≡_, sym, _∙_}
@@ -12,12 +12,12 @@ use Rattle.tally.specs.Tally.{row, one}
 use Rattle.tally.specs.Told.{toldRow}
 use Rattle.tally.specs.declared.rows.RowRead.the-variants as rows
 use Rattle.tally.proofs.Held.{row-inside}
-use Rattle.tally.proofs.LookingUp.{row-ends, rest-less, Seeks, seeks-start, seeks-end, seeks-on, seeks-row, seeks-over}
+use Rattle.tally.proofs.LookingUp.{row-ends, rest-less, LooksUp, looks-up-start, looks-up-end, looks-up-on, looks-up-row, looks-up-over}
 use Rattle.tally.proofs.lookup.look_up.Statement.{statement}
 use Rattle.tally.proofs.lookup.look_up.Tie as tie
 
 abbrev Inv-loop : tie.InvT-loop
-Inv-loop s name rest₀ at₀ rest at = Seeks s name rest at
+Inv-loop s name rest₀ at₀ rest at = LooksUp s name rest at
 
 abbrev μ-loop : tie.MeasureT-loop
 μ-loop s name rest₀ at₀ rest at = length rest
@@ -38,7 +38,7 @@ place : (c : tie.After-known-told Inv-loop μ-loop) → (let p = c .before .befo
 place c = let p = c .before .before .before .before in row-ends (now (p .loop .rest)) (c .before .n .given .0 .0) (c .before .n .given .0 .1 .0) (a-row c) (now (p .before .before .before .args .s)) (p .loop .at) (p .loop .inv .size)
 
 loop-holds : tie.Need-loop-holds Inv-loop μ-loop
-loop-holds c = seeks-start _ _
+loop-holds c = looks-up-start _ _
 
 front-row-requires : tie.Need-front-row-requires Inv-loop μ-loop
 front-row-requires c κs = search needs
@@ -50,7 +50,7 @@ enum-told : tie.Need-enum-told Inv-loop μ-loop
 enum-told c = search needs
 
 returns : tie.Need-returns Inv-loop μ-loop
-returns c = seeks-end (c .before .before .before .loop .inv) (no-row c)
+returns c = looks-up-end (c .before .before .before .loop .inv) (no-row c)
 
 add-compare : tie.Need-add-compare Inv-loop μ-loop
 add-compare c = omega (arith, inside c)
@@ -92,19 +92,19 @@ loop-less : tie.Need-loop-less Inv-loop μ-loop
 loop-less c = let p = c .before .before .before .before .before in rest-less (now (p .before .before .before .before .loop .rest)) (p .before .n .given .0 .0) (p .before .n .given .0 .1 .0) (a-row p)
 
 loop-again : tie.Need-loop-again Inv-loop μ-loop
-loop-again c = let p = c .before .before .before .before .before in seeks-on (p .before .before .before .before .loop .inv) _ _ (a-row p) (sym (c .before .enum-told2 .given .1) ∙ c .before .before .before .compare .ensures)
+loop-again c = let p = c .before .before .before .before .before in looks-up-on (p .before .before .before .before .loop .inv) _ _ (a-row p) (sym (c .before .enum-told2 .given .1) ∙ c .before .before .before .compare .ensures)
 
 enum-told-3 : tie.Need-enum-told-3 Inv-loop μ-loop
 enum-told-3 c = search needs
 
 returns-2 : tie.Need-returns-2 Inv-loop μ-loop
-returns-2 c = let p = c .before .before .before .before in seeks-row (p .before .before .before .before .loop .inv) (p .before .n .given .0 .0) (p .before .n .given .0 .1 .0) (a-row p) (sym (c .enum-told3 .given .1) ∙ c .before .before .compare .ensures)
+returns-2 c = let p = c .before .before .before .before in looks-up-row (p .before .before .before .before .loop .inv) (p .before .n .given .0 .0) (p .before .n .given .0 .1 .0) (a-row p) (sym (c .enum-told3 .given .1) ∙ c .before .before .compare .ensures)
 
 enum-told-4 : tie.Need-enum-told-4 Inv-loop μ-loop
 enum-told-4 c = search needs
 
 returns-3 : tie.Need-returns-3 Inv-loop μ-loop
-returns-3 c = let p = c .before .before .before .before in seeks-over (p .before .before .before .before .loop .inv) (p .before .n .given .0 .0) (p .before .n .given .0 .1 .0) (a-row p) (sym (c .enum-told4 .given .1) ∙ c .before .before .compare .ensures)
+returns-3 c = let p = c .before .before .before .before in looks-up-over (p .before .before .before .before .loop .inv) (p .before .n .given .0 .0) (p .before .n .given .0 .1 .0) (a-row p) (sym (c .enum-told4 .given .1) ∙ c .before .before .compare .ensures)
 
 pub look-up-spec : {M : Type 1} → statement M
 look-up-spec =

@@ -1,4 +1,4 @@
--- The invariant: what is counted so far, with the rows that are left, makes the sum.
+-- The invariant: what is counted so far, with the rows that are left, makes the sum. The measure: the bytes of both lists that are left.
 use borrow.Author.Needs.{needs}
 use Prim.Native.Nat.{_+_}
 use mathlib.Core.Path.{subst}

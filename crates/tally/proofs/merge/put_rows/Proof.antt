@@ -1,4 +1,4 @@
--- The invariant: the rows that are written, with those that are left, make the sum.
+-- The invariant: the rows that are written, with those that are left, make the sum. The measure: the bytes of both lists that are left.
 use borrow.Author.Needs.{needs}
 use Prim.Native.Nat.{_+_}
 use mathlib.Core.Path.{subst}

@@ -1,4 +1,4 @@
--- The invariant: the digits so far and the bytes that are left spell the number asked.
+-- The invariant: the digits so far and the bytes that are left make the number asked. The measure: `left`, the bytes that are left.
 use borrow.Author.Needs.{needs}
 use Prim.Native.Nat.{ℕ, suc, _+_, _-_, _^_, _<_, _≤_}
 use mathlib.Core.Path.{_≡_, refl, ap, sym, _∙_}

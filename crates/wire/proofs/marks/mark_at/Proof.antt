@@ -1,4 +1,4 @@
--- The invariant: what is left of the mark and of the bytes gives the answer asked.
+-- The invariant: what is left of the mark and of the bytes gives the answer asked. The measure: the bytes of the mark that are left.
 use Prim.Native.Nat.{_-_}
 use mathlib.Core.Path.{_≡_, refl, sym, _∙_}
 use native.Mathlib.Omega.{arith}

@@ -1,3 +1,4 @@
+-- The invariant: what is left of the two gives the answer asked. The measure: the bytes of the first that are left.
 use borrow.Author.Needs.{needs}
 use Prim.Native.Nat.{_-_, _≤_}
 use mathlib.Core.Path.{_≡_, refl, ap₂, sym, _∙_}

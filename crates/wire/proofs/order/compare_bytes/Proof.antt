@@ -1,4 +1,4 @@
--- The invariant: what is left of the two gives the answer asked.
+-- The invariant: what is left of the two gives the answer asked. The measure: the bytes of the first that are left.
 use Prim.Native.Nat.{_-_, _≤_}
 use mathlib.Core.Path.{_≡_, refl, sym, _∙_}
 use native.Mathlib.Omega.{arith}

@@ -1,4 +1,4 @@
--- The invariant: the bytes from place `left` on are laid further back.
+-- The invariant: the bytes from place `left` on are put further back. The measure: `left`.
 use mathlib.Core.Path.{sym}
 use native.Mathlib.Omega.{arith}
 use denote.Ref.{now}

@@ -1,4 +1,4 @@
--- The invariant: the first i bytes are laid.
+-- The invariant: the first i bytes are put. The measure: the bytes that are left.
 use Prim.Native.Nat.{_-_, _≤_}
 use mathlib.Core.Path.{_≡_, sym}
 use native.Mathlib.Omega.{arith}

@@ -1,4 +1,4 @@
--- The invariant: the bytes from place i on are laid, and x is left to be spelt in i bytes.
+-- The invariant: the bytes from place i on are put, and x is left to be put in i bytes. The measure: i, the bytes that are left.
 use borrow.Author.Needs.{needs}
 use mathlib.Core.Path.{sym}
 use native.Mathlib.Omega.{arith}
