@@ -1,22 +1,15 @@
 // Rows of a section by their framing alone: how long they are, and how many. Their values are the reader's to judge.
-use mapblock::fault::Reach;
-use mapblock::inventory::inventory;
-use mapblock::metadata::key_and_value;
+use mapblock::metadata::MetadataRead;
+use mapblock::metadata::metadata_frame;
 use mapblock::names::NameRead;
 use mapblock::names::name_row;
 use mapblock::objects::ObjectRead;
 use mapblock::objects::object_row;
 use mapblock::timers::TIMER_ROW_LENGTH;
-use wire::fields::Run;
-use wire::fields::U32;
-use wire::fields::run16_at;
-use wire::fields::u32_at;
 ghost use mathlib.Core.Path.{_≡_};
 ghost use mathlib.Core.Option.{Option·map};
-ghost use Prim.Native.Nat.{_<_, _≤_};
 ghost use lib.ListN.{length};
-ghost use Rattle.wire.specs.Format.{items};
-ghost use Rattle.block_writer.specs.Frames.{variableFrame, metadataFrame, timerFrame, sectionRows};
+ghost use Rattle.block_writer.specs.Frames.{timerFrame, sectionRows};
 ghost use Rattle.block_writer.specs.Sections.{frameOf, lengthRead, toldFrame, toldRows};
 
 pub enum SectionKind {
@@ -30,90 +23,6 @@ pub enum SectionKind {
 pub enum Frame {
     Row(usize),
     NotWhole,
-}
-
-// A variable at the front of a part; from version 28 on a private byte follows its value.
-fn variable_frame(version: u8, s: &[u8]) -> Frame
-    ensures { λ r. ⌜ toldFrame r ≡ lengthRead (variableFrame version .read (now (s .entry))) ⌝ }
-{
-    match key_and_value(s) {
-        Reach::Refused {
-            fault: _,
-            offset: _,
-        } => Frame::NotWhole,
-        Reach::End(n) => {
-            if version < 28 {
-                return Frame::Row(n);
-            }
-            if s.len() <= n {
-                return Frame::NotWhole;
-            }
-            Frame::Row(n + 1)
-        }
-    }
-}
-
-// So many variables. A count that the bytes cannot hold costs no more than the bytes that are there.
-fn variable_frames(version: u8, s: &[u8], count: u32) -> Frame
-    ensures { λ r. ⌜ toldFrame r ≡ lengthRead (items (λ _. variableFrame version) count .read (now (s .entry))) ⌝ }
-{
-    let mut rest = s;
-    let mut at: usize = 0;
-    let mut left = count;
-    while 0 < left {
-        match variable_frame(version, rest) {
-            Frame::NotWhole => {
-                return Frame::NotWhole;
-            }
-            Frame::Row(n) => {
-                rest = &rest[n..];
-                at += n;
-                left -= 1;
-            }
-        }
-    }
-    Frame::Row(at)
-}
-
-// Version 22's row: position and type, and content behind them.
-fn old_frame(version: u8, s: &[u8]) -> Frame
-    requires { ⌜ version < 23 ⌝ }
-    ensures { λ r. ⌜ toldFrame r ≡ lengthRead (metadataFrame version .read (now (s .entry))) ⌝ }
-{
-    match run16_at(s, 4) {
-        Run::Ends(_) => Frame::NotWhole,
-        Run::Bytes(n) => Frame::Row(6 + n),
-    }
-}
-
-// The row from version 23 on: position and number of variables, the variables, an inventory.
-fn new_frame(version: u8, s: &[u8]) -> Frame
-    requires { ⌜ 23 ≤ version ⌝ }
-    ensures { λ r. ⌜ toldFrame r ≡ lengthRead (metadataFrame version .read (now (s .entry))) ⌝ }
-{
-    let U32::Value(count) = u32_at(s, 2) else {
-        return Frame::NotWhole;
-    };
-    match variable_frames(version, &s[6..], count) {
-        Frame::NotWhole => Frame::NotWhole,
-        Frame::Row(n) => match inventory(&s[6 + n..]) {
-            Reach::Refused {
-                fault: _,
-                offset: _,
-            } => Frame::NotWhole,
-            Reach::End(m) => Frame::Row(6 + n + m),
-        },
-    }
-}
-
-fn metadata_frame(version: u8, s: &[u8]) -> Frame
-    ensures { λ r. ⌜ toldFrame r ≡ lengthRead (metadataFrame version .read (now (s .entry))) ⌝ }
-{
-    if version < 23 {
-        old_frame(version, s)
-    } else {
-        new_frame(version, s)
-    }
 }
 
 // All rows of timers are of one length.
@@ -139,7 +48,13 @@ fn front_row(section: SectionKind, version: u8, s: &[u8]) -> Frame
                 offset: _,
             } => Frame::NotWhole,
         },
-        SectionKind::Metadata => metadata_frame(version, s),
+        SectionKind::Metadata => match metadata_frame(version, s) {
+            MetadataRead::Row { row: _, length: n } => Frame::Row(n),
+            MetadataRead::Refused {
+                fault: _,
+                offset: _,
+            } => Frame::NotWhole,
+        },
         SectionKind::Objects => match object_row(s) {
             ObjectRead::Row { row: _, length: n } => Frame::Row(n),
             ObjectRead::Refused {

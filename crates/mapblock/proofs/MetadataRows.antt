@@ -1,8 +1,8 @@
 -- Rows of metadata, and rows that begin with a position: one law for each way on.
 use Prim.Native.Nat.{ℕ, _+_, _<_, _≤_}
-use mathlib.Core.Path.{_≡_, ap, sym, _∙_}
-use mathlib.Core.List.{List, []}
-use mathlib.Core.Bool.{Bool, true, not}
+use mathlib.Core.Path.{_≡_, refl, ap, sym, _∙_}
+use mathlib.Core.List.{List, [], _∷_}
+use mathlib.Core.Bool.{Bool, true, false, cond, not}
 use native.Mathlib.Nat.{add-zero, zero-add}
 use native.Mathlib.Omega.{arith}
 use lib.Dec.{leb}
@@ -16,22 +16,26 @@ use Rattle.wire.specs.Format.{run, nothing, refine, _⨾_, next, pair, iso, ite
 use Rattle.wire.specs.Formats.{_▹_, number, u8, u16, s32, prefixed, listed, times, only, into, Shape}
 use Rattle.mapblock.specs.Inventory.{Form, inventory}
 use Rattle.mapblock.specs.Data.{Variable, MetadataRow, TimerRow, metadataShape, timerShape}
-use Rattle.mapblock.specs.Layout.{since, all, unused, position, newPosition, variable, metadataRow, timerRow}
+use Rattle.mapblock.specs.Layout.{since, all, unused, position, newPosition, variableBy, variable, metadataRow, timerRow}
+use Rattle.mapblock.specs.MetadataChecks.{positionFor, variableFor, metadataRowFor}
 use Rattle.wire.specs.Ranges.{rangeAt, noRange}
 use Rattle.mapblock.specs.Rows.{metadataFields}
 use Rattle.mapblock.specs.Told.{ended}
 use Rattle.mapblock.specs.declared.metadata.MetadataFields.{MetadataFields}
 use Rattle.mapblock.specs.declared.fault.Fault.{Fault}
 use Rattle.mapblock.specs.declared.fault.Fault.the-variants as fault
-use Rattle.wire.proofs.Joints.{refine-done, then-refused, then-done, listed-refused, listed-done}
+use Rattle.wire.proofs.Joints.{refine-done, refine-all, then-refused, then-done, listed-refused, listed-done}
 use Rattle.mapblock.proofs.Readings.{num, text, within, ended-done, ended-refused, ended-map, behind, ended-third}
 
 -- ---- one variable
 abbrev pub keyAndValue : Form (List ℕ × List ℕ)
 keyAndValue = text 2 ▹ text 4
 
-abbrev hidden : ℕ → Form ℕ
-hidden v = only (since 28 v) 0 (refine (λ b. leb b 1) fault.PrivateByte u8)
+abbrev private : Bool → Form ℕ
+private values = cond values (refine (λ b. leb b 1) fault.PrivateByte u8) u8
+
+abbrev hidden : Bool → ℕ → Form ℕ
+hidden values v = only (since 28 v) 0 (private values)
 
 module _ (s : List ℕ) where
   pub key-ends : {e : Fault} {p : ℕ} → text 2 .read s ≡ refused e p → refused e p ≡ ended (keyAndValue .read s)
@@ -48,31 +52,47 @@ module _ (s : List ℕ) where
   unfolding _⨾_
   value-done k n h g = let e : 6 + k + n ≡ 2 + k + (4 + n) = omega arith in rw (h, g) (ap (done tt) e)
 
-module _ (v : ℕ) (s : List ℕ) where
-  variable-by : {r : Read Fault (Unit {0})} → r ≡ ended (keyAndValue .read s) → ended (variable v .read s) ≡ bind r (behind (hidden v) s)
-  unfolding variable iso
-  variable-by {r} h = rw (ended-map, h) (ended-third (text 2) (text 4) (hidden v) s)
+-- a private byte that is read; where it is judged, it is 0 or 1
+private-ends-by : (values : Bool) (s : List ℕ) → num 1 .read s ≡ refused fault.Ends 0 → private values .read s ≡ refused fault.Ends 0
+unfolding refine
+private-ends-by true s g = rw g
+private-ends-by false s g = g
 
-  pub variable-refused : {r : Read Fault (Unit {0})} {e : Fault} {p : ℕ} → r ≡ ended (keyAndValue .read s) → r ≡ refused e p → r ≡ ended (variable v .read s)
+private-done-by : (values : Bool) (s : List ℕ) {b : ℕ} → num 1 .read s ≡ done b 1 → (values ≡ true → b ≤ 1) → private values .read s ≡ done b 1
+unfolding refine
+private-done-by true s {b} g o = rw (g, le-leb b 1 (o refl))
+private-done-by false s g o = g
+
+variable-is : (values : Bool) (v : ℕ) → variableFor values v ≡ variableBy (private values) v
+unfolding variableFor variable
+variable-is true v = refl
+variable-is false v = refl
+
+module _ (values : Bool) (v : ℕ) (s : List ℕ) where
+  variable-by : {r : Read Fault (Unit {0})} → r ≡ ended (keyAndValue .read s) → ended (variableFor values v .read s) ≡ bind r (behind (hidden values v) s)
+  unfolding iso
+  variable-by {r} h = rw (variable-is values v, ended-map, h) (ended-third (text 2) (text 4) (hidden values v) s)
+
+  pub variable-refused : {r : Read Fault (Unit {0})} {e : Fault} {p : ℕ} → r ≡ ended (keyAndValue .read s) → r ≡ refused e p
+      → r ≡ ended (variableFor values v .read s)
   variable-refused h k = k ∙ sym (variable-by (sym k ∙ h))
 
   module _ {n : ℕ} (h : done tt n ≡ ended (keyAndValue .read s)) where
-    pub variable-bare : v < 28 → done tt n ≡ ended (variable v .read s)
+    pub variable-bare : v < 28 → done tt n ≡ ended (variableFor values v .read s)
     unfolding nothing
     variable-bare k = sym (variable-by h ∙ rw (lt-leb 28 v k, add-zero))
 
     module _ (k : 28 ≤ v) where
-      pub private-ends : num 1 .read (drop n s) ≡ refused fault.Ends 0 → refused fault.Ends n ≡ ended (variable v .read s)
-      unfolding refine
-      private-ends g = sym (variable-by h ∙ rw (le-leb 28 v k, g, add-zero))
+      pub private-ends : num 1 .read (drop n s) ≡ refused fault.Ends 0 → refused fault.Ends n ≡ ended (variableFor values v .read s)
+      private-ends g = sym (variable-by h ∙ rw (le-leb 28 v k, private-ends-by values (drop n s) g, add-zero))
 
-      pub private-other : {b : ℕ} → num 1 .read (drop n s) ≡ done b 1 → 1 < b → refused fault.PrivateByte n ≡ ended (variable v .read s)
+      pub private-other : {b : ℕ} → values ≡ true → num 1 .read (drop n s) ≡ done b 1 → 1 < b
+          → refused fault.PrivateByte n ≡ ended (variableFor values v .read s)
       unfolding refine
-      private-other {b} g o = sym (variable-by h ∙ rw (le-leb 28 v k, g, lt-leb b 1 o, add-zero))
+      private-other {b} t g o = sym (variable-by h ∙ rw (le-leb 28 v k, t, g, lt-leb b 1 o, add-zero))
 
-      pub private-done : {b : ℕ} → num 1 .read (drop n s) ≡ done b 1 → b ≤ 1 → done tt (n + 1) ≡ ended (variable v .read s)
-      unfolding refine
-      private-done {b} g o = sym (variable-by h ∙ rw (le-leb 28 v k, g, le-leb b 1 o))
+      pub private-done : {b : ℕ} → num 1 .read (drop n s) ≡ done b 1 → (values ≡ true → b ≤ 1) → done tt (n + 1) ≡ ended (variableFor values v .read s)
+      private-done {b} g o = sym (variable-by h ∙ rw (le-leb 28 v k, private-done-by values (drop n s) g o))
 
 -- ---- rows that begin with a number that is tested
 first-done : {A C : Type 0} (f : Form A) (g : Form C) (s : List ℕ) (x : A × C) {n : ℕ} → (f ▹ g) .read s ≡ done x n → (m : ℕ) × (f .read s ≡ done (x .0) m)
@@ -116,15 +136,15 @@ nodeNameOf r = r .position
 abbrev pub timedOf : TimerRow → ℕ
 timedOf r = r .position
 
-abbrev variableList : ℕ → Form (List Variable)
-variableList v = listed 4 λ _. variable v
+abbrev variableList : Bool → ℕ → Form (List Variable)
+variableList values v = listed 4 λ _. variableFor values v
 
 -- the fields by themselves, and whether the version is 23 or more
 abbrev tailBy : Form ℕ → Form (List ℕ) → Form (List Variable) → Form (List ℕ) → Bool → Form (ℕ × (List ℕ × (List Variable × List ℕ)))
 tailBy u c l i b = only (not b) 0 u ▹ only (not b) [] c ▹ only b [] l ▹ only b [] i
 
 abbrev metadataTail : ℕ → Bool → Form (ℕ × (List ℕ × (List Variable × List ℕ)))
-metadataTail v b = tailBy u16 (prefixed 2) (variableList v) inventory b
+metadataTail v b = tailBy u16 (prefixed 2) (listed 4 λ _. variable v) inventory b
 
 abbrev timerTail : Form (ℤ × ℤ)
 timerTail = s32 ▹ s32
@@ -147,28 +167,33 @@ module _ (seen : List TimerRow) (s : List ℕ) where
   unfolding timerRow
   timer-position h = placed-two timedOf seen s (first-read timerShape fault.PositionTwice position timerTail (unused timedOf all seen) s h .1)
 
--- ---- the row at the front, judged alone
-abbrev told : ℕ → List ℕ → Read Fault MetadataFields
-told v s = mapRead (metadataFields v) (metadataRow v [] .read s)
+-- ---- the row at the front, alone
+abbrev told : Bool → ℕ → List ℕ → Read Fault MetadataFields
+told values v s = mapRead (metadataFields v) (metadataRowFor values v .read s)
 
-pub row-refused : (v : ℕ) (s : List ℕ) {e : Fault} → position .read s ≡ refused e 0 → refused e 0 ≡ told v s
-unfolding metadataRow iso _⨾_ refine unused
-row-refused v s h = rw h
+-- no position is used before a row that is alone
+pub values-told : (v : ℕ) (s : List ℕ) → told true v s ≡ mapRead (metadataFields v) (metadataRow v [] .read s)
+unfolding metadataRow metadataRowFor variableFor iso _⨾_ unused
+values-told v s = rw (refine-all (unused nodeNameOf all []) fault.PositionTwice position s (λ a. refl))
 
-module _ (v : ℕ) (s : List ℕ) {at : ℕ} (h : position .read s ≡ done at 2) where
+pub row-refused : (values : Bool) (v : ℕ) (s : List ℕ) {e : Fault} → positionFor values .read s ≡ refused e 0 → refused e 0 ≡ told values v s
+unfolding metadataRowFor iso _⨾_
+row-refused values v s h = rw h
+
+module _ (values : Bool) (v : ℕ) (s : List ℕ) {at : ℕ} (h : positionFor values .read s ≡ done at 2) where
   -- version 22
   module _ (k : v < 23) where
-    pub kind-ends : num 2 .read (drop 2 s) ≡ refused fault.Ends 0 → refused fault.Ends 2 ≡ told v s
-    unfolding metadataRow iso _⨾_ refine unused
+    pub kind-ends : num 2 .read (drop 2 s) ≡ refused fault.Ends 0 → refused fault.Ends 2 ≡ told values v s
+    unfolding metadataRowFor iso _⨾_
     kind-ends g = rw (h, lt-leb 23 v k, g)
 
-    pub content-ends : {kind p : ℕ} → num 2 .read (drop 2 s) ≡ done kind 2 → text 2 .read (drop 4 s) ≡ refused fault.Ends p → refused fault.Ends (4 + p) ≡ told v s
-    unfolding metadataRow iso _⨾_ refine unused
+    pub content-ends : {kind p : ℕ} → num 2 .read (drop 2 s) ≡ done kind 2 → text 2 .read (drop 4 s) ≡ refused fault.Ends p → refused fault.Ends (4 + p) ≡ told values v s
+    unfolding metadataRowFor iso _⨾_
     content-ends {p = p} g f = let z : 4 + p ≡ 2 + (2 + p) = omega arith in rw (h, lt-leb 23 v k, g, drop-drop 2 2 s, f) (ap (refused fault.Ends) z)
 
     pub content-done : {kind n : ℕ} → num 2 .read (drop 2 s) ≡ done kind 2 → text 2 .read (drop 4 s) ≡ done (take n (drop 2 (drop 4 s))) (2 + n)
-        → done record { position = at; kind = kind; content = rangeAt 6 n; variables = 0; rows = noRange; inventory = noRange } (6 + n) ≡ told v s
-    unfolding metadataRow iso _⨾_ refine unused nothing
+        → done record { position = at; kind = kind; content = rangeAt 6 n; variables = 0; rows = noRange; inventory = noRange } (6 + n) ≡ told values v s
+    unfolding metadataRowFor iso _⨾_ nothing
     content-done {n = n} g f =
         let z : 6 + n ≡ 2 + (2 + (2 + n + (0 + 0))) = omega arith in
         let l : n ≤ length (drop 2 (drop 4 s)) = rw length-drop (omega (arith, within (text 2) (drop 4 s) f)) in
@@ -187,57 +212,68 @@ new-by p u c l i s {at} h = rw h (go ((l ▹ i) .read (drop 2 s)))
     go (done x n) = simp zero-add
     go (refused e q) = simp zero-add
 
-fields-are : (v at : ℕ) (l : List Variable) (i : List ℕ) {count n m : ℕ} → 23 ≤ v → length l ≡ count → length (encodeItems (λ _. variable v) [] l) ≡ n → length i ≡ m
+-- judged or not, a variable has the same bytes
+private-encoded : (values there : Bool) (n : ℕ) → only there 0 (private values) .encode n ≡ only there 0 (private true) .encode n
+unfolding refine
+private-encoded values false n = refl
+private-encoded true true n = refl
+private-encoded false true n = refl
+
+variable-encoded : (values : Bool) (v : ℕ) (a : Variable) → variableFor values v .encode a ≡ variable v .encode a
+unfolding variable iso _⨾_
+variable-encoded values v a = rw (variable-is values v, private-encoded values (since 28 v) (a .hidden))
+
+variables-encoded : (values : Bool) (v : ℕ) (seen l : List Variable) → encodeItems (λ _. variableFor values v) seen l ≡ encodeItems (λ _. variable v) seen l
+variables-encoded values v seen [] = refl
+variables-encoded values v seen (a ∷ l) = rw (variable-encoded values v a, variables-encoded values v (a ∷ seen) l)
+
+fields-are : (values : Bool) (v at : ℕ) (l : List Variable) (i : List ℕ) {count n m : ℕ} → 23 ≤ v → length l ≡ count → length (encodeItems (λ _. variableFor values v) [] l) ≡ n → length i ≡ m
     → metadataFields v (newRow at (pair l i)) ≡ record { position = at; kind = 0; content = noRange; variables = count; rows = rangeAt 6 n; inventory = rangeAt (6 + n) m }
-fields-are v at l i k a b c = rw (le-leb 23 v k, a, b, c)
+fields-are values v at l i k a b c = rw (le-leb 23 v k, a, ← variables-encoded values v [] l, b, c)
 
-module _ (v : ℕ) (s : List ℕ) {at : ℕ} (h : position .read s ≡ done at 2) (k : 23 ≤ v) where
-  first-is : newPosition nodeNameOf [] .read s ≡ done at 2
-  unfolding refine unused
-  first-is = rw h
-
-  new-is : {r : Read Fault (List Variable × List ℕ)} → (variableList v ▹ inventory) .read (drop 2 s) ≡ r → mapRead (metadataFields v) (shift 2 (newRow at) r) ≡ told v s
-  unfolding metadataRow
+module _ (values : Bool) (v : ℕ) (s : List ℕ) {at : ℕ} (h : positionFor values .read s ≡ done at 2) (k : 23 ≤ v) where
+  new-is : {r : Read Fault (List Variable × List ℕ)} → (variableList values v ▹ inventory) .read (drop 2 s) ≡ r → mapRead (metadataFields v) (shift 2 (newRow at) r) ≡ told values v s
+  unfolding metadataRowFor
   new-is e = ap (mapRead (metadataFields v)) (sym (
-      ap (λ (b : Bool). into metadataShape (newPosition nodeNameOf [] ▹ metadataTail v b) .read s) (le-leb 23 v k)
-      ∙ new-by (newPosition nodeNameOf []) u16 (prefixed 2) (variableList v) inventory s first-is ∙ ap (shift 2 (newRow at)) e))
+      ap (λ (b : Bool). into metadataShape (positionFor values ▹ tailBy u16 (prefixed 2) (variableList values v) inventory b) .read s) (le-leb 23 v k)
+      ∙ new-by (positionFor values) u16 (prefixed 2) (variableList values v) inventory s h ∙ ap (shift 2 (newRow at)) e))
 
-  pub count-ends : num 4 .read (drop 2 s) ≡ refused fault.Ends 0 → refused fault.Ends 2 ≡ told v s
-  count-ends g = new-is (then-refused (variableList v) inventory (drop 2 s) (listed-refused 4 (λ _. variable v) (drop 2 s) g))
+  pub count-ends : num 4 .read (drop 2 s) ≡ refused fault.Ends 0 → refused fault.Ends 2 ≡ told values v s
+  count-ends g = new-is (then-refused (variableList values v) inventory (drop 2 s) (listed-refused 4 (λ _. variableFor values v) (drop 2 s) g))
 
   module _ {count : ℕ} (g : num 4 .read (drop 2 s) ≡ done count 4) where
-    list-is : {r : Read Fault (List Variable)} → times count (variable v) .read (drop 6 s) ≡ r → variableList v .read (drop 2 s) ≡ shift 4 (λ l. l) r
-    list-is e = listed-done 4 (λ _. variable v) (drop 2 s) g ∙ ap (shift 4 (λ l. l)) (ap (times count (variable v) .read) (drop-drop 4 2 s) ∙ e)
+    list-is : {r : Read Fault (List Variable)} → times count (variableFor values v) .read (drop 6 s) ≡ r → variableList values v .read (drop 2 s) ≡ shift 4 (λ l. l) r
+    list-is e = listed-done 4 (λ _. variableFor values v) (drop 2 s) g ∙ ap (shift 4 (λ l. l)) (ap (times count (variableFor values v) .read) (drop-drop 4 2 s) ∙ e)
 
-    pub variables-refused : {e : Fault} {p : ℕ} → refused e p ≡ ended (times count (variable v) .read (drop 6 s)) → refused e (6 + p) ≡ told v s
+    pub variables-refused : {e : Fault} {p : ℕ} → refused e p ≡ ended (times count (variableFor values v) .read (drop 6 s)) → refused e (6 + p) ≡ told values v s
     variables-refused {e} {p} f =
-        let x = ended-refused (times count (variable v) .read (drop 6 s)) f in
+        let x = ended-refused (times count (variableFor values v) .read (drop 6 s)) f in
         let z : 6 + p ≡ 2 + (4 + p) = omega arith in
-        ap (refused e) z ∙ new-is (then-refused (variableList v) inventory (drop 2 s) (list-is x))
+        ap (refused e) z ∙ new-is (then-refused (variableList values v) inventory (drop 2 s) (list-is x))
 
-    module _ {n : ℕ} (f : done tt n ≡ ended (times count (variable v) .read (drop 6 s))) where
+    module _ {n : ℕ} (f : done tt n ≡ ended (times count (variableFor values v) .read (drop 6 s))) where
       -- the variables that were read
-      found : (l : List Variable) × (times count (variable v) .read (drop 6 s) ≡ done l n)
-      found = ended-done (times count (variable v) .read (drop 6 s)) f
+      found : (l : List Variable) × (times count (variableFor values v) .read (drop 6 s) ≡ done l n)
+      found = ended-done (times count (variableFor values v) .read (drop 6 s)) f
 
-      both-is : {r : Read Fault (List ℕ)} → inventory .read (drop (6 + n) s) ≡ r → (variableList v ▹ inventory) .read (drop 2 s) ≡ shift (4 + n) (pair (found .0)) r
+      both-is : {r : Read Fault (List ℕ)} → inventory .read (drop (6 + n) s) ≡ r → (variableList values v ▹ inventory) .read (drop 2 s) ≡ shift (4 + n) (pair (found .0)) r
       both-is e =
           let z : 2 + (4 + n) ≡ 6 + n = omega arith in
-          then-done (variableList v) inventory (drop 2 s) (list-is (found .1)) (ap (inventory .read) (drop-drop (4 + n) 2 s ∙ ap (λ (m : ℕ). drop m s) z) ∙ e)
+          then-done (variableList values v) inventory (drop 2 s) (list-is (found .1)) (ap (inventory .read) (drop-drop (4 + n) 2 s ∙ ap (λ (m : ℕ). drop m s) z) ∙ e)
 
-      pub inventory-refused : {e : Fault} {p : ℕ} → refused e p ≡ ended (inventory .read (drop (6 + n) s)) → refused e (6 + n + p) ≡ told v s
+      pub inventory-refused : {e : Fault} {p : ℕ} → refused e p ≡ ended (inventory .read (drop (6 + n) s)) → refused e (6 + n + p) ≡ told values v s
       inventory-refused {e} {p} i =
           let x = ended-refused (inventory .read (drop (6 + n) s)) i in
           let z : 6 + n + p ≡ 2 + (4 + n + p) = omega arith in
           ap (refused e) z ∙ new-is (both-is x)
 
       pub new-done : {m : ℕ} → Bytes s → done tt m ≡ ended (inventory .read (drop (6 + n) s))
-          → done record { position = at; kind = 0; content = noRange; variables = count; rows = rangeAt 6 n; inventory = rangeAt (6 + n) m } (6 + n + m) ≡ told v s
+          → done record { position = at; kind = 0; content = noRange; variables = count; rows = rangeAt 6 n; inventory = rangeAt (6 + n) m } (6 + n + m) ≡ told values v s
       unfolding items inventory
       new-done {m} b i =
           let x = ended-done (inventory .read (drop (6 + n) s)) i in
-          let t = times count (variable v) .backward (drop 6 s) (found .0) n (bytes-drop 6 s b) (found .1) in
+          let t = times count (variableFor values v) .backward (drop 6 s) (found .0) n (bytes-drop 6 s b) (found .1) in
           let u = inventory .backward (drop (6 + n) s) (x .0) m (bytes-drop (6 + n) s b) (x .1) in
           let z : 6 + n + m ≡ 2 + (4 + n + m) = omega arith in
-          rw (← fields-are v at (found .0) (x .0) k (items-length (λ _. variable v) count [] (found .0) (t .ok)) (sym (t .ends)) (sym (u .ends)), z)
+          rw (← fields-are values v at (found .0) (x .0) k (items-length (λ _. variableFor values v) count [] (found .0) (t .ok)) (sym (t .ends)) (sym (u .ends)), z)
           (new-is (both-is (x .1)))

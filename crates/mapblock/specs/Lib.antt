@@ -17,6 +17,7 @@ pub mod AskedRows
 pub mod Table
 pub mod Told
 pub mod ListKinds
+pub mod MetadataChecks
 pub mod Params
 pub mod Bounds
 pub mod Scan

@@ -1,4 +1,4 @@
-// Rows of metadata.
+// Rows of metadata. `values` says whether the position and the private bytes are judged; where they are not, they may have any value.
 use crate::fault::Fault;
 use crate::fault::Reach;
 use crate::inventory::inventory;
@@ -16,14 +16,16 @@ use wire::fields::u32_at;
 use wire::ranges::NO_RANGE;
 use wire::ranges::Range;
 ghost use mathlib.Core.Path.{_≡_};
+ghost use mathlib.Core.Bool.{false};
 ghost use mathlib.Core.List.{[]};
 ghost use Prim.Native.Nat.{_<_, _≤_};
 ghost use Rattle.wire.specs.Read.{done, mapRead};
 ghost use Rattle.wire.specs.Format.{items};
 ghost use Rattle.wire.specs.Formats.{_▹_, prefixed};
-ghost use Rattle.mapblock.specs.Layout.{variable, metadataRow, position};
+ghost use Rattle.mapblock.specs.Layout.{metadataRow};
+ghost use Rattle.mapblock.specs.MetadataChecks.{positionFor, variableFor, metadataRowFor};
 ghost use Rattle.mapblock.specs.Rows.{metadataFields};
-ghost use Rattle.mapblock.specs.Told.{toldReach, ended, toldMetadata};
+ghost use Rattle.mapblock.specs.Told.{toldReach, ended, toldPosition, toldMetadata};
 
 // A row's numbers, and where its runs stand in the part it was read from. Type and content are version 22's, the others stand from 23 on.
 pub struct MetadataFields {
@@ -42,7 +44,7 @@ pub enum MetadataRead {
 }
 
 // A variable's key and value at the front of a part.
-pub fn key_and_value(s: &[u8]) -> Reach
+fn key_and_value(s: &[u8]) -> Reach
     ensures { λ r. ⌜ toldReach r ≡ ended ((prefixed {ends = Fault.Ends} 2 ▹ prefixed 4) .read (now (s .entry))) ⌝ }
 {
     match run16_at(s, 0) {
@@ -61,8 +63,8 @@ pub fn key_and_value(s: &[u8]) -> Reach
 }
 
 // One variable at the front of a part; from version 28 on the private byte follows its value.
-fn variable(version: u8, s: &[u8]) -> Reach
-    ensures { λ r. ⌜ toldReach r ≡ ended (variable version .read (now (s .entry))) ⌝ }
+fn variable(values: bool, version: u8, s: &[u8]) -> Reach
+    ensures { λ r. ⌜ toldReach r ≡ ended (variableFor values version .read (now (s .entry))) ⌝ }
 {
     let r = key_and_value(s);
     let Reach::End(at) = r else {
@@ -77,27 +79,28 @@ fn variable(version: u8, s: &[u8]) -> Reach
             offset: at,
         },
         U8::Value(private) => {
-            if 1 < private {
-                Reach::Refused {
-                    fault: Fault::PrivateByte,
-                    offset: at,
+            if values {
+                if 1 < private {
+                    return Reach::Refused {
+                        fault: Fault::PrivateByte,
+                        offset: at,
+                    };
                 }
-            } else {
-                Reach::End(at + 1)
             }
+            Reach::End(at + 1)
         }
     }
 }
 
 // So many variables. A count that the bytes cannot hold costs no more than the bytes that are there.
-fn variables(version: u8, s: &[u8], count: u32) -> Reach
-    ensures { λ r. ⌜ toldReach r ≡ ended (items (λ _. variable version) count .read (now (s .entry))) ⌝ }
+fn variables(values: bool, version: u8, s: &[u8], count: u32) -> Reach
+    ensures { λ r. ⌜ toldReach r ≡ ended (items (λ _. variableFor values version) count .read (now (s .entry))) ⌝ }
 {
     let mut rest = s;
     let mut at: usize = 0;
     let mut left = count;
     while 0 < left {
-        match variable(version, rest) {
+        match variable(values, version, rest) {
             Reach::Refused { fault, offset } => {
                 return Reach::Refused {
                     fault,
@@ -115,10 +118,10 @@ fn variables(version: u8, s: &[u8], count: u32) -> Reach
 }
 
 // Version 22's row behind its position: type and content.
-fn old_row(version: u8, at: u16, s: &[u8]) -> MetadataRead
-    requires { ⌜ (version < 23) × (position .read (now s) ≡ done at 2) ⌝ }
+fn old_row(values: bool, version: u8, at: u16, s: &[u8]) -> MetadataRead
+    requires { ⌜ (version < 23) × (positionFor values .read (now s) ≡ done at 2) ⌝ }
     ensures { λ r. ⌜ toldMetadata r
-        ≡ mapRead (metadataFields version) (metadataRow version [] .read (now (s .entry))) ⌝ }
+        ≡ mapRead (metadataFields version) (metadataRowFor values version .read (now (s .entry))) ⌝ }
 {
     let U16::Value(kind) = u16_at(s, 2) else {
         return MetadataRead::Refused {
@@ -152,10 +155,10 @@ fn old_row(version: u8, at: u16, s: &[u8]) -> MetadataRead
 }
 
 // The row from version 23 on, behind its position: variables and an inventory.
-fn new_row(version: u8, at: u16, s: &[u8]) -> MetadataRead
-    requires { ⌜ (23 ≤ version) × (position .read (now s) ≡ done at 2) ⌝ }
+fn new_row(values: bool, version: u8, at: u16, s: &[u8]) -> MetadataRead
+    requires { ⌜ (23 ≤ version) × (positionFor values .read (now s) ≡ done at 2) ⌝ }
     ensures { λ r. ⌜ toldMetadata r
-        ≡ mapRead (metadataFields version) (metadataRow version [] .read (now (s .entry))) ⌝ }
+        ≡ mapRead (metadataFields version) (metadataRowFor values version .read (now (s .entry))) ⌝ }
 {
     let U32::Value(count) = u32_at(s, 2) else {
         return MetadataRead::Refused {
@@ -163,7 +166,7 @@ fn new_row(version: u8, at: u16, s: &[u8]) -> MetadataRead
             offset: 2,
         };
     };
-    match variables(version, &s[6..], count) {
+    match variables(values, version, &s[6..], count) {
         Reach::Refused { fault, offset } => MetadataRead::Refused {
             fault,
             offset: 6 + offset,
@@ -197,22 +200,51 @@ fn new_row(version: u8, at: u16, s: &[u8]) -> MetadataRead
     }
 }
 
-// The row at the front of a part, judged alone.
-pub(crate) fn metadata_row(version: u8, s: &[u8]) -> MetadataRead
-    ensures { λ r. ⌜ toldMetadata r
-        ≡ mapRead (metadataFields version) (metadataRow version [] .read (now (s .entry))) ⌝ }
+// The position at the front of a row.
+fn row_position(values: bool, s: &[u8]) -> PositionRead
+    ensures { λ r. ⌜ toldPosition r ≡ positionFor values .read (now (s .entry)) ⌝ }
 {
-    match position(s) {
+    if values {
+        return position(s);
+    }
+    match u16_at(s, 0) {
+        U16::Ends => PositionRead::Refused(Fault::Ends),
+        U16::Value(p) => PositionRead::At(p),
+    }
+}
+
+// The row at the front of a part, alone.
+fn row(values: bool, version: u8, s: &[u8]) -> MetadataRead
+    ensures { λ r. ⌜ toldMetadata r
+        ≡ mapRead (metadataFields version) (metadataRowFor values version .read (now (s .entry))) ⌝ }
+{
+    match row_position(values, s) {
         PositionRead::Refused(f) => MetadataRead::Refused {
             fault: f,
             offset: 0,
         },
         PositionRead::At(p) => {
             if version < 23 {
-                old_row(version, p, s)
+                old_row(values, version, p, s)
             } else {
-                new_row(version, p, s)
+                new_row(values, version, p, s)
             }
         }
     }
+}
+
+// The row at the front of a part, judged alone.
+pub(crate) fn metadata_row(version: u8, s: &[u8]) -> MetadataRead
+    ensures { λ r. ⌜ toldMetadata r
+        ≡ mapRead (metadataFields version) (metadataRow version [] .read (now (s .entry))) ⌝ }
+{
+    row(true, version, s)
+}
+
+// The same by its framing alone: whether the row is whole, and how long it is.
+pub fn metadata_frame(version: u8, s: &[u8]) -> MetadataRead
+    ensures { λ r. ⌜ toldMetadata r
+        ≡ mapRead (metadataFields version) (metadataRowFor false version .read (now (s .entry))) ⌝ }
+{
+    row(false, version, s)
 }

@@ -4,7 +4,7 @@ use mathlib.Core.Path.{_≡_, refl, ap, sym, _∙_}
 use mathlib.Core.List.{List}
 use mathlib.Core.Bool.{Bool, true}
 use lib.ListN.{drop}
-use Rattle.wire.specs.Read.{Read, done, refused, mapRead, shift, bind-done, cond-done}
+use Rattle.wire.specs.Read.{Read, done, refused, bind, mapRead, shift, bind-done, cond-done}
 use Rattle.wire.specs.Format.{Format, tested, refine, _⨾_, pair, iso, items}
 use Rattle.wire.specs.Formats.{_▹_, number, listed}
 
@@ -30,6 +30,15 @@ refine-passes test e f s {a} {n} h =
     let y = cond-done (test (x .0)) (done (x .0) (x .1)) e 0 a n (x .3) in
     let same : x .0 ≡ a = cc (y .1) in
     ap test (sym same) ∙ y .0
+
+-- a test that everything passes
+pub refine-all : {E : Type 0} {ends : E} {A : Type 0} (test : A → Bool) (e : E) (f : Format E ends A) (s : List ℕ) → ((a : A) → test a ≡ true) → refine test e f .read s ≡ f .read s
+unfolding refine
+refine-all {E} {ends} {A} test e f s t = go (f .read s)
+  where
+    go : (r : Read E A) → bind r (tested test e) ≡ r
+    go (done a n) = rw (t a)
+    go (refused k p) = refl
 
 module _ {E : Type 0} {ends : E} {A : Type 0} (k : ℕ) (item : List A → Format E ends A) (s : List ℕ) where
   pub listed-refused : {e : E} {p : ℕ} → number {ends = ends} k .read s ≡ refused e p → listed k item .read s ≡ refused e p

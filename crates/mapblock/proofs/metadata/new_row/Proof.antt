@@ -9,7 +9,7 @@ use Rattle.wire.specs.Read.{done, refused}
 use Rattle.wire.specs.Formats.{times}
 use Rattle.wire.specs.Told.{toldU32}
 use Rattle.mapblock.specs.Inventory.{inventory}
-use Rattle.mapblock.specs.Layout.{variable}
+use Rattle.mapblock.specs.MetadataChecks.{variableFor}
 use Rattle.mapblock.specs.Told.{toldReach, ended}
 use Rattle.mapblock.proofs.Leaves.{by-number}
 use Rattle.mapblock.proofs.Readings.{num, within, within-ended}
@@ -27,14 +27,14 @@ six c = omega (arith, rw length-drop at (within (num 4) _ (count c)))
 -- the variables: refused, or read
 no-variables : (c : tie.After-known-told2) → let b = c .before .before .before .before .before .before in
     let a = b .before .before .before .before .args in
-    refused (c .before .fault .given .0 .0) (c .before .fault .given .0 .1 .0) ≡ ended (times (b .count .given .0 .0) (variable (a .version)) .read (drop 6 (now (a .s))))
+    refused (c .before .fault .given .0 .0) (c .before .fault .given .0 .1 .0) ≡ ended (times (b .count .given .0 .0) (variableFor (a .values) (a .version)) .read (drop 6 (now (a .s))))
 no-variables c =
     let s = now (c .before .before .before .before .before .before .before .before .before .before .args .s) in
     rw (rest-is 6 s) at (sym (ap toldReach (c .before .fault .given .1)) ∙ c .before .before .before .variables .ensures)
 
 some-variables : (c : tie.After-known-told3) → let b = c .before .before .before .before .before .before in
     let a = b .before .before .before .before .args in
-    done tt (c .before .n .given .0 .0) ≡ ended (times (b .count .given .0 .0) (variable (a .version)) .read (drop 6 (now (a .s))))
+    done tt (c .before .n .given .0 .0) ≡ ended (times (b .count .given .0 .0) (variableFor (a .values) (a .version)) .read (drop 6 (now (a .s))))
 some-variables c =
     let s = now (c .before .before .before .before .before .before .before .before .before .before .args .s) in
     rw (rest-is 6 s) at (sym (ap toldReach (c .before .n .given .1)) ∙ c .before .before .before .variables .ensures)
@@ -71,7 +71,7 @@ enum-told c = search needs
 returns : tie.Need-returns
 returns c =
     let p = c .before .before .before .before .pre in
-    count-ends _ _ (p .1) (p .0) (by-number 4 _ toldU32 (c .before .before .u32-at .ensures) (c .enum-told .given .1))
+    count-ends _ _ _ (p .1) (p .0) (by-number 4 _ toldU32 (c .before .before .u32-at .ensures) (c .enum-told .given .1))
 
 sub-variables : tie.Need-sub-variables
 sub-variables c = six c
@@ -88,8 +88,8 @@ variables-requires c κs = search needs
 enum-known-fault : tie.Need-enum-known-fault
 enum-known-fault c = search needs
 
-add-t20 : tie.Need-add-t20
-add-t20 c = omega (arith, six (c .before .before .before .before .before), rw length-drop at (within-ended (times _ _) _ (no-variables c)))
+add-t21 : tie.Need-add-t21
+add-t21 c = omega (arith, six (c .before .before .before .before .before), rw length-drop at (within-ended (times _ _) _ (no-variables c)))
 
 enum-known-n : tie.Need-enum-known-n
 enum-known-n c = search needs
@@ -112,43 +112,43 @@ inventory-requires c κs = search needs
 enum-known-fault-2 : tie.Need-enum-known-fault-2
 enum-known-fault-2 c = search needs
 
-add-t28 : tie.Need-add-t28
-add-t28 c = omega (arith, variables-in (c .before .before .before .before .before))
-
 add-t29 : tie.Need-add-t29
-add-t29 c = omega (arith, variables-in (c .before .before .before .before .before), rw length-drop at (within-ended inventory _ (no-inventory c)))
+add-t29 c = omega (arith, variables-in (c .before .before .before .before .before))
+
+add-t30 : tie.Need-add-t30
+add-t30 c = omega (arith, variables-in (c .before .before .before .before .before), rw length-drop at (within-ended inventory _ (no-inventory c)))
 
 enum-known-m : tie.Need-enum-known-m
 enum-known-m c = search needs
 
-add-t32 : tie.Need-add-t32
-add-t32 c = omega (arith, variables-in (c .before .before .before .before .before))
+add-t33 : tie.Need-add-t33
+add-t33 c = omega (arith, variables-in (c .before .before .before .before .before))
 
-add-t32-2 : tie.Need-add-t32-2
-add-t32-2 c = omega (arith, variables-in (c .before .before .before .before .before))
+add-t33-2 : tie.Need-add-t33-2
+add-t33-2 c = omega (arith, variables-in (c .before .before .before .before .before))
 
-add-t34 : tie.Need-add-t34
-add-t34 c = omega (arith, variables-in (c .before .before .before .before .before), rw length-drop at (within-ended inventory _ (some-inventory c)))
+add-t35 : tie.Need-add-t35
+add-t35 c = omega (arith, variables-in (c .before .before .before .before .before), rw length-drop at (within-ended inventory _ (some-inventory c)))
 
 returns-2 : tie.Need-returns-2
 returns-2 c =
     let k = c .before .before .before .before .before in
     let p = k .before .before .before .before .before .pre in
-    variables-refused _ _ (p .1) (p .0) (count k) (no-variables c)
+    variables-refused _ _ _ (p .1) (p .0) (count k) (no-variables c)
 
 returns-3 : tie.Need-returns-3
 returns-3 c =
     let n = c .before .before .before .before .before in
     let k = n .before .before .before .before .before in
     let p = k .before .before .before .before .before .pre in
-    inventory-refused _ _ (p .1) (p .0) (count k) (some-variables n) (no-inventory c)
+    inventory-refused _ _ _ (p .1) (p .0) (count k) (some-variables n) (no-inventory c)
 
 returns-4 : tie.Need-returns-4
 returns-4 c =
     let n = c .before .before .before .before .before in
     let k = n .before .before .before .before .before in
     let p = k .before .before .before .before .before .pre in
-    new-done _ _ (p .1) (p .0) (count k) (some-variables n) (λ i. k .before .before .before .before .shared-slice-known .given i .fits) (some-inventory c)
+    new-done _ _ _ (p .1) (p .0) (count k) (some-variables n) (λ i. k .before .before .before .before .shared-slice-known .given i .fits) (some-inventory c)
 
 pub new-row-spec : {M : Type 1} → statement M
 new-row-spec =
@@ -163,7 +163,7 @@ new-row-spec =
     part-variables-end
     variables-requires
     enum-known-fault
-    add-t20
+    add-t21
     enum-known-n
     add-inventory
     sub-inventory
@@ -171,12 +171,12 @@ new-row-spec =
     part-inventory-end
     inventory-requires
     enum-known-fault-2
-    add-t28
     add-t29
+    add-t30
     enum-known-m
-    add-t32
-    add-t32-2
-    add-t34
+    add-t33
+    add-t33-2
+    add-t35
     returns-2
     returns-3
     returns-4)

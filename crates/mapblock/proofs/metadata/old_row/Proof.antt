@@ -38,7 +38,7 @@ enum-told c = search needs
 returns : tie.Need-returns
 returns c =
     let p = c .before .before .before .before .pre in
-    kind-ends _ _ (p .1) (p .0) (by-number 2 _ toldU16 (c .before .before .u16-at .ensures) (c .enum-told .given .1))
+    kind-ends _ _ _ (p .1) (p .0) (by-number 2 _ toldU16 (c .before .before .u16-at .ensures) (c .enum-told .given .1))
 
 run16-at-requires : tie.Need-run16-at-requires
 run16-at-requires c κs = search needs
@@ -46,24 +46,24 @@ run16-at-requires c κs = search needs
 enum-known-p : tie.Need-enum-known-p
 enum-known-p c = search needs
 
-add-t13 : tie.Need-add-t13
-add-t13 c = omega (arith, rw length-drop at (within (num 2) _ (kind (c .before .before .before .before))), rw length-drop at (within (text 2) _ (no-content c)))
+add-t14 : tie.Need-add-t14
+add-t14 c = omega (arith, rw length-drop at (within (num 2) _ (kind (c .before .before .before .before))), rw length-drop at (within (text 2) _ (no-content c)))
 
 enum-known-n : tie.Need-enum-known-n
 enum-known-n c = search needs
 
-add-t17 : tie.Need-add-t17
-add-t17 c = omega (arith, rw length-drop at (within (text 2) _ (content c)))
+add-t18 : tie.Need-add-t18
+add-t18 c = omega (arith, rw length-drop at (within (text 2) _ (content c)))
 
 returns-2 : tie.Need-returns-2
 returns-2 c =
     let p = c .before .before .before .before .before .before .before .before .before .pre in
-    content-ends _ _ (p .1) (p .0) (kind (c .before .before .before .before)) (no-content c)
+    content-ends _ _ _ (p .1) (p .0) (kind (c .before .before .before .before)) (no-content c)
 
 returns-3 : tie.Need-returns-3
 returns-3 c =
     let p = c .before .before .before .before .before .before .before .before .before .pre in
-    content-done _ _ (p .1) (p .0) (kind (c .before .before .before .before)) (content c)
+    content-done _ _ _ (p .1) (p .0) (kind (c .before .before .before .before)) (content c)
 
 pub old-row-spec : {M : Type 1} → statement M
 old-row-spec =
@@ -75,8 +75,8 @@ old-row-spec =
     returns
     run16-at-requires
     enum-known-p
-    add-t13
+    add-t14
     enum-known-n
-    add-t17
+    add-t18
     returns-2
     returns-3)

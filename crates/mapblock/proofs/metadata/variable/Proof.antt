@@ -1,5 +1,8 @@
 use borrow.Author.Needs.{needs}
+use Prim.Native.Nat.{_≤_}
 use mathlib.Core.Path.{_≡_, ap, sym, _∙_}
+use mathlib.Core.Logic.{⊎-elim}
+use mathlib.Core.Bool.{true, true≢false}
 use native.Mathlib.Omega.{arith}
 use denote.Ref.{now}
 use lib.ListN.{drop, length-drop}
@@ -20,6 +23,11 @@ byte : (c : tie.After-known-told2) → let a = c .before .before .before .before
     num 1 .read (drop a (now (c .before .before .before .before .before .before .before .before .before .before .args .s))) ≡ done (c .before .private .given .0 .0) 1
 byte c = by-number 1 _ toldU8 (c .before .before .before .u8-at .ensures) (c .before .private .given .1)
 
+-- where values are judged, the byte passed
+passed : (c : tie.Joined2) → c .before .before .before .before .before .before .before .before .before .before .before .args .values ≡ true
+    → c .before .before .private .given .0 .0 ≤ 1
+passed c t = ⊎-elim (λ w. w .1 .left) (λ w. absurd (true≢false (sym t ∙ w .left))) (c .if2 .came)
+
 key-and-value-requires : tie.Need-key-and-value-requires
 key-and-value-requires c κs = search needs
 
@@ -30,10 +38,10 @@ enum-told : tie.Need-enum-told
 enum-told c = search needs
 
 returns : tie.Need-returns
-returns c = variable-refused _ _ (c .before .before .key-and-value .ensures) (ap toldReach (c .enum-told .given .1))
+returns c = variable-refused _ _ _ (c .before .before .key-and-value .ensures) (ap toldReach (c .enum-told .given .1))
 
 returns-2 : tie.Need-returns-2
-returns-2 c = variable-bare _ _ (two (c .before)) (c .if1 .taken)
+returns-2 c = variable-bare _ _ _ (two (c .before)) (c .if1 .taken)
 
 u8-at-requires : tie.Need-u8-at-requires
 u8-at-requires c κs = search needs
@@ -44,18 +52,20 @@ enum-told-2 c = search needs
 enum-known-private : tie.Need-enum-known-private
 enum-known-private c = search needs
 
-add-t13 : tie.Need-add-t13
-add-t13 c = omega (arith, rw length-drop at (within (num 1) _ (byte (c .before))))
-
 returns-3 : tie.Need-returns-3
-returns-3 c = private-ends _ _ (two (c .before .before .before .before)) (omega arith)
-    (by-number 1 _ toldU8 (c .before .before .u8-at .ensures) (c .enum-told2 .given .1))
+returns-3 c =
+    let b = c .before .before in
+    private-other _ _ _ (two (b .before .before .before .before .before)) (omega arith) (c .before .if2 .taken) (byte b) (c .if3 .taken)
+
+add-t14 : tie.Need-add-t14
+add-t14 c = omega (arith, rw length-drop at (within (num 1) _ (byte (c .before))))
 
 returns-4 : tie.Need-returns-4
-returns-4 c = private-other _ _ (two (c .before .before .before .before .before .before)) (omega arith) (byte (c .before)) (c .if2 .taken)
+returns-4 c = private-ends _ _ _ (two (c .before .before .before .before)) (omega arith)
+    (by-number 1 _ toldU8 (c .before .before .u8-at .ensures) (c .enum-told2 .given .1))
 
 returns-5 : tie.Need-returns-5
-returns-5 c = private-done _ _ (two (c .before .before .before .before .before .before)) (omega arith) (byte (c .before)) (c .if2 .left)
+returns-5 c = private-done _ _ _ (two (c .before .before .before .before .before .before)) (omega arith) (byte (c .before)) (passed c)
 
 pub variable-spec : {M : Type 1} → statement M
 variable-spec =
@@ -69,7 +79,7 @@ variable-spec =
     u8-at-requires
     enum-told-2
     enum-known-private
-    add-t13
     returns-3
+    add-t14
     returns-4
     returns-5)

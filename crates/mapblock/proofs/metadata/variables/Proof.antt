@@ -5,25 +5,25 @@ use native.Mathlib.Omega.{arith}
 use denote.Ref.{now}
 use Rattle.wire.specs.Read.{done, refused}
 use Rattle.wire.proofs.Lists.{rest-is}
-use Rattle.mapblock.specs.Layout.{variable}
+use Rattle.mapblock.specs.MetadataChecks.{variableFor}
 use Rattle.mapblock.specs.Told.{toldReach, ended}
 use Rattle.mapblock.proofs.Readings.{ended-done, Reading, reading-start, reading-inside, reading-place, reading-end, reading-refused, reading-on}
 use Rattle.mapblock.proofs.metadata.variables.Statement.{statement}
 use Rattle.mapblock.proofs.metadata.variables.Tie as tie
 
 abbrev Inv-loop : tie.InvT-loop
-Inv-loop version s count rest₀ at₀ left₀ rest at left = Reading (λ _. variable version) count s rest at left
+Inv-loop values version s count rest₀ at₀ left₀ rest at left = Reading (λ _. variableFor values version) count s rest at left
 
 abbrev μ-loop : tie.MeasureT-loop
-μ-loop version s count rest₀ at₀ left₀ rest at left = left
+μ-loop values version s count rest₀ at₀ left₀ rest at left = left
 
 -- the front variable: refused, or read
 no-variable : (c : tie.After-known-told Inv-loop μ-loop) → let l = c .before .before .before .before .before in
-    refused (c .before .fault .given .0 .0) (c .before .fault .given .0 .1 .0) ≡ ended (variable (l .before .before .args .version) .read (now (l .loop .rest)))
+    refused (c .before .fault .given .0 .0) (c .before .fault .given .0 .1 .0) ≡ ended (variableFor (l .before .before .args .values) (l .before .before .args .version) .read (now (l .loop .rest)))
 no-variable c = sym (ap toldReach (c .before .fault .given .1)) ∙ c .before .before .before .variable .ensures
 
 one-variable : (c : tie.After-known-told2 Inv-loop μ-loop) → let l = c .before .before .before .before .before in
-    done tt (c .before .n .given .0 .0) ≡ ended (variable (l .before .before .args .version) .read (now (l .loop .rest)))
+    done tt (c .before .n .given .0 .0) ≡ ended (variableFor (l .before .before .args .values) (l .before .before .args .version) .read (now (l .loop .rest)))
 one-variable c = sym (ap toldReach (c .before .n .given .1)) ∙ c .before .before .before .variable .ensures
 
 loop-holds : tie.Need-loop-holds Inv-loop μ-loop
@@ -35,8 +35,8 @@ variable-requires c κs = search needs
 enum-known-fault : tie.Need-enum-known-fault Inv-loop μ-loop
 enum-known-fault c = search needs
 
-add-t12 : tie.Need-add-t12 Inv-loop μ-loop
-add-t12 c = omega (arith, reading-place (c .before .before .before .before .before .loop .inv) (no-variable c))
+add-t13 : tie.Need-add-t13 Inv-loop μ-loop
+add-t13 c = omega (arith, reading-place (c .before .before .before .before .before .loop .inv) (no-variable c))
 
 returns : tie.Need-returns Inv-loop μ-loop
 returns c = reading-refused (c .before .before .before .before .before .loop .inv) (omega arith) (no-variable c)
@@ -77,7 +77,7 @@ variables-spec =
     loop-holds
     variable-requires
     enum-known-fault
-    add-t12
+    add-t13
     returns
     enum-known-n
     sub-rest
