@@ -16,7 +16,7 @@ use Rattle.wire.specs.Formats.{_▹_, number, listed, only, u16}
 use Rattle.wire.proofs.EveryFormat.{every-format}
 use Rattle.wire.proofs.Looser.{Settled, settled, settled-ok, looser-self}
 use Rattle.mapblock.specs.Inventory.{Form}
-use Rattle.mapblock.specs.Data.{NameRow, MetadataRow, ObjectRow, TimerRow, NameMapping, Timers, Nodes, Block, noMapping}
+use Rattle.mapblock.specs.Data.{NameRow, MetadataRow, ObjectRow, TimerRow, NameMapping, Timers, Nodes, Block, noMapping, frontShape, restShape}
 use Rattle.mapblock.specs.Layout.{since, all, isVersion, opening, nameMapping, nodes, metadata, earlyTimers, objects, objectRow, lateTimers, front, rest, steps}
 use Rattle.mapblock.specs.Block.{block, piecesOf, firstUnmapped, param0At, verdict}
 use Rattle.mapblock.specs.Sections.{scannedOf}
@@ -35,11 +35,11 @@ use Rattle.mapblock.proofs.Verdicts.{verdict-refused, verdict-firstUnmapped, ve
 use Rattle.block_writer.specs.Frames.{nameFrame, metadataFrame}
 use Rattle.block_writer.specs.BlockParts.{headFits}
 use Rattle.block_writer.specs.Sections.{Rows}
-use Rattle.block_writer.specs.Judging.{verdictOn, openingOn, mappingOn, mappingFront, mappingBehind, timersEarly, timersLate, openingLength, listsLength, MappingJudged, FrontJudged, ending, EndingJudged, RestJudged}
+use Rattle.block_writer.specs.Judging.{verdictOn, openingOn, mappingOn, mappingFront, mappingBehind, timersEarly, timersLate, frontOn, restOn, openingLength, listsLength, MappingJudged, FrontJudged, ending, EndingJudged, RestJudged}
 use Rattle.block_writer.proofs.Fitting.{unlit}
 use Rattle.block_writer.proofs.Framed.{name-mapping-looser, metadataListFrame, metadata-list-looser}
 use Rattle.block_writer.proofs.RowsJudging.{rows-ok, rows-bytes, name-mapping-ok}
-use Rattle.block_writer.proofs.PiecesJudging.{shift-none, shift-thrice, verdictOn-ok, judged-refused, judged-on}
+use Rattle.block_writer.proofs.PiecesJudging.{shift-none, shift-thrice, verdictOn-ok, verdictOn-into, judged-refused, judged-on}
 
 -- ---- behind the static objects
 module _ (h : Head) (l : List NameRow) (k : List TimerRow) where
@@ -100,10 +100,14 @@ module _ (h : Head) (l : List NameRow) (m : List MetadataRow) (o : List ObjectRo
   abbrev end : NameMapping × Timers
   end = (mappingBehind h l, timersLate h k)
 
-  pub rest-no-metadata : {t : List ℕ} {e : Fault} {p : ℕ} {z : Read Fault (Unit {0})} → z ≡ verdictOn (metadata v) m → z ≡ refused e p → RestJudged t t h l m o k z
+  -- what is said of the pairs is said of the record
+  rest-by : (free : ℕ → Bool) {r : Read Fault (Unit {0})} → r ≡ verdictOn (metadata v ▹ earlyTimers v ▹ objects ▹ ending free v) (m, (early, (o, end))) → r ≡ verdictOn (rest free v) (restOn h l m o k)
   unfolding rest
+  rest-by free e = e ∙ sym (verdictOn-into restShape (metadata v ▹ earlyTimers v ▹ objects ▹ ending free v) (restOn h l m o k))
+
+  pub rest-no-metadata : {t : List ℕ} {e : Fault} {p : ℕ} {z : Read Fault (Unit {0})} → z ≡ verdictOn (metadata v) m → z ≡ refused e p → RestJudged t t h l m o k z
   rest-no-metadata y i = record {
-    judged = λ free _. i ∙ judged-refused (metadata v) (λ _. earlyTimers v ▹ objects ▹ ending free v) m (early, (o, end)) sm (sym i ∙ y);
+    judged = λ free _. rest-by free (i ∙ judged-refused (metadata v) (λ _. earlyTimers v ▹ objects ▹ ending free v) m (early, (o, end)) sm (sym i ∙ y));
     marks = λ n _ f. not-done (sym i ∙ f);
     kept = λ _. refl;
   }
@@ -111,25 +115,23 @@ module _ (h : Head) (l : List NameRow) (m : List MetadataRow) (o : List ObjectRo
   module _ {a : ℕ} (x : done tt a ≡ verdictOn (metadata v) m) (se : Settled (earlyTimers v) early) where
     pub rest-no-early : {t : List ℕ} {e : Fault} {p : ℕ} {z q : Read Fault (Unit {0})} → z ≡ verdictOn (earlyTimers v) early → z ≡ refused e p → q ≡ shift a (λ u. u) z
         → RestJudged t t h l m o k q
-    unfolding rest
     rest-no-early y i f = record {
       judged = λ free _.
-          f
+          rest-by free (f
           ∙ judged-on (metadata v) (λ _. earlyTimers v ▹ objects ▹ ending free v) m (early, (o, end)) sm x
-          (i ∙ judged-refused (earlyTimers v) (λ _. objects ▹ ending free v) early (o, end) se (sym i ∙ y));
+          (i ∙ judged-refused (earlyTimers v) (λ _. objects ▹ ending free v) early (o, end) se (sym i ∙ y)));
       marks = λ n _ g. not-done (sym (f ∙ ap (shift a (λ u. u)) i) ∙ g);
       kept = λ _. refl;
     }
 
     module _ {d c : ℕ} (y : done tt d ≡ verdictOn (earlyTimers v) early) (so : Settled objects o × (done tt c ≡ verdictOn objects o)) where
       pub rest-on : {t u : List ℕ} {at : ℕ} {z q : Read Fault (Unit {0})} → at ≡ a + d + c → EndingJudged t u h l k z → q ≡ shift at (λ u. u) z → RestJudged t u h l m o k q
-      unfolding rest
       rest-on {at = at} {z = z} e w f = record {
         judged = λ free same.
-            f ∙ ap (λ (n : ℕ). shift n (λ u. u) z) e ∙ shift-thrice a d c z
+            rest-by free (f ∙ ap (λ (n : ℕ). shift n (λ u. u) z) e ∙ shift-thrice a d c z
             ∙ judged-on (metadata v) (λ _. earlyTimers v ▹ objects ▹ ending free v) m (early, (o, end)) sm x
             (judged-on (earlyTimers v) (λ _. objects ▹ ending free v) early (o, end) se y
-            (judged-on objects (λ _. ending free v) o end (so .0) (so .1) (w .judged free same)));
+            (judged-on objects (λ _. ending free v) o end (so .0) (so .1) (w .judged free same))));
         marks = λ n g i. let q = shift-done at (λ u. u) z tt n (sym f ∙ i) in w .marks (q .1) g (q .2);
         kept = w .kept;
       }
@@ -155,11 +157,12 @@ module _ (h : Head) (l : List NameRow) (n : Nodes) (ok : opening .Ok (openingOn 
 
   -- k bytes of step 1
   front-by : (free : ℕ → Bool) {k : ℕ} (r : Read Fault (Unit {0})) → k ≡ openingLength (h .version) → r ≡ verdictOn (behindOpening free) (mappingFront h l, n)
-      → shift k (λ u. u) r ≡ verdictOn (front free) (openingOn h, (mappingFront h l, n))
+      → shift k (λ u. u) r ≡ verdictOn (front free) (frontOn h l n)
   unfolding front
   front-by free r e z =
       ap (λ (i : ℕ). shift i (λ u. u) r) (e ∙ sym (opening-long h))
       ∙ judged-on opening (λ o. only (since 29 (o .version)) noMapping (nameMapping free) ▹ nodes (o .version)) (openingOn h) (mappingFront h l, n) (settled-ok opening (openingOn h) ok) (sym (verdictOn-ok opening (openingOn h) ok)) z
+      ∙ sym (verdictOn-into frontShape (opening ⨾ λ o. only (since 29 (o .version)) noMapping (nameMapping free) ▹ nodes (o .version)) (frontOn h l n))
 
   module _ {k d : ℕ} (e : k ≡ openingLength (h .version)) (f : d ≡ listsLength (h .version)) where
     lists-verdictOn : done tt (2 + d) ≡ verdictOn (nodes (h .version)) n

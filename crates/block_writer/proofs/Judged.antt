@@ -8,11 +8,11 @@ use native.Mathlib.Omega.{arith}
 use lib.ListN.{length, getD, length-append}
 use borrow.Author.Tests.{le-leb, lt-leb}
 use Rattle.wire.specs.Read.{Read, done, refused, shift}
-use Rattle.wire.specs.Format.{nothing, _⨾_}
+use Rattle.wire.specs.Format.{nothing, _⨾_, iso}
 use Rattle.wire.specs.Formats.{only}
 use Rattle.wire.proofs.EveryFormat.{every-format}
 use Rattle.wire.proofs.Looser.{Settled, settled}
-use Rattle.mapblock.specs.Data.{NameRow, MetadataRow, ObjectRow, TimerRow, Block, noMapping}
+use Rattle.mapblock.specs.Data.{NameRow, MetadataRow, ObjectRow, TimerRow, Block, noMapping, stepsShape}
 use Rattle.mapblock.specs.Layout.{since, all, width, unmapped, isVersion, opening, nameMapping, nodes, front, rest, steps}
 use Rattle.mapblock.specs.Block.{block, piecesOf, nameMappingOf, frontNamesEnd, idAt, param0At, firstUnmapped, verdict}
 use Rattle.mapblock.specs.Table.{freeIn, Tabled}
@@ -25,7 +25,7 @@ use Rattle.block_writer.specs.BlockParts.{BlockParts, made, WellTyped}
 use Rattle.block_writer.specs.Judging.{verdictOn, listsLength, FrontJudged, RestJudged, firstUnmappedAmong}
 use Rattle.block_writer.proofs.BlockJudging.{block-verdictOn, verdictOn-refused, verdictOn-firstUnmapped, verdictOn-done}
 use Rattle.block_writer.proofs.MadeBlock.{MadeOf, of-made, front-looser, pieces-ok, block-settled}
-use Rattle.block_writer.proofs.PiecesJudging.{judged-refused, judged-length, judged-on}
+use Rattle.block_writer.proofs.PiecesJudging.{verdictOn-into, judged-refused, judged-length, judged-on}
 use Rattle.block_writer.proofs.FirstUnmapped.{firstUnmapped-same}
 
 module _ (p : BlockParts) (l : List NameRow) (m : List MetadataRow) (o : List ObjectRow) (k : List TimerRow) (held : WellTyped p) (version : isVersion (p .head .version) ≡ true)
@@ -40,46 +40,49 @@ module _ (p : BlockParts) (l : List NameRow) (m : List MetadataRow) (o : List Ob
   steady = block-settled p b held version (of-made p b mk)
 
   pub nodes-there : nodes v .Ok (b .nodes)
-  unfolding _⨾_
+  unfolding iso _⨾_
   nodes-there = pieces-ok p b held version mk .0 .1 .1
 
-  front-steady : Settled (front all) (piecesOf b .0)
-  unfolding _⨾_
-  front-steady = settled (front-looser all) (piecesOf b .0) (pieces-ok p b held version mk .0)
+  front-steady : Settled (front all) (piecesOf b .front)
+  unfolding iso _⨾_
+  front-steady = settled (front-looser all) (piecesOf b .front) (pieces-ok p b held version mk .0)
+
+  -- what is said of the front and the rest is said of the eight steps
+  steps-verdictOn : verdictOn (front all ⨾ λ f. rest all (f .opening .version)) (piecesOf b .front, piecesOf b .rest) ≡ verdictOn (steps all) (piecesOf b)
+  unfolding steps
+  steps-verdictOn = sym (verdictOn-into stepsShape (front all ⨾ λ f. rest all (f .opening .version)) (piecesOf b))
 
   -- where the param lists stand
-  name-mapping-length : length (only (since 29 v) noMapping (nameMapping all) .encode (piecesOf b .0 .1 .0)) ≡ cond (since 29 v) (length (nameMapping all .encode (nameMappingOf b))) 0
+  name-mapping-length : length (only (since 29 v) noMapping (nameMapping all) .encode (piecesOf b .front .mapping)) ≡ cond (since 29 v) (length (nameMapping all .encode (nameMappingOf b))) 0
   unfolding nothing
   name-mapping-length = either 29 v (λ h. rw (le-leb 29 v h)) (λ h. rw (lt-leb 29 v h))
 
-  front-length : length (front all .encode (piecesOf b .0)) ≡ frontNamesEnd b + (2 + listsLength v)
-  unfolding front _⨾_
+  front-length : length (front all .encode (piecesOf b .front)) ≡ frontNamesEnd b + (2 + listsLength v)
+  unfolding front iso _⨾_
   front-length =
       let n = nodes-done v (nodes v .encode (b .nodes)) (every-format (nodes v) .reads-back (b .nodes) nodes-there) .0 in
-      let e = opening .encode (piecesOf b .0 .0) in
-      let s = only (since 29 v) noMapping (nameMapping all) .encode (piecesOf b .0 .1 .0) in
+      let e = opening .encode (piecesOf b .front .opening) in
+      let s = only (since 29 v) noMapping (nameMapping all) .encode (piecesOf b .front .mapping) in
       omega (arith, length-append e (s ++ nodes v .encode (b .nodes)), length-append s (nodes v .encode (b .nodes)), name-mapping-length, n)
 
   module _ {t u : List ℕ} (clear : freeIn t ≡ all) {x : Read Fault (Unit {0})} (fs : FrontJudged t u (p .head) l (b .nodes) x) where
-    front-verdictOn : x ≡ verdictOn (front all) (piecesOf b .0)
-    front-verdictOn = fs .judged ∙ ap (λ (free : ℕ → Bool). verdictOn (front free) (piecesOf b .0)) clear
+    front-verdictOn : x ≡ verdictOn (front all) (piecesOf b .front)
+    front-verdictOn = fs .judged ∙ ap (λ (free : ℕ → Bool). verdictOn (front free) (piecesOf b .front)) clear
 
     pub judged-front : {e : Fault} {q : ℕ} → x ≡ refused e q → x ≡ ended (verdict all (block all .encode b))
-    unfolding steps
     judged-front y =
         y
         ∙ verdictOn-refused b steady
-        (judged-refused (front all) (λ f. rest all (f .0 .version)) (piecesOf b .0) (piecesOf b .1) front-steady (sym y ∙ front-verdictOn) ∙ block-verdictOn b steady)
+        (judged-refused (front all) (λ f. rest all (f .opening .version)) (piecesOf b .front) (piecesOf b .rest) front-steady (sym y ∙ front-verdictOn) ∙ steps-verdictOn ∙ block-verdictOn b steady)
 
     module _ {a : ℕ} (y : x ≡ done tt a) {w : List ℕ} {z : Read Fault (Unit {0})} (rs : RestJudged u w (p .head) l m o k z) where
       free-behind : v < 29 → all ≡ freeIn u
       free-behind h = sym (ap freeIn (fs .kept h) ∙ clear)
 
       whole : shift a (λ u. u) z ≡ verdictOn (block all) b
-      unfolding steps
       whole =
-          judged-on (front all) (λ f. rest all (f .0 .version)) (piecesOf b .0) (piecesOf b .1) front-steady (sym y ∙ front-verdictOn) (rs .judged all free-behind)
-          ∙ block-verdictOn b steady
+          judged-on (front all) (λ f. rest all (f .opening .version)) (piecesOf b .front) (piecesOf b .rest) front-steady (sym y ∙ front-verdictOn) (rs .judged all free-behind)
+          ∙ steps-verdictOn ∙ block-verdictOn b steady
 
       pub judged-rest : {e : Fault} {q : ℕ} {r : Read Fault (Unit {0})} → z ≡ refused e q → r ≡ shift a (λ u. u) z → r ≡ ended (verdict all (block all .encode b))
       judged-rest i j =
@@ -107,6 +110,6 @@ module _ (p : BlockParts) (l : List NameRow) (m : List MetadataRow) (o : List Ob
         pub judged-firstUnmapped : {j : ℕ} → some j ≡ firstUnmappedAmong v (p .param0) (p .param2) w
             → refused fault.IdUnmapped (a - listsLength v + width v * j) ≡ ended (verdict all (block all .encode b))
         judged-firstUnmapped {j} e =
-            let long : a ≡ length (front all .encode (piecesOf b .0)) = judged-length (front all) (λ f. rest all (f .0 .version)) (piecesOf b .0) (piecesOf b .1) front-steady (sym y ∙ front-verdictOn) in
+            let long : a ≡ length (front all .encode (piecesOf b .front)) = judged-length (front all) (λ f. rest all (f .opening .version)) (piecesOf b .front) (piecesOf b .rest) front-steady (sym y ∙ front-verdictOn) in
             let place : a - listsLength v + width v * j ≡ param0At b j = omega (arith, long, front-length) in
             ap (refused fault.IdUnmapped) place ∙ verdictOn-firstUnmapped b steady (ended-here ∙ whole) (firstUnmapped-is ∙ sym e)

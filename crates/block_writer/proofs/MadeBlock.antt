@@ -11,11 +11,11 @@ use borrow.Author.Tests.{le-leb, lt-leb}
 use Rattle.wire.specs.Bytes.{Bytes}
 use Rattle.wire.specs.Read.{mapRead, map-done}
 use Rattle.wire.specs.Format.{nothing, _⨾_, iso}
-use Rattle.wire.specs.Formats.{_▹_, listed, only}
-use Rattle.wire.proofs.Looser.{Looser, Settled, looser-self, looser-then, looser-cond, settled}
+use Rattle.wire.specs.Formats.{_▹_, listed, only, into}
+use Rattle.wire.proofs.Looser.{Looser, Settled, looser-self, looser-then, looser-iso, looser-cond, settled}
 use Rattle.mapblock.specs.Inventory.{Form}
-use Rattle.mapblock.specs.Data.{NameRow, MetadataRow, ObjectRow, TimerRow, Block, noMapping}
-use Rattle.mapblock.specs.Layout.{since, before, all, isVersion, objectRow, opening, nodes, objects, Front, Rest, front, rest, steps}
+use Rattle.mapblock.specs.Data.{NameRow, MetadataRow, ObjectRow, TimerRow, Front, Rest, Steps, Block, noMapping, frontShape, restShape, stepsShape}
+use Rattle.mapblock.specs.Layout.{since, before, all, isVersion, objectRow, opening, nodes, objects, front, rest, steps}
 use Rattle.mapblock.specs.Block.{block, blockFrom, piecesOf, built-pieces}
 use Rattle.mapblock.specs.declared.fault.Fault.the-variants as fault
 use Rattle.mapblock.specs.Valid.{NodesGood}
@@ -74,33 +74,40 @@ of-made p b m = rw (fits-plain p .1 (m .fitting), m .names .are, m .metadata .ar
 
 -- ---- the eight steps, with frames for rows
 abbrev pub frontFrame : Form Front
-frontFrame = opening ⨾ λ o. only (since 29 (o .version)) noMapping savedFrame ▹ nodes (o .version)
+frontFrame = into frontShape (opening ⨾ λ o. only (since 29 (o .version)) noMapping savedFrame ▹ nodes (o .version))
 
 abbrev pub restFrame : ℕ → Form Rest
-restFrame v = metadataListFrame v ▹ earlyFrame v ▹ objects ▹ only (before 29 v) noMapping savedFrame ▹ lateFrame v
+restFrame v = into restShape (metadataListFrame v ▹ earlyFrame v ▹ objects ▹ only (before 29 v) noMapping savedFrame ▹ lateFrame v)
 
-abbrev pub stepsFrame : Form (Front × Rest)
-stepsFrame = frontFrame ⨾ λ f. restFrame (f .0 .version)
+abbrev pub stepsFrame : Form Steps
+stepsFrame = into stepsShape (frontFrame ⨾ λ f. restFrame (f .opening .version))
 
 module _ (free : ℕ → Bool) where
   pub front-looser : Looser (front free) frontFrame
   unfolding front
   front-looser =
-      looser-then opening opening _ _ (looser-self opening)
-      (λ o. looser-both (looser-cond (since 29 (o .version)) (name-mapping-looser free) (looser-self _)) (looser-self (nodes (o .version))))
+      looser-iso _ _ _ _ _ _
+      (looser-then opening opening _ _ (looser-self opening)
+      (λ o. looser-both (looser-cond (since 29 (o .version)) (name-mapping-looser free) (looser-self _)) (looser-self (nodes (o .version)))))
+      _ _ _ _
 
   pub rest-looser : (v : ℕ) → Looser (rest free v) (restFrame v)
   unfolding rest
   rest-looser v =
-      looser-both (metadata-list-looser v)
+      looser-iso _ _ _ _ _ _
+      (looser-both (metadata-list-looser v)
       (looser-both (early-looser v)
       (looser-both (looser-self objects)
       (looser-both (looser-cond (before 29 v) (name-mapping-looser free) (looser-self _))
-      (late-looser v))))
+      (late-looser v)))))
+      _ _ _ _
 
   pub steps-looser : Looser (steps free) stepsFrame
   unfolding steps
-  steps-looser = looser-then (front free) frontFrame (λ f. rest free (f .0 .version)) (λ f. restFrame (f .0 .version)) front-looser (λ f. rest-looser (f .0 .version))
+  steps-looser =
+      looser-iso _ _ _ _ _ _
+      (looser-then (front free) frontFrame (λ f. rest free (f .opening .version)) (λ f. restFrame (f .opening .version)) front-looser (λ f. rest-looser (f .opening .version)))
+      _ _ _ _
 
 -- ---- the pieces of the block can be written, but for their values
 module _ (p : BlockParts) (b : Block) (held : WellTyped p) (version : isVersion (p .head .version) ≡ true) (m : MadeOf p b) where
@@ -135,7 +142,7 @@ module _ (p : BlockParts) (b : Block) (held : WellTyped p) (version : isVersion 
 
   -- ---- the block
   pub pieces-ok : stepsFrame .Ok (piecesOf b)
-  unfolding _⨾_
+  unfolding iso _⨾_
   pieces-ok = subst (λ (c : Block). stepsFrame .Ok (piecesOf c)) (m .same) (
     (opening-ok h (held .version) (held .flags) (held .lighting) version carry, (names-ok .0, nodes-ok v _ .1 nodes-good)),
     (

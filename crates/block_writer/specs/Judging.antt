@@ -8,7 +8,7 @@ use lib.ListN.{length, getD}
 use Rattle.wire.specs.Read.{Read, done}
 use Rattle.wire.specs.Formats.{_▹_, only}
 use Rattle.mapblock.specs.Inventory.{Form}
-use Rattle.mapblock.specs.Data.{NameRow, MetadataRow, ObjectRow, TimerRow, Opening, NameMapping, Timers, Nodes, noMapping, noTimers}
+use Rattle.mapblock.specs.Data.{NameRow, MetadataRow, ObjectRow, TimerRow, Opening, NameMapping, Timers, Nodes, Front, Rest, noMapping, noTimers}
 use Rattle.mapblock.specs.Layout.{since, before, width, unmapped, nameMapping, front, rest, lateTimers}
 use Rattle.mapblock.specs.Block.{contentId, firstFrom}
 use Rattle.mapblock.specs.Scan as scan
@@ -54,6 +54,12 @@ timersEarly h l = cond (since 25 (h .version)) noTimers (timersOn h l)
 abbrev pub timersLate : Head → List TimerRow → Timers
 timersLate h l = cond (since 25 (h .version)) (timersOn h l) noTimers
 
+abbrev pub frontOn : Head → List NameRow → Nodes → Front
+frontOn h l n = record { opening = openingOn h; mapping = mappingFront h l; nodes = n }
+
+abbrev pub restOn : Head → List NameRow → List MetadataRow → List ObjectRow → List TimerRow → Rest
+restOn h l m o k = record { metadata = m; early = timersEarly h k; objects = o; mapping = mappingBehind h l; late = timersLate h k }
+
 -- ---- names; the table t tells which ids are free, and u is the table after
 pub record MappingJudged (t u : List ℕ) (x : NameMapping) (r : Read Fault (Unit {0})) : Type 0 where
   pub judged : r ≡ verdictOn (nameMapping (freeIn t)) x
@@ -61,7 +67,7 @@ pub record MappingJudged (t u : List ℕ) (x : NameMapping) (r : Read Fault (Uni
 
 -- up to the end of the node data
 pub record FrontJudged (t u : List ℕ) (h : Head) (l : List NameRow) (n : Nodes) (r : Read Fault (Unit {0})) : Type 0 where
-  pub judged : r ≡ verdictOn (front (freeIn t)) (openingOn h, (mappingFront h l, n))
+  pub judged : r ≡ verdictOn (front (freeIn t)) (frontOn h l n)
   pub marks : (k : ℕ) → 29 ≤ h .version → r ≡ done tt k → Tabled 65536 (unmapped (freeIn t) l) u
   pub kept : h .version < 29 → u ≡ t
 
@@ -77,7 +83,7 @@ pub record EndingJudged (t u : List ℕ) (h : Head) (l : List NameRow) (k : List
 
 -- what follows the node data
 pub record RestJudged (t u : List ℕ) (h : Head) (l : List NameRow) (m : List MetadataRow) (o : List ObjectRow) (k : List TimerRow) (r : Read Fault (Unit {0})) : Type 0 where
-  pub judged : (free : ℕ → Bool) → (h .version < 29 → free ≡ freeIn t) → r ≡ verdictOn (rest free (h .version)) (m, (timersEarly h k, (o, (mappingBehind h l, timersLate h k))))
+  pub judged : (free : ℕ → Bool) → (h .version < 29 → free ≡ freeIn t) → r ≡ verdictOn (rest free (h .version)) (restOn h l m o k)
   pub marks : (n : ℕ) → h .version < 29 → r ≡ done tt n → Tabled 65536 (unmapped (freeIn t) l) u
   pub kept : 29 ≤ h .version → u ≡ t
 

@@ -9,11 +9,13 @@ use borrow.Author.Tests.{le-leb}
 use lib.ListN.{length, drop, length-drop}
 use lib.Seq.{drop-drop}
 use Rattle.wire.specs.Bytes.{Bytes, bytes-drop}
-use Rattle.wire.specs.Read.{done, refused, mapRead, map-done, map-refused}
+use Rattle.wire.specs.Read.{Read, done, refused, mapRead, map-done, map-refused}
+use Rattle.wire.specs.Format.{iso}
 use Rattle.wire.specs.Formats.{_▹_}
+use Rattle.mapblock.specs.Data.{MetadataRow, ObjectRow, Timers}
 use Rattle.mapblock.specs.Layout.{width, metadata, earlyTimers, objects, lateTimers}
 use Rattle.mapblock.specs.Params.{firstUnmappedIn, firstUnmappedOf}
-use Rattle.mapblock.specs.Scan.{middle, MiddleIs}
+use Rattle.mapblock.specs.Scan.{middleShape, middle, MiddleIs}
 use Rattle.mapblock.specs.Told.{ended, timerByte}
 use Rattle.mapblock.specs.declared.fault.Fault.{Fault}
 use Rattle.wire.proofs.Joints.{then-refused, then-done}
@@ -22,14 +24,18 @@ use Rattle.mapblock.proofs.ListLengths.{late-rows-length}
 
 -- ---- metadata, what follows it, static objects
 module _ (v : ℕ) (s : List ℕ) where
+  middle-reads : {r : Read Fault (List MetadataRow × (Timers × List ObjectRow))} → (metadata v ▹ earlyTimers v ▹ objects) .read s ≡ r → middle v .read s ≡ mapRead (middleShape .make) r
+  unfolding iso
+  middle-reads h = ap (mapRead (middleShape .make)) h
+
   pub middle-no-metadata : {f : Fault} {p : ℕ} → refused f p ≡ ended (metadata v .read s) → middle v .read s ≡ refused f p
-  middle-no-metadata h = then-refused (metadata v) (earlyTimers v ▹ objects) s (ended-refused (metadata v .read s) h)
+  middle-no-metadata h = middle-reads (then-refused (metadata v) (earlyTimers v ▹ objects) s (ended-refused (metadata v .read s) h))
 
   module _ {a : ℕ} (h : done tt a ≡ ended (metadata v .read s)) where
     pub middle-no-early : {f : Fault} {p : ℕ} → refused f p ≡ mapRead timerByte (earlyTimers v .read (drop a s)) → middle v .read s ≡ refused f (a + p)
     middle-no-early {f} {p} k =
-        then-done (metadata v) (earlyTimers v ▹ objects) s (ended-done (metadata v .read s) h .1)
-        (then-refused (earlyTimers v) objects (drop a s) (map-refused timerByte (earlyTimers v .read (drop a s)) f p (sym k)))
+        middle-reads (then-done (metadata v) (earlyTimers v ▹ objects) s (ended-done (metadata v .read s) h .1)
+        (then-refused (earlyTimers v) objects (drop a s) (map-refused timerByte (earlyTimers v .read (drop a s)) f p (sym k))))
 
     module _ {t e : ℕ} (k : done t e ≡ mapRead timerByte (earlyTimers v .read (drop a s))) where
       pub middle-no-objects : {f : Fault} {p : ℕ} → refused f p ≡ ended (objects .read (drop (a + e) s)) → middle v .read s ≡ refused f (a + e + p)
@@ -37,7 +43,7 @@ module _ (v : ℕ) (s : List ℕ) where
           let x = map-done timerByte (earlyTimers v .read (drop a s)) t e (sym k) in
           let q : objects .read (drop e (drop a s)) ≡ refused f p = ap (objects .read) (drop-drop e a s) ∙ ended-refused (objects .read (drop (a + e) s)) g in
           let z : a + (e + p) ≡ a + e + p = omega arith in
-          then-done (metadata v) (earlyTimers v ▹ objects) s (ended-done (metadata v .read s) h .1) (then-done (earlyTimers v) objects (drop a s) (x .1) q) ∙ ap (refused f) z
+          middle-reads (then-done (metadata v) (earlyTimers v ▹ objects) s (ended-done (metadata v .read s) h .1) (then-done (earlyTimers v) objects (drop a s) (x .1) q)) ∙ ap (refused f) z
 
       pub middle-done : {o : ℕ} → done tt o ≡ ended (objects .read (drop (a + e) s)) → Bytes s → MiddleIs v s (record { metadata = a; early = e; objects = o; timer = t })
       middle-done {o} g b =
@@ -46,8 +52,8 @@ module _ (v : ℕ) (s : List ℕ) where
           let y = ended-done (objects .read (drop (a + e) s)) g in
           let q : objects .read (drop e (drop a s)) ≡ done (y .0) o = ap (objects .read) (drop-drop e a s) ∙ y .1 in
           record {
-            x = (w .0, (x .0, y .0));
-            reads = then-done (metadata v) (earlyTimers v ▹ objects) s (w .1) (then-done (earlyTimers v) objects (drop a s) (x .1) q);
+            x = record { metadata = w .0; early = x .0; objects = y .0 };
+            reads = middle-reads (then-done (metadata v) (earlyTimers v ▹ objects) s (w .1) (then-done (earlyTimers v) objects (drop a s) (x .1) q));
             first = metadata v .backward s (w .0) a b (w .1) .ends;
             second = earlyTimers v .backward (drop a s) (x .0) e (bytes-drop a s b) (x .1) .ends;
             third = objects .backward (drop (a + e) s) (y .0) o (bytes-drop (a + e) s b) (y .1) .ends;

@@ -13,7 +13,7 @@ use Rattle.wire.specs.Read.{Read, done, refused, mapRead, reach, map-done, map-
 use Rattle.wire.specs.Format.{refine, nothing, _⨾_, iso, ends-in}
 use Rattle.mapblock.specs.Inventory.{Form}
 use Rattle.wire.specs.Walk.{rowsRead}
-use Rattle.mapblock.specs.Data.{Opening, NameMapping, Nodes, noMapping}
+use Rattle.mapblock.specs.Data.{Opening, NameMapping, Nodes, Front, noMapping}
 use Rattle.mapblock.specs.Layout.{isVersion, unused, width, opening, nameMapping, nodes, front}
 use Rattle.mapblock.specs.Params.{listsOf}
 use Rattle.mapblock.specs.Scan.{openingOn, openingIs, FrontIs, FrontTold}
@@ -70,33 +70,36 @@ pub nodes-two : (v : ℕ) (s : List ℕ) {n : ℕ} → done tt n ≡ ended (node
 nodes-two v s h = omega (arith, nodes-done v s (ended-done (nodes v .read s) h .1) .0)
 
 -- ---- the front, read
+abbrev pub frontOf : Opening → NameMapping → Nodes → Front
+frontOf o m n = record { opening = o; mapping = m; nodes = n }
+
 module _ (free : ℕ → Bool) (s : List ℕ) where
   pub front-refused : {e : Fault} {p : ℕ} → opening .read s ≡ refused e p → front free .read s ≡ refused e p
-  unfolding front _⨾_
+  unfolding front iso _⨾_
   front-refused h = rw h
 
   module _ {o : Opening} {at : ℕ} (h : opening .read s ≡ done o at) where
     module _ (l : o .version < 29) where
       plain-refused : {e : Fault} {p : ℕ} → nodes (o .version) .read (drop at s) ≡ refused e p → front free .read s ≡ refused e (at + p)
-      unfolding front _⨾_ nothing
+      unfolding front iso _⨾_ nothing
       plain-refused k = rw (h, lt-leb 29 (o .version) l, k, zero-add)
 
-      plain-done : {nd : Nodes} {n : ℕ} → nodes (o .version) .read (drop at s) ≡ done nd n → front free .read s ≡ done (o, (noMapping, nd)) (at + n)
-      unfolding front _⨾_ nothing
+      plain-done : {nd : Nodes} {n : ℕ} → nodes (o .version) .read (drop at s) ≡ done nd n → front free .read s ≡ done (frontOf o noMapping nd) (at + n)
+      unfolding front iso _⨾_ nothing
       plain-done k = rw (h, lt-leb 29 (o .version) l, k, zero-add)
 
     module _ (l : 29 ≤ o .version) where
       named-refused : {e : Fault} {p : ℕ} → nameMapping free .read (drop at s) ≡ refused e p → front free .read s ≡ refused e (at + p)
-      unfolding front _⨾_
+      unfolding front iso _⨾_
       named-refused k = rw (h, le-leb 29 (o .version) l, k)
 
       module _ {sv : NameMapping} {n : ℕ} (k : nameMapping free .read (drop at s) ≡ done sv n) where
         named-stopped : {e : Fault} {p : ℕ} → nodes (o .version) .read (drop (at + n) s) ≡ refused e p → front free .read s ≡ refused e (at + n + p)
-        unfolding front _⨾_
+        unfolding front iso _⨾_
         named-stopped g = rw (h, le-leb 29 (o .version) l, k, drop-drop n at s, g, add-assoc)
 
-        named-done : {nd : Nodes} {m : ℕ} → nodes (o .version) .read (drop (at + n) s) ≡ done nd m → front free .read s ≡ done (o, (sv, nd)) (at + n + m)
-        unfolding front _⨾_
+        named-done : {nd : Nodes} {m : ℕ} → nodes (o .version) .read (drop (at + n) s) ≡ done nd m → front free .read s ≡ done (frontOf o sv nd) (at + n + m)
+        unfolding front iso _⨾_
         named-done g = rw (h, le-leb 29 (o .version) l, k, drop-drop n at s, g, add-assoc)
 
 -- ---- the front before version 29, told; t is the table
@@ -111,7 +114,7 @@ module _ (t s : List ℕ) {o : OpeningFields} {at : ℕ} (h : opening .read s �
       let x = ended-done (nodes (o .version) .read (drop at s)) k in
       let y = nodes-done (o .version) (drop at s) (x .1) in
       record {
-        x = (openingIs o, (noMapping, x .0));
+        x = frontOf (openingIs o) noMapping (x .0);
         reads = plain-done (freeIn t) s h l (x .1);
         opened = refl;
         time = refl;
@@ -186,7 +189,7 @@ module _ {t u s : List ℕ} {o : OpeningFields} {at time count n : ℕ} (w : Nam
       let opens : at ≡ length (opening .encode o₁) = opening .backward s o₁ at b (w .opens) .ends in
       let eleven : 11 ≡ at + 7 = omega (arith, w .new, opening-length o₁ (omega (arith, w .new))) in
       record {
-        x = (o₁, (w .sv, x .0));
+        x = frontOf o₁ (w .sv) (x .0);
         reads = named-done (freeIn t) s (w .opens) (w .new) (w .reads) (x .1);
         opened = refl;
         time = w .times;

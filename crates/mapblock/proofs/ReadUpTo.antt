@@ -11,12 +11,12 @@ use Rattle.wire.specs.Read.{Read, done, refused, mapRead, shift}
 use Rattle.wire.specs.Format.{nothing, _⨾_, pair, iso}
 use Rattle.wire.specs.Formats.{_▹_, only}
 use Rattle.mapblock.specs.Inventory.{Form}
-use Rattle.mapblock.specs.Data.{Block, NameMapping, Timers, noMapping}
-use Rattle.mapblock.specs.Layout.{before, nameMapping, metadata, earlyTimers, objects, lateTimers, Front, front, Rest, rest, steps}
+use Rattle.mapblock.specs.Data.{Block, NameMapping, Timers, Front, Rest, Steps, noMapping, restShape, stepsShape}
+use Rattle.mapblock.specs.Layout.{before, nameMapping, metadata, earlyTimers, objects, lateTimers, front, rest, steps}
 use Rattle.mapblock.specs.Block.{block, blockFrom}
-use Rattle.mapblock.specs.Scan.{MiddleRows, middle}
+use Rattle.mapblock.specs.Scan.{MiddleRows, middleShape, middle}
 use Rattle.mapblock.specs.declared.fault.Fault.{Fault}
-use Rattle.mapblock.proofs.Verdicts.{Then, then-one, then-more, shift-twice, map-shift}
+use Rattle.mapblock.proofs.Verdicts.{Then, then-one, then-more, then-into, shift-twice, map-shift}
 
 -- ---- the reading
 -- what may stand behind the static objects
@@ -24,13 +24,17 @@ abbrev tail : (ℕ → Bool) → ℕ → Form (NameMapping × Timers)
 tail free v = only (before 29 v) noMapping (nameMapping free) ▹ lateTimers v
 
 abbrev joined : MiddleRows → NameMapping × Timers → Rest
-joined y z = (y .0, (y .1 .0, (y .1 .1, z)))
+joined y z = record { metadata = y .metadata; early = y .early; objects = y .objects; mapping = z .0; late = z .1 }
+
+abbrev whole : Front → Rest → Steps
+whole x y = record { front = x; rest = y }
 
 rest-then : (free : ℕ → Bool) (v : ℕ) → Then (middle v) (rest free v) (tail free v) joined
 unfolding rest
 rest-then free v =
-    then-more (metadata v) (earlyTimers v ▹ objects) (earlyTimers v ▹ objects ▹ tail free v) (tail free v) _
-    (then-more (earlyTimers v) objects (objects ▹ tail free v) (tail free v) pair (then-one objects (tail free v)))
+    then-into middleShape restShape _ _ (tail free v) _
+    (then-more (metadata v) (earlyTimers v ▹ objects) (earlyTimers v ▹ objects ▹ tail free v) (tail free v) _
+    (then-more (earlyTimers v) objects (objects ▹ tail free v) (tail free v) pair (then-one objects (tail free v))))
 
 module _ (free : ℕ → Bool) (s : List ℕ) where
   pub block-no-front : {e : Fault} {p : ℕ} → front free .read s ≡ refused e p → block free .read s ≡ refused e p
@@ -39,11 +43,11 @@ module _ (free : ℕ → Bool) (s : List ℕ) where
 
   module _ {x : Front} {e : ℕ} (h : front free .read s ≡ done x e) where
     abbrev v : ℕ
-    v = x .0 .version
+    v = x .opening .version
 
-    block-by : {r : Read Fault Rest} → rest free v .read (drop e s) ≡ r → block free .read s ≡ mapRead blockFrom (shift e (pair x) r)
+    block-by : {r : Read Fault Rest} → rest free v .read (drop e s) ≡ r → block free .read s ≡ mapRead blockFrom (shift e (whole x) r)
     unfolding block iso steps _⨾_
-    block-by k = rw (h, k)
+    block-by {r} k = rw (h, k) (ap (mapRead blockFrom) (map-shift e (stepsShape .make) (pair x) r))
 
     pub block-no-middle : {f : Fault} {p : ℕ} → middle v .read (drop e s) ≡ refused f p → block free .read s ≡ refused f (e + p)
     block-no-middle {f} {p} k = block-by (rest-then free v .fails (drop e s) f p k)
@@ -51,7 +55,7 @@ module _ (free : ℕ → Bool) (s : List ℕ) where
     module _ {y : MiddleRows} {n : ℕ} (g : middle v .read (drop e s) ≡ done y n) where
       -- the block with given timers at its end
       abbrev pub withLateTimers : NameMapping → Timers → Block
-      withLateTimers sv t = blockFrom (pair x (joined y (pair sv t)))
+      withLateTimers sv t = blockFrom (whole x (joined y (pair sv t)))
 
       tail-reads : {r : Read Fault (NameMapping × Timers)} → tail free v .read (drop (e + n) s) ≡ r → rest free v .read (drop e s) ≡ shift n (joined y) r
       tail-reads k = rest-then free v .goes (drop e s) y n g ∙ ap (shift n (joined y)) (ap (tail free v .read) (drop-drop n e s) ∙ k)
@@ -74,8 +78,8 @@ module _ (free : ℕ → Bool) (s : List ℕ) where
           let d : drop k (drop (e + n) s) ≡ drop at s = drop-drop k (e + n) s ∙ ap (λ (i : ℕ). drop i s) (sym z) in
           let a : tail free v .read (drop (e + n) s) ≡ shift k (pair sv) r = sym q ∙ ap (λ (l : List ℕ). shift k (pair sv) (lateTimers v .read l)) d in
           let i : e + (n + k) ≡ at = omega arith in
-          block-by (tail-reads a ∙ shift-twice n k (joined y) (pair sv) r) ∙ map-shift e blockFrom (pair x) (shift (n + k) (λ (t : Timers). joined y (pair sv t)) r)
-          ∙ shift-twice e (n + k) (λ (w : Rest). blockFrom (pair x w)) (λ (t : Timers). joined y (pair sv t)) r
+          block-by (tail-reads a ∙ shift-twice n k (joined y) (pair sv) r) ∙ map-shift e blockFrom (whole x) (shift (n + k) (λ (t : Timers). joined y (pair sv t)) r)
+          ∙ shift-twice e (n + k) (λ (w : Rest). blockFrom (whole x w)) (λ (t : Timers). joined y (pair sv t)) r
           ∙ ap (λ (j : ℕ). shift j (withLateTimers sv) r) i
 
       pub reads-new : (at : ℕ) → 29 ≤ v → at ≡ e + n → block free .read s ≡ shift at (withLateTimers noMapping) (lateTimers v .read (drop at s))

@@ -42,9 +42,9 @@ module _ (t u s : List ℕ) (w : FrontFields) (F : FrontIs t u s w) where
 
     pub sized : InReach (length s) → Sized w m
     sized l = record {
-      metadata = omega (arith, M .first, metadata-rows-length (w .version) (M .x .0));
+      metadata = omega (arith, M .first, metadata-rows-length (w .version) (M .x .metadata));
       early = early-fits t u s w F m M b;
-      objects = omega (arith, M .third, objects-rows-length (M .x .1 .1));
+      objects = omega (arith, M .third, objects-rows-length (M .x .objects));
       fits = omega (arith, middle-inside t u s w F m M b);
     }
 

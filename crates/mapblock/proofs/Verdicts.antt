@@ -10,9 +10,9 @@ use lib.ListN.{length, drop, length-drop}
 use lib.Seq.{drop-drop}
 use borrow.Author.Tests.{eq-eqb, ne-eqb}
 use Rattle.wire.specs.Bytes.{Bytes, bytes-drop}
-use Rattle.wire.specs.Read.{Read, done, refused, mapRead, shift, not-done, same-refusal, shift-done, shift-refused}
-use Rattle.wire.specs.Format.{_⨾_, pair, ends-in}
-use Rattle.wire.specs.Formats.{_▹_}
+use Rattle.wire.specs.Read.{Read, done, refused, mapRead, shift, not-done, same-refusal, map-done, map-refused, shift-done, shift-refused}
+use Rattle.wire.specs.Format.{_⨾_, iso, pair, ends-in}
+use Rattle.wire.specs.Formats.{Shape, into, _▹_}
 use Rattle.mapblock.specs.Inventory.{Form}
 use Rattle.mapblock.specs.Data.{Block, Timers}
 use Rattle.mapblock.specs.Layout.{width, lateTimers}
@@ -69,6 +69,19 @@ module _ {A B C D : Type 0} (H : Form D) (F : Form A) (G : Form B) (X : Form C) 
   pub then-more : Then (H ▹ F) (H ▹ G) X (λ x c. pair (x .0) (put (x .1) c))
   unfolding put-on
   then-more = record { fails = λ s e p h. more-fails s e p (H .read s) refl h; goes = λ s x m h. more-goes s x m (H .read s) refl h }
+
+-- the same of records
+module _ {A A' B B' C : Type 0} (K : Shape A A') (L : Shape B B') (F : Form A) (G : Form B) (X : Form C) (put : A → C → B) (t : Then F G X put) where
+  pub then-into : Then (into K F) (into L G) X (λ a c. L .make (put (K .parts a) c))
+  unfolding iso
+  then-into = record {
+    fails = λ s e p h. rw (t .fails s e p (map-refused (K .make) (F .read s) e p h));
+    goes = λ s a n h.
+        let x = map-done (K .make) (F .read s) a n h in
+        let same : x .0 ≡ K .parts a = sym (K .back (x .0)) ∙ ap (K .parts) (x .2) in
+        ap (mapRead (L .make)) (t .goes s (x .0) n (x .1)) ∙ map-shift n (L .make) (put (x .0)) (X .read (drop n s))
+        ∙ ap (λ (q : A). shift n (λ c. L .make (put q c)) (X .read (drop n s))) same;
+  }
 
 -- ---- the verdict by what the block's reading found
 module _ (free : ℕ → Bool) (s : List ℕ) where

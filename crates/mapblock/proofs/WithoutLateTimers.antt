@@ -8,14 +8,14 @@ use lib.Dec.{leb, eqb}
 use lib.ListN.{length, drop, length-append, length-drop}
 use borrow.Author.Tests.{le-leb, lt-leb, leb-true, leb-false}
 use Rattle.wire.specs.Bytes.{Bytes, bytes-drop}
-use Rattle.wire.specs.Read.{done}
-use Rattle.wire.specs.Format.{nothing, _⨾_, pair, encodeItems, ends-in}
+use Rattle.wire.specs.Read.{done, map-done}
+use Rattle.wire.specs.Format.{nothing, _⨾_, iso, encodeItems, ends-in}
 use Rattle.wire.specs.Formats.{only, _▹_}
-use Rattle.mapblock.specs.Data.{Opening, NameMapping, Timers, noMapping, noTimers}
-use Rattle.mapblock.specs.Layout.{since, all, unmapped, nameRow, metadataRow, objectRow, timerRow, opening, nameMapping, nodes, metadata, earlyTimers, objects, lateTimers, Front, front}
+use Rattle.mapblock.specs.Data.{Opening, NameMapping, Timers, Front, noMapping, noTimers}
+use Rattle.mapblock.specs.Layout.{since, all, unmapped, nameRow, metadataRow, objectRow, timerRow, opening, nameMapping, nodes, metadata, earlyTimers, objects, lateTimers, front}
 use Rattle.wire.specs.Ranges.{rangeAt}
 use Rattle.mapblock.specs.Sections.{sections, scannedOf}
-use Rattle.mapblock.specs.Scan.{FrontIs, MiddleIs, MiddleRows, middle, metadataHead, earlyHead, withoutLateTimers, withLateTimersAt, ReadUpTo}
+use Rattle.mapblock.specs.Scan.{FrontIs, MiddleIs, MiddleRows, middleShape, middle, metadataHead, earlyHead, withoutLateTimers, withLateTimersAt, ReadUpTo}
 use Rattle.mapblock.specs.Table.{freeIn, Tabled, NamesMarked}
 use Rattle.mapblock.specs.declared.head.Head.{Head}
 use Rattle.wire.specs.declared.ranges.Range.{Range}
@@ -23,7 +23,7 @@ use Rattle.mapblock.specs.declared.scan.FrontFields.{FrontFields}
 use Rattle.mapblock.specs.declared.scan.MiddleFields.{MiddleFields}
 use Rattle.mapblock.specs.declared.scan.Scanned.{Scanned}
 use Rattle.mapblock.proofs.ListLengths.{then-parts, name-mapping-same, name-mapping-length, name-mapping-rows-length, metadata-rows-length, objects-rows-length, AtEnd, early-none, early-length, early-rows, late-rows-length, late-byte}
-use Rattle.mapblock.proofs.Fronts.{opening-length}
+use Rattle.mapblock.proofs.Fronts.{opening-length, frontOf}
 use Rattle.mapblock.proofs.ReadUpTo.{withLateTimers, reads-new, reads-old}
 
 -- ---- equal field by field
@@ -56,10 +56,10 @@ module _ (t u s : List ℕ) (w : FrontFields) (F : FrontIs t u s w) where
 
   -- the front, with the fields that were told
   abbrev x : Front
-  x = pair o (F .x .1)
+  x = frontOf o (F .x .mapping) (F .x .nodes)
 
   pub front-read : front (freeIn t) .read s ≡ done x (w .end)
-  front-read = F .reads ∙ ap (λ (q : Opening). done (pair q (F .x .1)) (w .end)) (F .opened)
+  front-read = F .reads ∙ ap (λ (q : Opening). done (frontOf q (F .x .mapping) (F .x .nodes)) (w .end)) (F .opened)
 
   module _ (m : MiddleFields) (M : MiddleIs (w .version) (drop (w .end) s) m) (b : Bytes s) where
     abbrev y : MiddleRows
@@ -76,60 +76,63 @@ module _ (t u s : List ℕ) (w : FrontFields) (F : FrontIs t u s w) where
     A = length (opening .encode o)
 
     abbrev S : ℕ
-    S = length (nameMapping all .encode (x .1 .0))
+    S = length (nameMapping all .encode (x .mapping))
 
     abbrev N : ℕ
-    N = length (nodes v .encode (x .1 .1))
+    N = length (nodes v .encode (x .nodes))
 
     lists-at : w .lists ≡ A + cond (since 29 v) S 0 + 2
     lists-at = rw (F .opened) at (F .at)
 
-    only-same : (c : Bool) → length (only c noMapping (nameMapping (freeIn t)) .encode (x .1 .0)) ≡ cond c S 0
+    only-same : (c : Bool) → length (only c noMapping (nameMapping (freeIn t)) .encode (x .mapping)) ≡ cond c S 0
     unfolding nothing
-    only-same true = ap (length {A = ℕ}) (name-mapping-same (freeIn t) (x .1 .0))
+    only-same true = ap (length {A = ℕ}) (name-mapping-same (freeIn t) (x .mapping))
     only-same false = refl
 
     front-takes : w .end ≡ A + (cond (since 29 v) S 0 + N)
-    unfolding front _⨾_
+    unfolding front iso _⨾_
     front-takes = front (freeIn t) .backward s x (w .end) b front-read .ends ∙ rw (length-append, length-append, only-same (since 29 v))
 
     -- the early timers that were read
-    early-parts : (i : ℕ) × (j : ℕ) × (earlyTimers v .read (drop i (drop (w .end) s)) ≡ done (y .1 .0) j)
+    early-parts : (i : ℕ) × (j : ℕ) × (earlyTimers v .read (drop i (drop (w .end) s)) ≡ done (y .early) j)
+    unfolding iso
     early-parts =
-        let p = then-parts (metadata v) (λ _. earlyTimers v ▹ objects) (drop (w .end) s) (M .reads) in
-        let q = then-parts (earlyTimers v) (λ _. objects) (drop (p .0) (drop (w .end) s)) (p .3) in
-        (p .0, q .0, q .2)
+        let l = drop (w .end) s in
+        let r = map-done (middleShape .make) ((metadata v ▹ earlyTimers v ▹ objects) .read l) y _ (M .reads) in
+        let p = then-parts (metadata v) (λ _. earlyTimers v ▹ objects) l (r .1) in
+        let q = then-parts (earlyTimers v) (λ _. objects) (drop (p .0) l) (p .3) in
+        (p .0, q .0, q .2 ∙ ap (λ (z : MiddleRows). done (z .early) (q .0)) (r .2))
 
     timer-none : 25 ≤ v → m .timer ≡ 0
     timer-none h =
         let p = early-parts in
-        let z : done noTimers 0 ≡ done (y .1 .0) (p .1) = sym (early-none v _ h) ∙ p .2 in
-        let e : noTimers ≡ y .1 .0 = cc in
+        let z : done noTimers 0 ≡ done (y .early) (p .1) = sym (early-none v _ h) ∙ p .2 in
+        let e : noTimers ≡ y .early = cc in
         sym (M .timer) ∙ ap (λ (k : Timers). k .byte) (sym e)
 
     -- version 24's rows stand at the end of what follows the metadata
-    early-at-end : (length (encodeItems timerRow [] (y .1 .0 .rows)) ≡ m .early - earlyHead m) × (earlyHead m ≤ m .early)
+    early-at-end : (length (encodeItems timerRow [] (y .early .rows)) ≡ m .early - earlyHead m) × (earlyHead m ≤ m .early)
     early-at-end =
         let p = early-parts in
         let l = drop (p .0) (drop (w .end) s) in
         let c : Bytes l = bytes-drop (p .0) (drop (w .end) s) (bytes-drop (w .end) s b) in
         let j : p .1 ≡ m .early = early-length v l (p .2) c ∙ sym (M .second) in
-        let a : AtEnd (y .1 .0) (m .early) = rw j at (early-rows v l (p .2) c) in
-        subst (λ (q : ℕ). (length (encodeItems timerRow [] (y .1 .0 .rows)) ≡ m .early - cond (eqb q 1) 3 (m .early)) × (cond (eqb q 1) 3 (m .early) ≤ m .early)) (M .timer) a
+        let a : AtEnd (y .early) (m .early) = rw j at (early-rows v l (p .2) c) in
+        subst (λ (q : ℕ). (length (encodeItems timerRow [] (y .early .rows)) ≡ m .early - cond (eqb q 1) 3 (m .early)) × (cond (eqb q 1) 3 (m .early) ≤ m .early)) (M .timer) a
 
     pub early-fits : earlyHead m ≤ m .early
     early-fits = early-at-end .1
 
-    metadata-part : (at n : ℕ) → at ≡ w .end → n ≡ length (encodeItems (metadataRow v) [] (y .0))
-        → rangeAt (at + length (metadata v .encode (y .0)) - n) n ≡ rangeAt (w .end + metadataHead v) (m .metadata - metadataHead v)
+    metadata-part : (at n : ℕ) → at ≡ w .end → n ≡ length (encodeItems (metadataRow v) [] (y .metadata))
+        → rangeAt (at + length (metadata v .encode (y .metadata)) - n) n ≡ rangeAt (w .end + metadataHead v) (m .metadata - metadataHead v)
     metadata-part at n p q =
-        let l = metadata-rows-length v (y .0) in
+        let l = metadata-rows-length v (y .metadata) in
         part-is _ _ _ _ (omega (arith, M .first)) (omega (arith, M .first))
 
-    objects-part : (at n : ℕ) → at ≡ w .end + m .metadata + m .early → n ≡ length (encodeItems (λ _. objectRow) [] (y .1 .1))
-        → rangeAt (at + length (objects .encode (y .1 .1)) - n) n ≡ rangeAt (w .end + m .metadata + m .early + 3) (m .objects - 3)
+    objects-part : (at n : ℕ) → at ≡ w .end + m .metadata + m .early → n ≡ length (encodeItems (λ _. objectRow) [] (y .objects))
+        → rangeAt (at + length (objects .encode (y .objects)) - n) n ≡ rangeAt (w .end + m .metadata + m .early + 3) (m .objects - 3)
     objects-part at n p q =
-        let l = objects-rows-length (y .1 .1) in
+        let l = objects-rows-length (y .objects) in
         part-is _ _ _ _ (omega (arith, M .third)) (omega (arith, M .third))
 
     late-part : (at end n : ℕ) (k : Timers) → 25 ≤ v → lateTimers v .read (drop at s) ≡ done k n → end ≡ at
@@ -154,15 +157,15 @@ module _ (t u s : List ℕ) (w : FrontFields) (F : FrontIs t u s w) where
       end-new = rw (le-leb 29 v h) at front-takes
 
       pub names-room : 13 ≤ w .lists
-      names-room = omega (arith, lists-new, opens-four, name-mapping-rows-length (x .1 .0))
+      names-room = omega (arith, lists-new, opens-four, name-mapping-rows-length (x .mapping))
 
       shows-new : (k : Timers) (n : ℕ) → lateTimers v .read (drop middleEnd s) ≡ done k n
           → scannedOf (withLateTimers (freeIn t) s front-read (M .reads) noMapping k) ≡ withLateTimersAt scannedNew middleEnd n
       unfolding sections
       shows-new k n r =
           let h25 : 25 ≤ v = omega arith in
-          let rows = name-mapping-rows-length (x .1 .0) in
-          let none = early-empty v (y .1 .0) h25 in
+          let rows = name-mapping-rows-length (x .mapping) in
+          let none = early-empty v (y .early) h25 in
           rw (le-leb 29 v h, le-leb 25 v h25)
           (made-is _ _ _ _ _ _ _ _ _ _ _ _
           (head-is w _ _ _ _ (F .time) (late-byte v (drop middleEnd s) h25 r ∙ sym (timer-none h25)))
@@ -190,8 +193,8 @@ module _ (t u s : List ℕ) (w : FrontFields) (F : FrontIs t u s w) where
     -- ---- before version 29
     module _ (h : v < 29) where
       -- no names in front, so the table is as it was
-      no-front-names : F .x .1 .0 ≡ noMapping
-      unfolding front _⨾_ nothing
+      no-front-names : F .x .mapping ≡ noMapping
+      unfolding front iso _⨾_ nothing
       no-front-names = rw (lt-leb 29 v h) at (front (freeIn t) .backward s x (w .end) b front-read .ok .1 .0)
 
       pub same-table : u ≡ t
@@ -221,7 +224,7 @@ module _ (t u s : List ℕ) (w : FrontFields) (F : FrontIs t u s w) where
 
         -- the timers of version 24
         early-part : (at : ℕ) → v < 25 → at ≡ w .end + m .metadata
-            → rangeAt (at + length (earlyTimers v .encode (y .1 .0)) - length (encodeItems timerRow [] (y .1 .0 .rows))) (length (encodeItems timerRow [] (y .1 .0 .rows)))
+            → rangeAt (at + length (earlyTimers v .encode (y .early)) - length (encodeItems timerRow [] (y .early .rows))) (length (encodeItems timerRow [] (y .early .rows)))
             ≡ rangeAt (w .end + m .metadata + earlyHead m) (m .early - earlyHead m)
         early-part at l e =
             let c = early-at-end in
@@ -231,7 +234,7 @@ module _ (t u s : List ℕ) (w : FrontFields) (F : FrontIs t u s w) where
             → scannedOf (withLateTimers (freeIn t) s front-read (M .reads) sv k) ≡ withLateTimersAt scannedOld oldEnd i
         unfolding sections
         shows-late h25 k i q =
-            let none = early-empty v (y .1 .0) h25 in
+            let none = early-empty v (y .early) h25 in
             rw (lt-leb 29 v h, le-leb 25 v h25)
             (made-is _ _ _ _ _ _ _ _ _ _ _ _
             (head-is w _ _ _ _ refl (late-byte v (drop oldEnd s) h25 q ∙ sym (timer-none h25)))

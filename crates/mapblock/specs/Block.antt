@@ -10,23 +10,23 @@ use Rattle.wire.specs.Read.{Read, done, refused, bind}
 use Rattle.wire.specs.Format.{nothing, iso, _⨾_}
 use Rattle.wire.specs.Formats.{only}
 use Rattle.mapblock.specs.Inventory.{Form}
-use Rattle.mapblock.specs.Data.{Block, Opening, NameMapping, Timers, noMapping, noTimers}
-use Rattle.mapblock.specs.Layout.{since, all, unmapped, nameMapping, opening, front, rest, earlyTimers, lateTimers, Front, Rest, steps, width}
+use Rattle.mapblock.specs.Data.{Block, Opening, NameMapping, Timers, Steps, noMapping, noTimers}
+use Rattle.mapblock.specs.Layout.{since, all, unmapped, nameMapping, opening, front, rest, earlyTimers, lateTimers, steps, width}
 use Rattle.mapblock.specs.declared.fault.Fault.{Fault}
 use Rattle.mapblock.specs.declared.fault.Fault.the-variants as fault
 
 -- ---- a block from what stands in its bytes, and back; n: the names stand in front, t: the timers stand at the end
-abbrev pub built : Bool → Bool → Front × Rest → Block
+abbrev pub built : Bool → Bool → Steps → Block
 built n t x =
-    let o = x .0 .0 in
-    let s = cond n (x .0 .1 .0) (x .1 .1 .1 .1 .0) in
-    let k = cond t (x .1 .1 .1 .1 .1) (x .1 .1 .0) in
+    let o = x .front .opening in
+    let s = cond n (x .front .mapping) (x .rest .mapping) in
+    let k = cond t (x .rest .late) (x .rest .early) in
     record {
       head = record { version = o .version; flags = o .flags; lighting = o .lighting; timestamp = s .timestamp; timer = k .byte };
       names = s .names;
-      nodes = x .0 .1 .1;
-      metadata = x .1 .0;
-      objects = x .1 .1 .1 .0;
+      nodes = x .front .nodes;
+      metadata = x .rest .metadata;
+      objects = x .rest .objects;
       timers = k .rows;
     }
 
@@ -39,11 +39,17 @@ nameMappingOf b = record { timestamp = b .head .timestamp; names = b .names }
 abbrev pub timersOf : Block → Timers
 timersOf b = record { byte = b .head .timer; rows = b .timers }
 
-abbrev pub pieces : Bool → Bool → Block → Front × Rest
-pieces n t b = (
-  (openingOf b, (cond n (nameMappingOf b) noMapping, b .nodes)),
-  (b .metadata, (cond t noTimers (timersOf b), (b .objects, (cond n noMapping (nameMappingOf b), cond t (timersOf b) noTimers)))),
-)
+abbrev pub pieces : Bool → Bool → Block → Steps
+pieces n t b = record {
+  front = record { opening = openingOf b; mapping = cond n (nameMappingOf b) noMapping; nodes = b .nodes };
+  rest = record {
+    metadata = b .metadata;
+    early = cond t noTimers (timersOf b);
+    objects = b .objects;
+    mapping = cond n noMapping (nameMappingOf b);
+    late = cond t (timersOf b) noTimers;
+  };
+}
 
 pub built-pieces : (n t : Bool) (b : Block) → built n t (pieces n t b) ≡ b
 built-pieces true true b = refl
@@ -52,31 +58,34 @@ built-pieces false true b = refl
 built-pieces false false b = refl
 
 -- with other names and timers
-abbrev with4 : Front × Rest → NameMapping → Timers → NameMapping → Timers → Front × Rest
-with4 x a e s l = ((x .0 .0, (a, x .0 .1 .1)), (x .1 .0, (e, (x .1 .1 .1 .0, (s, l)))))
+abbrev with4 : Steps → NameMapping → Timers → NameMapping → Timers → Steps
+with4 x a e s l = record {
+  front = record { opening = x .front .opening; mapping = a; nodes = x .front .nodes };
+  rest = record { metadata = x .rest .metadata; early = e; objects = x .rest .objects; mapping = s; late = l };
+}
 
-slots : (n t : Bool) (x : Front × Rest) (f g : Form NameMapping) (e l : Form Timers)
-    → only n noMapping f .Ok (x .0 .1 .0) → only (not n) noMapping g .Ok (x .1 .1 .1 .1 .0)
-    → only (not t) noTimers e .Ok (x .1 .1 .0) → only t noTimers l .Ok (x .1 .1 .1 .1 .1) → pieces n t (built n t x) ≡ x
+slots : (n t : Bool) (x : Steps) (f g : Form NameMapping) (e l : Form Timers)
+    → only n noMapping f .Ok (x .front .mapping) → only (not n) noMapping g .Ok (x .rest .mapping)
+    → only (not t) noTimers e .Ok (x .rest .early) → only t noTimers l .Ok (x .rest .late) → pieces n t (built n t x) ≡ x
 unfolding nothing
-slots true true x f g e l h i j k = ap₂ (λ (e : Timers) (s : NameMapping). with4 x (x .0 .1 .0) e s (x .1 .1 .1 .1 .1)) (sym j) (sym i)
-slots true false x f g e l h i j k = ap₂ (λ (l : Timers) (s : NameMapping). with4 x (x .0 .1 .0) (x .1 .1 .0) s l) (sym k) (sym i)
-slots false true x f g e l h i j k = ap₂ (λ (e : Timers) (s : NameMapping). with4 x s e (x .1 .1 .1 .1 .0) (x .1 .1 .1 .1 .1)) (sym j) (sym h)
-slots false false x f g e l h i j k = ap₂ (λ (l : Timers) (s : NameMapping). with4 x s (x .1 .1 .0) (x .1 .1 .1 .1 .0) l) (sym k) (sym h)
+slots true true x f g e l h i j k = ap₂ (λ (e : Timers) (s : NameMapping). with4 x (x .front .mapping) e s (x .rest .late)) (sym j) (sym i)
+slots true false x f g e l h i j k = ap₂ (λ (l : Timers) (s : NameMapping). with4 x (x .front .mapping) (x .rest .early) s l) (sym k) (sym i)
+slots false true x f g e l h i j k = ap₂ (λ (e : Timers) (s : NameMapping). with4 x s e (x .rest .mapping) (x .rest .late)) (sym j) (sym h)
+slots false false x f g e l h i j k = ap₂ (λ (l : Timers) (s : NameMapping). with4 x s (x .rest .early) (x .rest .mapping) l) (sym k) (sym h)
 
 -- the names and the timers stand where the version has them
-abbrev pub blockFrom : Front × Rest → Block
-blockFrom x = built (since 29 (x .0 .0 .version)) (since 25 (x .0 .0 .version)) x
+abbrev pub blockFrom : Steps → Block
+blockFrom x = built (since 29 (x .front .opening .version)) (since 25 (x .front .opening .version)) x
 
-abbrev pub piecesOf : Block → Front × Rest
+abbrev pub piecesOf : Block → Steps
 piecesOf b = pieces (since 29 (b .head .version)) (since 25 (b .head .version)) b
 
 module _ (free : ℕ → Bool) where
-  pub pieces-built : (x : Front × Rest) → steps free .Ok x → piecesOf (blockFrom x) ≡ x
-  unfolding steps front rest earlyTimers lateTimers _⨾_
-  pieces-built x h =
-      slots (since 29 (x .0 .0 .version)) (since 25 (x .0 .0 .version)) x (nameMapping free) (nameMapping free) _ _
-      (h .0 .1 .0) (h .1 .1 .1 .1 .0) (h .1 .1 .0) (h .1 .1 .1 .1 .1)
+  pub pieces-built : (x : Steps) → steps free .Ok x → piecesOf (blockFrom x) ≡ x
+  unfolding steps front rest earlyTimers lateTimers iso _⨾_
+  pieces-built x ((_, (first, _)), (_, (early, (_, (second, late))))) =
+      let v = x .front .opening .version in
+      slots (since 29 v) (since 25 v) x (nameMapping free) (nameMapping free) _ _ first second early late
 
   unfoldable pub block : Form Block
   block =

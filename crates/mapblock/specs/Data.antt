@@ -68,6 +68,25 @@ pub record Timers : Type 0 where
   pub byte : ℕ
   pub rows : List TimerRow
 
+-- steps 1 to 4: up to the end of the node data
+pub record Front : Type 0 where
+  pub opening : Opening
+  pub mapping : NameMapping
+  pub nodes : Nodes
+
+-- steps 5 to 8
+pub record Rest : Type 0 where
+  pub metadata : List MetadataRow
+  pub early : Timers
+  pub objects : List ObjectRow
+  pub mapping : NameMapping
+  pub late : Timers
+
+-- the eight steps
+pub record Steps : Type 0 where
+  pub front : Front
+  pub rest : Rest
+
 -- where a version has none
 abbrev pub noMapping : NameMapping
 noMapping = record { timestamp = 0; names = [] }
@@ -132,3 +151,22 @@ nameMappingShape = record { make = λ x. record { timestamp = x .0; names = x .1
 
 abbrev pub timersShape : Shape (ℕ × List TimerRow) Timers
 timersShape = record { make = λ x. record { byte = x .0; rows = x .1 }; parts = λ r. (r .byte, r .rows); there = λ r. refl; back = λ x. refl }
+
+abbrev pub frontShape : Shape (Opening × (NameMapping × Nodes)) Front
+frontShape = record {
+  make = λ x. record { opening = x .0; mapping = x .1 .0; nodes = x .1 .1 };
+  parts = λ r. (r .opening, (r .mapping, r .nodes));
+  there = λ r. refl;
+  back = λ x. refl;
+}
+
+abbrev pub restShape : Shape (List MetadataRow × (Timers × (List ObjectRow × (NameMapping × Timers)))) Rest
+restShape = record {
+  make = λ x. record { metadata = x .0; early = x .1 .0; objects = x .1 .1 .0; mapping = x .1 .1 .1 .0; late = x .1 .1 .1 .1 };
+  parts = λ r. (r .metadata, (r .early, (r .objects, (r .mapping, r .late))));
+  there = λ r. refl;
+  back = λ x. refl;
+}
+
+abbrev pub stepsShape : Shape (Front × Rest) Steps
+stepsShape = record { make = λ x. record { front = x .0; rest = x .1 }; parts = λ r. (r .front, r .rest); there = λ r. refl; back = λ x. refl }

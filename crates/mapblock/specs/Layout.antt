@@ -7,7 +7,7 @@ use lib.Dec.{leb, eqb}
 use Rattle.wire.specs.Format.{nothing, refine, _⨾_}
 use Rattle.wire.specs.Formats.{_▹_, u8, u16, u32, s32, number, prefixed, listed, fixed, times, only, into}
 use Rattle.mapblock.specs.Inventory.{Form, inventory}
-use Rattle.mapblock.specs.Data.{NameRow, Variable, MetadataRow, ObjectRow, TimerRow, Nodes, Opening, NameMapping, Timers, noMapping, noTimers, nameShape, variableShape, metadataShape, objectShape, timerShape, nodeShape, openingShape, nameMappingShape, timersShape}
+use Rattle.mapblock.specs.Data.{NameRow, Variable, MetadataRow, ObjectRow, TimerRow, Nodes, Opening, NameMapping, Timers, Front, Rest, Steps, noMapping, noTimers, nameShape, variableShape, metadataShape, objectShape, timerShape, nodeShape, openingShape, nameMappingShape, timersShape, frontShape, restShape, stepsShape}
 use Rattle.mapblock.specs.declared.fault.Fault.the-variants as fault
 
 abbrev pub since : ℕ → ℕ → Bool
@@ -128,26 +128,20 @@ opening = into openingShape
     u8  --    flags
     ▹ only (since 27 v) 65535 u16)  --    lighting
 
--- up to the end of the node data
-abbrev pub Front : Type 0
-Front = Opening × (NameMapping × Nodes)
-
 unfoldable pub front : (ℕ → Bool) → Form Front
-front free = opening ⨾ λ o.
+front free = into frontShape
+    (opening ⨾ λ o.
     let v = o .version in
     only (since 29 v) noMapping (nameMapping free)  -- 2. timestamp and names
-    ▹ nodes v  -- 3. 4. widths, params
-
-abbrev pub Rest : Type 0
-Rest = List MetadataRow × (Timers × (List ObjectRow × (NameMapping × Timers)))
+    ▹ nodes v)  -- 3. 4. widths, params
 
 unfoldable pub rest : (ℕ → Bool) → ℕ → Form Rest
-rest free v =
-    metadata v  -- 5. metadata
+rest free v = into restShape
+    (metadata v  -- 5. metadata
     ▹ earlyTimers v  --    and what follows it
     ▹ objects  -- 6. static objects
     ▹ only (before 29 v) noMapping (nameMapping free)  -- 7. timestamp and names
-    ▹ lateTimers v  -- 8. timers
+    ▹ lateTimers v)  -- 8. timers
 
-unfoldable pub steps : (ℕ → Bool) → Form (Front × Rest)
-steps free = front free ⨾ λ f. rest free (f .0 .version)
+unfoldable pub steps : (ℕ → Bool) → Form Steps
+steps free = into stepsShape (front free ⨾ λ f. rest free (f .opening .version))

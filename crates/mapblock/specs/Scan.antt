@@ -1,15 +1,15 @@
 -- What the scan knows on its way: its own promises, between its functions.
 use Prim.Native.Nat.{ℕ, _+_, _-_, _*_, _≤_}
-use mathlib.Core.Path.{_≡_}
+use mathlib.Core.Path.{_≡_, refl}
 use mathlib.Core.List.{List}
 use mathlib.Core.Bool.{Bool, cond}
 use lib.Dec.{eqb}
 use lib.ListN.{length, drop}
 use Rattle.wire.specs.Read.{Read, done, refused, shift}
-use Rattle.wire.specs.Formats.{_▹_}
+use Rattle.wire.specs.Formats.{Shape, into, _▹_}
 use Rattle.mapblock.specs.Inventory.{Form}
-use Rattle.mapblock.specs.Data.{MetadataRow, ObjectRow, Opening, Timers, Block}
-use Rattle.mapblock.specs.Layout.{since, all, width, unmapped, opening, nameMapping, metadata, earlyTimers, objects, lateTimers, Front, front}
+use Rattle.mapblock.specs.Data.{MetadataRow, ObjectRow, Opening, Timers, Front, Block}
+use Rattle.mapblock.specs.Layout.{since, all, width, unmapped, opening, nameMapping, metadata, earlyTimers, objects, lateTimers, front}
 use Rattle.mapblock.specs.Block.{block}
 use Rattle.mapblock.specs.Params.{listsOf}
 use Rattle.wire.specs.Ranges.{rangeAt, InReach}
@@ -44,39 +44,49 @@ toldOpening (openings.Refused f p) = refused f p
 -- ---- up to the node data
 -- the bytes of a timestamp with its names, in front or not
 abbrev pub mappingLength : Bool → Front → ℕ
-mappingLength b x = cond b (length (nameMapping all .encode (x .1 .0))) 0
+mappingLength b x = cond b (length (nameMapping all .encode (x .mapping))) 0
 
 -- the front was read; t is the table before, and u after
 pub record FrontIs (t u s : List ℕ) (w : FrontFields) : Type 0 where
   pub x : Front
   pub reads : front (freeIn t) .read s ≡ done x (w .end)
-  pub opened : x .0 ≡ openingOn (w .version) (w .flags) (w .lighting)
-  pub time : x .1 .0 .timestamp ≡ w .timestamp
-  pub count : length (x .1 .0 .names) ≡ w .count
-  pub at : w .lists ≡ length (opening .encode (x .0)) + mappingLength (since 29 (w .version)) x + 2
-  pub nodes : x .1 .1 ≡ listsOf (width (w .version)) (drop (w .lists) s)
+  pub opened : x .opening ≡ openingOn (w .version) (w .flags) (w .lighting)
+  pub time : x .mapping .timestamp ≡ w .timestamp
+  pub count : length (x .mapping .names) ≡ w .count
+  pub at : w .lists ≡ length (opening .encode (x .opening)) + mappingLength (since 29 (w .version)) x + 2
+  pub nodes : x .nodes ≡ listsOf (width (w .version)) (drop (w .lists) s)
   pub ends : w .end ≡ w .lists + (4096 * width (w .version) + 8192)
-  pub marked : NamesMarked t u (x .1 .0 .names)
-  pub rows : frontRows (w .count) (drop 11 s) ≡ x .1 .0 .names
+  pub marked : NamesMarked t u (x .mapping .names)
+  pub rows : frontRows (w .count) (drop 11 s) ≡ x .mapping .names
 
 abbrev pub FrontTold : List ℕ → List ℕ → List ℕ → FrontRead → Type 0
 FrontTold t u s (fronts.Fields w) = FrontIs t u s w
 FrontTold t u s (fronts.Refused f p) = (front (freeIn t) .read s ≡ refused f p) × (u ≡ t)
 
 -- ---- metadata, what follows it, static objects
-abbrev pub MiddleRows : Type 0
-MiddleRows = List MetadataRow × (Timers × List ObjectRow)
+pub record MiddleRows : Type 0 where
+  pub metadata : List MetadataRow
+  pub early : Timers
+  pub objects : List ObjectRow
+
+abbrev pub middleShape : Shape (List MetadataRow × (Timers × List ObjectRow)) MiddleRows
+middleShape = record {
+  make = λ x. record { metadata = x .0; early = x .1 .0; objects = x .1 .1 };
+  parts = λ r. (r .metadata, (r .early, r .objects));
+  there = λ r. refl;
+  back = λ x. refl;
+}
 
 abbrev pub middle : ℕ → Form MiddleRows
-middle v = metadata v ▹ earlyTimers v ▹ objects
+middle v = into middleShape (metadata v ▹ earlyTimers v ▹ objects)
 
 pub record MiddleIs (v : ℕ) (s : List ℕ) (w : MiddleFields) : Type 0 where
   pub x : MiddleRows
   pub reads : middle v .read s ≡ done x (w .metadata + (w .early + w .objects))
-  pub first : w .metadata ≡ length (metadata v .encode (x .0))
-  pub second : w .early ≡ length (earlyTimers v .encode (x .1 .0))
-  pub third : w .objects ≡ length (objects .encode (x .1 .1))
-  pub timer : x .1 .0 .byte ≡ w .timer
+  pub first : w .metadata ≡ length (metadata v .encode (x .metadata))
+  pub second : w .early ≡ length (earlyTimers v .encode (x .early))
+  pub third : w .objects ≡ length (objects .encode (x .objects))
+  pub timer : x .early .byte ≡ w .timer
 
 abbrev pub MiddleTold : ℕ → List ℕ → MiddleRead → Type 0
 MiddleTold v s (middles.Lists w) = MiddleIs v s w
