@@ -1,7 +1,7 @@
 -- A table that is cleared by the rows of names that it was counted for.
 use Prim.Native.Nat.{ℕ, zero, suc, _-_, _≤_, _<_}
 use mathlib.Core.Path.{_≡_, refl, ap, sym, _∙_}
-use mathlib.Core.Bool.{Bool, true, false}
+use mathlib.Core.Bool.{Bool, true, false, _&&_}
 use mathlib.Core.List.{List, [], _∷_}
 use mathlib.Core.Logic.{_⊎_, inl, inr}
 use native.Mathlib.Omega.{arith}
@@ -23,7 +23,7 @@ use Rattle.mapblock.specs.Table.{unmarked, allRows}
 use Rattle.mapblock.specs.Valid.{Has}
 use Rattle.mapblock.specs.declared.names.NameFields.{NameFields}
 use Rattle.mapblock.proofs.NameWalks.{first-row}
-use Rattle.census.specs.CountsById.{inLotAt, inLotWith, CountsById, countById, rowId}
+use Rattle.census.specs.CountsById.{inLotAt, CountsById, countById, rowId}
 use Rattle.census.proofs.Counts.{countIf-none}
 use Rattle.census.proofs.CountsByName.{by-id-bound}
 
@@ -72,20 +72,21 @@ pub cleared-length : (t : List ℕ) (l : List NameRow) → length (unmarked t l)
 cleared-length t [] = refl
 cleared-length t (r ∷ l) = cleared-length (set t (r .id) 0) l ∙ length-set t (r .id) 0
 
--- ---- a table that was clear before it was counted in
+-- ---- counters that were clear before the nodes were counted
 module _ (v : ℕ) (s : List ℕ) (lot : Lot) (at : Coordinates) {old new : List ℕ} (c : CountsById v s lot at old new) (zeros : (k : ℕ) → getD old k 0 ≡ 0) where
   pub fresh : (k : ℕ) → k < 65536 → getD new k 0 ≡ countById (inLotAt lot at) (idIn v s) k
   fresh k h = omega (arith, c .each k h, zeros k, by-id-bound (inLotAt lot at) (idIn v s) k)
 
-  -- is clear again
-  pub clear-again : length old ≡ 65536 → (l : List NameRow) → ((i : ℕ) → i < 4096 → Has rowId (idIn v s i) l) → (k : ℕ) → getD (unmarked new l) k 0 ≡ 0
-  clear-again size l mapped = cleared new l λ k h. go k h (ltb k 65536) refl
+-- they are clear again, where every counted id is mapped
+module _ (q : ℕ → Bool) (ids : ℕ → ℕ) (t : List ℕ) (size : length t ≡ 65536) (counts : (k : ℕ) → k < 65536 → getD t k 0 ≡ countById q ids k) where
+  pub clear-again : (l : List NameRow) → ((i : ℕ) → i < 4096 → Has rowId (ids i) l) → (k : ℕ) → getD (unmarked t l) k 0 ≡ 0
+  clear-again l mapped = cleared t l λ k h. go k h (ltb k 65536) refl
     where
-      none : (k : ℕ) → (Has rowId k l → ⊥) → countById (inLotAt lot at) (idIn v s) k ≡ 0
+      none : (k : ℕ) → (Has rowId k l → ⊥) → countById q ids k ≡ 0
       none k h =
-          countIf-none (inLotWith v s lot at k) 0 4096
-          (λ i _ g. and-no (inLotAt lot at i) (eqb (idIn v s i) k) (inr (ne-eqb (idIn v s i) k (λ e. h (rw e at (mapped i (omega arith)))))))
+          countIf-none (λ i. q i && eqb (ids i) k) 0 4096
+          (λ i _ g. and-no (q i) (eqb (ids i) k) (inr (ne-eqb (ids i) k (λ e. h (rw e at (mapped i (omega arith)))))))
 
-      go : (k : ℕ) → (Has rowId k l → ⊥) → (b : Bool) → ltb k 65536 ≡ b → getD new k 0 ≡ 0
-      go k h true e = fresh k (ltb-true k 65536 e) ∙ none k h
-      go k h false e = let beyond : length new ≤ k = omega (arith, ltb-false k 65536 e, c .long) in List·getD-eq-default new 0 beyond
+      go : (k : ℕ) → (Has rowId k l → ⊥) → (b : Bool) → ltb k 65536 ≡ b → getD t k 0 ≡ 0
+      go k h true e = counts k (ltb-true k 65536 e) ∙ none k h
+      go k h false e = let beyond : length t ≤ k = omega (arith, ltb-false k 65536 e, size) in List·getD-eq-default t 0 beyond

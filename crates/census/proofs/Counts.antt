@@ -1,6 +1,6 @@
 -- Laws of counts of indices.
 use Prim.Native.Nat.{ℕ, zero, suc, _+_, _≤_, _<_}
-use mathlib.Core.Path.{_≡_, refl, ap}
+use mathlib.Core.Path.{_≡_, refl, ap, _∙_}
 use mathlib.Core.Bool.{Bool, true, false}
 use native.Mathlib.Nat.{add-zero, add-suc, add-assoc}
 use native.Mathlib.Numerals.{add-one}
@@ -44,3 +44,13 @@ pub countIf-all : (p : ℕ → Bool) (a n : ℕ) → ((i : ℕ) → a ≤ i → 
 unfolding countIf
 countIf-all p a zero e = refl
 countIf-all p a (suc n) e = omega (arith, countIf-all p a n (λ i h k. e i h (omega arith)), ap bit (e (a + n) (omega arith) (omega arith)))
+
+-- how many pass a test, from the first on
+pub countIf-front : (p : ℕ → Bool) (i n : ℕ) → countIf p i (suc n) ≡ bit (p i) + countIf p (suc i) n
+countIf-front p i n =
+    let one : suc n ≡ 1 + n = omega arith in
+    let next : i + 1 ≡ suc i = omega arith in
+    ap (countIf p i) one ∙ countIf-add p i 1 n ∙ rw (next, countIf-first) refl
+  where
+    countIf-first : countIf p i 1 ≡ bit (p i)
+    countIf-first = countIf-one p i 0 ∙ omega (arith, countIf-zero p i, ap (λ (j : ℕ). bit (p j)) (add-zero i))

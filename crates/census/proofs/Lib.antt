@@ -17,3 +17,7 @@ pub mod UsedWalk
 pub mod UsedRuns
 -- Sums over places.
 pub mod PlaceSums
+-- The census of a block that the scan took.
+pub mod ScannedBlock
+pub mod UsedCounts
+pub mod CensusTaken

@@ -34,6 +34,11 @@ used-none : (t : List ℕ) (at : ℕ) → usedIn t [] at ≡ []
 unfolding usedIn
 used-none t at = refl
 
+-- of counters that are clear no row is used
+pub unused-all : (t : List ℕ) → ((k : ℕ) → getD t k 0 ≡ 0) → (l : List NameRow) (at : ℕ) → usedIn t l at ≡ []
+unused-all t h [] at = used-none t at
+unused-all t h (r ∷ l) at = unused-row t r l at (h (r .id)) ∙ unused-all t h l (at + 4 + length (r .name))
+
 -- What is stored, W, and what is used of the rows that are left, is what is used of all of them.
 pub record Using (s t rest : List ℕ) (at : ℕ) (before after : List ℕ) (n : ℕ) : Type 0 where
   pub W : List ℕ

@@ -1,3 +1,5 @@
+-- The census of a block.
+pub mod Census
 -- The nodes of a block that lie in a lot, by content id and by name.
 pub mod CountsById
 -- Names by the places of their rows, and the rows of a tally that they make.

@@ -24,6 +24,7 @@ use Rattle.tally.specs.Rows.{Rows}
 use Rattle.tally.specs.Tally.{tally, headBytes, maxRows, ones, one}
 use Rattle.tally.specs.Walks.{rowsBytes}
 use Rattle.tally.proofs.Held.{tally-bytes, tally-size, head-size}
+use Rattle.census.proofs.ScannedBlock.{scanned-valid}
 use Rattle.running_tally.specs.RunningTally.{Held, Runs, Absorbed, none}
 use Rattle.running_tally.specs.declared.state.RunningTally.{RunningTally}
 use Rattle.running_tally.proofs.Absorbing.{runs-empty}
@@ -38,7 +39,6 @@ use Rattle.sheet.specs.Records.{ScannedAs}
 use Rattle.meter.specs.Adding.{Adds, Added, withBlock}
 use Rattle.meter.proofs.Amounts.{filterNodes-fewer, tally-fewer}
 use Rattle.meter.proofs.Blocks.{standing-number, rows-canonical}
-use Rattle.meter.proofs.AddedBlock.{found-valid}
 
 -- ---- the answer by cases
 module _ (d : List ℕ) (l : Rows ones) where
@@ -117,7 +117,7 @@ module _ {s : List ℕ} {w : Scanned} {b : Block} (p : Part) (at : Coordinates) 
   pub put-absorbed : (t : List ℕ) {t′ c₂ : List ℕ} {u r : RunningTally} → u ≡ none → ((R : Rows ones) → Adds s w clearTable t u b R → Added c₂ t t′ r R (withBlock p at b R)) → Absorbed t t′ r [] rows
   put-absorbed t {t′} {u = u} {r = r} e g =
       let start : Adds s w clearTable t u b [] = record { found = f; clear = refl; runs = subst (λ (v : RunningTally). Runs t v []) (sym e) (runs-empty t); totalFits = lit< tt; rowsFit = lit< tt } in
-      subst (Absorbed t t′ r []) (plus-unit ones rows (rows-canonical byOne p (placed at b ∷ []) (found-valid s w b y f, tt))) (g [] start .absorbed)
+      subst (Absorbed t t′ r []) (plus-unit ones rows (rows-canonical byOne p (placed at b ∷ []) (scanned-valid s y (f .taken) (f .shows), tt))) (g [] start .absorbed)
 
   pub put-few : length rows ≤ 4096
   put-few = omega (arith, tally-fewer byOne (nodesIn p (placed at b ∷ [])), filterNodes-fewer (inPart p) (standing (placed at b ∷ [])), standing-number (placed at b ∷ []))

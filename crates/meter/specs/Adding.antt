@@ -8,10 +8,8 @@ use Rattle.mapblock.specs.Data.{Block}
 use Rattle.mapblock.specs.declared.scan.Scanned.{Scanned}
 use Rattle.tally.specs.Rows.{Rows, plus}
 use Rattle.tally.specs.Tally.{ones}
-use Rattle.census.specs.NamePlaces.{countedNames}
-use Rattle.census.specs.NameOrder.{SortedFrom}
 use Rattle.census.specs.UsedNames.{totalCount}
-use Rattle.running_tally.specs.RunningTally.{countLimit, Runs, Absorbs, Absorbed}
+use Rattle.running_tally.specs.RunningTally.{countLimit, Runs, Absorbed}
 use Rattle.running_tally.specs.declared.state.RunningTally.{RunningTally}
 use Rattle.position.specs.declared.part.Part.{Part}
 use Rattle.meter.specs.Standing.{nodesIn}
@@ -19,16 +17,6 @@ use Rattle.meter.specs.Counting.{tallyOf, byOne}
 use Rattle.sheet.specs.Placed.{placed}
 use Rattle.mapblock.specs.Table.{clearTable}
 use Rattle.sheet.specs.Records.{ScannedAs}
-
--- the places may be added, once they are in order
-abbrev pub MayAdd : List ℕ → List ℕ → List ℕ → List ℕ → RunningTally → Rows ones → Type 0
-MayAdd s c places t w R = (ps : List ℕ) → SortedFrom s places ps → Absorbs s c ps t w R
-
--- they are in order, and were added
-pub record UsedAdded (s c places t t′ : List ℕ) (w : RunningTally) (R : Rows ones) : Type 0 where
-  pub ps : List ℕ
-  pub order : SortedFrom s places ps
-  pub absorbed : Absorbed t t′ w R (plus ones (countedNames s c ps) R)
 
 -- the block b, which the scan found in s, may be added to the rows R by clear counters
 pub record Adds (s : List ℕ) (w : Scanned) (counts t : List ℕ) (v : RunningTally) (b : Block) (R : Rows ones) : Type 0 where

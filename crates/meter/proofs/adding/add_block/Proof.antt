@@ -1,40 +1,30 @@
-use mathlib.Core.Path.{refl, ap, sym, _∙_}
-use borrow.Author.Tests.{not-true, not-false}
+use mathlib.Core.Path.{sym}
 use native.Mathlib.Omega.{arith}
-use Rattle.mapblock.specs.Table.{unmarked}
-use Rattle.mapblock.proofs.NameWalks.{all-run}
-use Rattle.census.proofs.UsedWalk.{used-places}
-use Rattle.meter.proofs.AddedBlock.{added-none, added-block}
+use lib.Seq.{length-take-le}
+use denote.Ref.{now}
+use Rattle.meter.proofs.AddedBlock.{added-block}
 use borrow.Author.Needs.{needs}
 use Rattle.meter.proofs.adding.add_block.Statement.{statement}
 use Rattle.meter.proofs.adding.add_block.Tie as tie
 
-has-requires : tie.Need-has-requires
-has-requires c κs = search needs
+-- where the census was taken, and where the function starts
+abbrev census : tie.After-clear → tie.After-take-census
+census c = c .before .before .before .before .before .before .before .before .before .before .before .before
 
-returns : tie.Need-returns
-returns c = (refl, λ b R a. added-none (c .before .before .before .before .before .before .args .part) (c .before .before .before .before .before .before .args .at) a (sym (c .before .has .ensures) ∙ not-true _ (c .if1 .taken)))
+abbrev entry : tie.After-take-census → tie.Start
+entry c = c .before .before .before .before .before .before
+
+take-census-requires : tie.Need-take-census-requires
+take-census-requires c κs = search needs
 
 slice-of-requires : tie.Need-slice-of-requires
 slice-of-requires c κs = search needs
 
-slice-of-requires-2 : tie.Need-slice-of-requires-2
-slice-of-requires-2 c κs = search needs
+slice-aggregate-absorb : tie.Need-slice-aggregate-absorb
+slice-aggregate-absorb c = let told = c .before .before .before .before .before .before .take-census .ensures in sym (length-take-le _ _ (omega (arith, told .0, told .1 .0)))
 
-count-in-requires : tie.Need-count-in-requires
-count-in-requires c κs = search needs
-
-used-requires : tie.Need-used-requires
-used-requires c κs = search needs
-
-sized-requires : tie.Need-sized-requires
-sized-requires c κs = search needs
-
-sized-requires-2 : tie.Need-sized-requires-2
-sized-requires-2 c κs = search needs
-
-add-used-requires : tie.Need-add-used-requires
-add-used-requires c κs = (omega (arith, c .before .before .before .before .before .before .sized .ensures, c .before .before .before .before .before .before .before .before .used .ensures .0), omega (arith, c .before .before .before .before .sized2 .ensures, c .before .before .before .before .before .before .before .before .used .ensures .0))
+absorb-requires : tie.Need-absorb-requires
+absorb-requires c κs = search needs
 
 clear-requires : tie.Need-clear-requires
 clear-requires c κs = search needs
@@ -42,22 +32,21 @@ clear-requires c κs = search needs
 same-length : tie.Need-same-length
 same-length c = search needs
 
-returns-2 : tie.Need-returns-2
-returns-2 c = (c .before .before .before .before .add-used .ensures .0, λ b R a. added-block (c .before .before .before .before .before .before .before .before .before .before .before .before .before .before .before .before .before .before .before .before .before .before .before .before .before .before .before .args .part) (c .before .before .before .before .before .before .before .before .before .before .before .before .before .before .before .before .before .before .before .before .before .before .before .before .before .before .before .args .at) (λ i. c .before .before .before .before .before .before .before .before .before .before .before .before .before .before .before .before .before .before .before .before .before .before .before .before .before .before .shared-slice-known .given i .fits) a (sym (c .before .before .before .before .before .before .before .before .before .before .before .before .before .before .before .before .before .before .before .before .before .before .has .ensures) ∙ not-false _ (c .before .before .before .before .before .before .before .before .before .before .before .before .before .before .before .before .before .before .before .before .before .if1 .left)) (c .before .before .before .before .before .before .before .before .before .before .before .before .before .before .before .before .before .before .before .slice-of .ensures .bytes) (c .before .before .before .before .before .before .before .before .before .before .before .before .before .before .before .before .before .before .slice-of2 .ensures .bytes) record { counts = c .before .before .before .before .before .before .before .before .before .before .before .before .before .before .before .before .count-in .ensures .0; uses = λ l r f. used-places _ _ r f (c .before .before .before .before .before .before .before .before .before .before .before .before .before .used .ensures .1); adds = c .before .before .before .before .add-used .ensures .1; clears = λ l r. c .clear .ensures ∙ ap (unmarked _) (all-run r) })
+returns : tie.Need-returns
+returns c =
+    let x = census c in
+    let a = entry x .args in
+    let told = x .take-census .ensures in
+    (c .before .before .before .before .absorb .ensures .0, λ b R may. added-block (now (a .block)) (a .part) (a .at) (λ i. x .before .before .before .before .before .shared-slice-known .given i .fits) may (c .before .before .before .before .before .before .before .before .before .before .slice-of .ensures .bytes) (told .1 .1 .1 b (may .found .end) (may .found .taken) (may .found .shows) (may .clear)) (c .before .before .before .before .absorb .ensures .1 R) (c .clear .ensures))
 
 pub add-block-spec : {M : Type 1} → statement M
 add-block-spec =
     tie.close
     (tie.spec
-    has-requires
-    returns
+    take-census-requires
     slice-of-requires
-    slice-of-requires-2
-    count-in-requires
-    used-requires
-    sized-requires
-    sized-requires-2
-    add-used-requires
+    slice-aggregate-absorb
+    absorb-requires
     clear-requires
     same-length
-    returns-2)
+    returns)

@@ -37,10 +37,10 @@ from-start-requires : tie.Need-from-start-requires
 from-start-requires c κs = search needs
 
 returns : tie.Need-returns
-returns c = let x = sheet-bad (c .before .before .before .before .before .before .args .part) (now (c .before .before .before .before .before .before .args .sheet)) (now (c .before .before .before .before .before .before .args .out)) _ (started (c .before .before) [] (c .enum-told .given .1)) in (x .0, (x .1, refl))
+returns c = let x = sheet-bad (c .before .before .before .before .before .before .args .part) (now (c .before .before .before .before .before .before .args .sheet)) (now (c .before .before .before .before .before .before .args .out)) _ (started (c .before .before) [] (c .enum-told .given .1)) in (x, refl)
 
 returns-2 : tie.Need-returns-2
-returns-2 c = let x = sheet-misfit (c .before .before .before .before .before .before .args .part) (now (c .before .before .before .before .before .before .args .sheet)) (now (c .before .before .before .before .before .before .args .out)) _ (started (c .before .before) [] (c .enum-told2 .given .1)) in (x .0, (x .1, refl))
+returns-2 c = let x = sheet-misfit (c .before .before .before .before .before .before .args .part) (now (c .before .before .before .before .before .before .args .sheet)) (now (c .before .before .before .before .before .before .args .out)) _ (started (c .before .before) [] (c .enum-told2 .given .1)) in (x, refl)
 
 same-length : tie.Need-same-length
 same-length c = search needs
@@ -50,7 +50,7 @@ same-length-2 c = search needs
 
 returns-3 : tie.Need-returns-3
 unfolding clearTable
-returns-3 c = let x = sheet-put (c .before .before .before .before .before .before .before .before .before .before .before .before .before .before .before .before .before .before .args .part) (now (c .before .before .before .before .before .before .before .before .before .before .before .before .before .before .before .before .before .before .args .sheet)) (now (c .before .before .before .before .before .before .before .before .before .before .before .before .before .before .before .before .before .before .args .out)) _ (c .before .before .before .before .from-start .result) (started (c .before .before .before .before .before .before .before .before .before .before .before .before .before .before) (now (c .before .before .before .before .before .before .before .before .before .before .before .before .before .before .before .before .before .before .args .spare)) (c .before .before .before .before .before .before .before .before .before .before .before .before .p .given .1)) (c .before .before .before .before .from-start .ensures .1 refl refl) in (x .0, (x .1, c .before .before .before .before .from-start .ensures .0))
+returns-3 c = let x = sheet-put (c .before .before .before .before .before .before .before .before .before .before .before .before .before .before .before .before .before .before .args .part) (now (c .before .before .before .before .before .before .before .before .before .before .before .before .before .before .before .before .before .before .args .sheet)) (now (c .before .before .before .before .before .before .before .before .before .before .before .before .before .before .before .before .before .before .args .out)) _ (c .before .before .before .before .from-start .result) (started (c .before .before .before .before .before .before .before .before .before .before .before .before .before .before) (now (c .before .before .before .before .before .before .before .before .before .before .before .before .before .before .before .before .before .before .args .spare)) (c .before .before .before .before .before .before .before .before .before .before .before .before .p .given .1)) (c .before .before .before .before .from-start .ensures .1 refl refl) in (x, c .before .before .before .before .from-start .ensures .0)
 
 pub tally-sheet-spec : {M : Type 1} → statement M
 tally-sheet-spec =
