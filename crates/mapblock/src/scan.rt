@@ -7,6 +7,7 @@ use crate::head::Sections;
 use crate::head::is_version;
 use crate::lists::EarlyRead;
 use crate::lists::LIST_HEAD_LENGTH;
+use crate::lists::OLD_METADATA_HEAD_LENGTH;
 use crate::lists::early_timers;
 use crate::lists::late_timers;
 use crate::lists::metadata_list;
@@ -18,6 +19,7 @@ use crate::names::sized;
 use crate::names::unmark;
 use crate::nodes::FirstUnmapped;
 use crate::nodes::IDS;
+use crate::nodes::WIDTHS_LENGTH;
 use crate::nodes::first_unmapped;
 use crate::nodes::node_data;
 use crate::nodes::width;
@@ -40,6 +42,19 @@ ghost use Rattle.mapblock.specs.Table.{freeIn};
 ghost use Rattle.mapblock.specs.Scan.{openingOn, openingIs, toldOpening, FrontTold, FrontIs, MiddleTold, MiddleIs, metadataHead, earlyHead, Sized, withoutLateTimers, withLateTimersAt, ReadUpTo, toldScan};
 
 // ---- the front: head, the names of version 29, node data
+// The places of step 1's fields. Before version 27 step 1 ends where the lighting would stand.
+const FLAGS_AT: usize = 1;
+
+const LIGHTING_AT: usize = 2;
+
+// The bytes of step 1 from version 27 on.
+const OPENING_LENGTH: usize = 4;
+
+// Version 29's timestamp and names stand between step 1 and the two widths, and their rows behind step 1 and the list's head.
+const BESIDE_NAMES_LENGTH: usize = OPENING_LENGTH + WIDTHS_LENGTH;
+
+const NAME_ROWS_AT: usize = OPENING_LENGTH + NAMES_HEAD_LENGTH;
+
 pub struct OpeningFields {
     pub version: u8,
     pub flags: u8,
@@ -87,21 +102,21 @@ fn opening(s: &[u8]) -> OpeningRead
             offset: 0,
         };
     }
-    let U8::Value(flags) = u8_at(s, 1) else {
+    let U8::Value(flags) = u8_at(s, FLAGS_AT) else {
         return OpeningRead::Refused {
             fault: Fault::Ends,
-            offset: 1,
+            offset: FLAGS_AT,
         };
     };
     if version < 27 {
-        return opened(version, flags, NO_LIGHTING, 2);
+        return opened(version, flags, NO_LIGHTING, LIGHTING_AT);
     }
-    match u16_at(s, 2) {
+    match u16_at(s, LIGHTING_AT) {
         U16::Ends => OpeningRead::Refused {
             fault: Fault::Ends,
-            offset: 2,
+            offset: LIGHTING_AT,
         },
-        U16::Value(lighting) => opened(version, flags, lighting, 4),
+        U16::Value(lighting) => opened(version, flags, lighting, OPENING_LENGTH),
     }
 }
 
@@ -138,7 +153,7 @@ fn plain_front(s: &[u8], o: OpeningFields, at: usize, ids: &[u8; IDS]) -> FrontR
             lighting: o.lighting,
             timestamp: 0,
             count: 0,
-            lists: at + 2,
+            lists: at + WIDTHS_LENGTH,
             end: at + n,
         }),
     }
@@ -172,7 +187,7 @@ fn named_front(s: &[u8], o: OpeningFields, at: usize, ids: &mut [u8; IDS]) -> Fr
                 lighting: o.lighting,
                 timestamp,
                 count,
-                lists: at + n + 2,
+                lists: at + n + WIDTHS_LENGTH,
                 end: at + n + m,
             }),
         },
@@ -268,7 +283,11 @@ fn rows_of(at: usize, head: usize, size: usize) -> Range
 pub fn metadata_head(version: u8) -> usize
     ensures { λ r. ⌜ r ≡ metadataHead version ⌝ }
 {
-    if version < 23 { 4 } else { LIST_HEAD_LENGTH }
+    if version < 23 {
+        OLD_METADATA_HEAD_LENGTH
+    } else {
+        LIST_HEAD_LENGTH
+    }
 }
 
 // What stands before version 24's timers: all of it where there are none.
@@ -413,8 +432,11 @@ fn behind_front(s: &[u8], w: FrontFields, ids: &mut [u8; IDS]) -> ScanRead
             if w.version < 29 {
                 return names_behind(s, w, m, ids);
             }
-            // Timestamp and names stand between the four bytes of step 1 and the two widths.
-            let names = rows_of(4, NAMES_HEAD_LENGTH, w.lists - 6);
+            let names = rows_of(
+                OPENING_LENGTH,
+                NAMES_HEAD_LENGTH,
+                w.lists - BESIDE_NAMES_LENGTH,
+            );
             let found = without_late_timers(w, m, w.timestamp, names);
             ending(s, found, end + m.metadata + m.early + m.objects, ids)
         }
@@ -430,8 +452,8 @@ pub fn scan(s: &[u8], ids: &mut [u8; IDS]) -> ScanRead
         FrontRead::Refused { fault, offset } => ScanRead::Refused { fault, offset },
         FrontRead::Fields(w) => {
             let r = behind_front(s, w, ids);
-            // Version 29's names: their rows stand behind step 1 and the list's head. Before it there are none here.
-            unmark(&s[11..], w.count, ids);
+            // Version 29's names are unmarked; before it there are none here.
+            unmark(&s[NAME_ROWS_AT..], w.count, ids);
             r
         }
     }
