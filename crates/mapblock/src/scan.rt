@@ -137,20 +137,20 @@ pub enum FrontRead {
 }
 
 // Before version 29: the node data at once.
-fn plain_front(s: &[u8], o: OpeningFields, at: usize, ids: &[u8; IDS]) -> FrontRead
-    requires { ⌜ (o .version < 29) × (opening .read (now s) ≡ done (openingIs o) at) ⌝ }
+fn plain_front(s: &[u8], fields: OpeningFields, at: usize, ids: &[u8; IDS]) -> FrontRead
+    requires { ⌜ (fields .version < 29) × (opening .read (now s) ≡ done (openingIs fields) at) ⌝ }
     ensures { λ r. ⌜ FrontTold (now (ids .entry)) (now (ids .entry)) (now (s .entry)) r ⌝ }
 {
     sized(ids);
-    match node_data(o.version, &s[at..]) {
+    match node_data(fields.version, &s[at..]) {
         Reach::Refused { fault, offset } => FrontRead::Refused {
             fault,
             offset: at + offset,
         },
         Reach::End(n) => FrontRead::Fields(FrontFields {
-            version: o.version,
-            flags: o.flags,
-            lighting: o.lighting,
+            version: fields.version,
+            flags: fields.flags,
+            lighting: fields.lighting,
             timestamp: 0,
             count: 0,
             lists: at + WIDTHS_LENGTH,
@@ -160,8 +160,8 @@ fn plain_front(s: &[u8], o: OpeningFields, at: usize, ids: &[u8; IDS]) -> FrontR
 }
 
 // In version 29: timestamp and names, then the node data. The names' ids stay marked, unless the front is refused.
-fn named_front(s: &[u8], o: OpeningFields, at: usize, ids: &mut [u8; IDS]) -> FrontRead
-    requires { ⌜ (29 ≤ o .version) × (opening .read (now s) ≡ done (openingIs o) at) ⌝ }
+fn named_front(s: &[u8], fields: OpeningFields, at: usize, ids: &mut [u8; IDS]) -> FrontRead
+    requires { ⌜ (29 ≤ fields .version) × (opening .read (now s) ≡ done (openingIs fields) at) ⌝ }
     ensures { λ r. ⌜ FrontTold (now (ids .entry)) (now (ids .exit)) (now (s .entry)) r ⌝ }
 {
     match name_mapping(&s[at..], ids) {
@@ -173,7 +173,7 @@ fn named_front(s: &[u8], o: OpeningFields, at: usize, ids: &mut [u8; IDS]) -> Fr
             timestamp,
             count,
             length: n,
-        } => match node_data(o.version, &s[at + n..]) {
+        } => match node_data(fields.version, &s[at + n..]) {
             Reach::Refused { fault, offset } => {
                 unmark(&s[at + NAMES_HEAD_LENGTH..], count, ids);
                 FrontRead::Refused {
@@ -182,9 +182,9 @@ fn named_front(s: &[u8], o: OpeningFields, at: usize, ids: &mut [u8; IDS]) -> Fr
                 }
             }
             Reach::End(m) => FrontRead::Fields(FrontFields {
-                version: o.version,
-                flags: o.flags,
-                lighting: o.lighting,
+                version: fields.version,
+                flags: fields.flags,
+                lighting: fields.lighting,
                 timestamp,
                 count,
                 lists: at + n + WIDTHS_LENGTH,
@@ -199,14 +199,11 @@ fn front(s: &[u8], ids: &mut [u8; IDS]) -> FrontRead
 {
     match opening(s) {
         OpeningRead::Refused { fault, offset } => FrontRead::Refused { fault, offset },
-        OpeningRead::Fields {
-            fields: o,
-            length: n,
-        } => {
-            if o.version < 29 {
-                plain_front(s, o, n, ids)
+        OpeningRead::Fields { fields, length: n } => {
+            if fields.version < 29 {
+                plain_front(s, fields, n, ids)
             } else {
-                named_front(s, o, n, ids)
+                named_front(s, fields, n, ids)
             }
         }
     }
@@ -291,57 +288,62 @@ pub fn metadata_head(version: u8) -> usize
 }
 
 // What stands before version 24's timers: all of it where there are none.
-fn early_head(m: MiddleFields) -> usize
-    ensures { λ r. ⌜ r ≡ earlyHead m ⌝ }
+fn early_head(middle: MiddleFields) -> usize
+    ensures { λ r. ⌜ r ≡ earlyHead middle ⌝ }
 {
-    if m.timer == 1 {
+    if middle.timer == 1 {
         LIST_HEAD_LENGTH
     } else {
-        m.early
+        middle.early
     }
 }
 
 // What is found before the late timers.
-fn without_late_timers(w: FrontFields, m: MiddleFields, timestamp: u32, names: Range) -> Scanned
-    requires { ⌜ Sized w m ⌝ }
-    ensures { λ r. ⌜ r ≡ withoutLateTimers w m timestamp names ⌝ }
+fn without_late_timers(
+    front: FrontFields,
+    middle: MiddleFields,
+    timestamp: u32,
+    names: Range,
+) -> Scanned
+    requires { ⌜ Sized front middle ⌝ }
+    ensures { λ r. ⌜ r ≡ withoutLateTimers front middle timestamp names ⌝ }
 {
-    let early = w.end + m.metadata;
+    let early = front.end + middle.metadata;
     Scanned {
         head: Head {
-            version: w.version,
-            flags: w.flags,
-            lighting: w.lighting,
+            version: front.version,
+            flags: front.flags,
+            lighting: front.lighting,
             timestamp,
-            timer: m.timer,
+            timer: middle.timer,
         },
-        lists: w.lists,
+        lists: front.lists,
         sections: Sections {
             names,
-            metadata: rows_of(w.end, metadata_head(w.version), m.metadata),
-            objects: rows_of(early + m.early, LIST_HEAD_LENGTH, m.objects),
-            timers: rows_of(early, early_head(m), m.early),
+            metadata: rows_of(front.end, metadata_head(front.version), middle.metadata),
+            objects: rows_of(early + middle.early, LIST_HEAD_LENGTH, middle.objects),
+            timers: rows_of(early, early_head(middle), middle.early),
         },
     }
 }
 
 // The same with the late timers, which are the n bytes from a place on.
-fn with_late_timers(w: Scanned, at: usize, n: usize) -> Scanned
-    requires { ⌜ (25 ≤ w .head .version → 3 ≤ n) × InReach (at + n) ⌝ }
-    ensures { λ r. ⌜ r ≡ withLateTimersAt w at n ⌝ }
+fn with_late_timers(scanned: Scanned, at: usize, n: usize) -> Scanned
+    requires { ⌜ (25 ≤ scanned .head .version → 3 ≤ n) × InReach (at + n) ⌝ }
+    ensures { λ r. ⌜ r ≡ withLateTimersAt scanned at n ⌝ }
 {
-    let head = w.head;
+    let head = scanned.head;
     if head.version < 25 {
-        return w;
+        return scanned;
     }
-    let before = w.sections;
+    let before = scanned.sections;
     let names = before.names;
     let metadata = before.metadata;
     let objects = before.objects;
     let timers = rows_of(at, LIST_HEAD_LENGTH, n);
     Scanned {
         head,
-        lists: w.lists,
+        lists: scanned.lists,
         sections: Sections {
             names,
             metadata,
@@ -352,14 +354,14 @@ fn with_late_timers(w: Scanned, at: usize, n: usize) -> Scanned
 }
 
 // The late timers, the end of the bytes, and that every id is mapped.
-fn ending(s: &[u8], w: Scanned, at: usize, ids: &[u8; IDS]) -> ScanRead
-    requires { ⌜ ((free : ℕ → Bool) × ReadUpTo free (now s) w at (now ids)) ⌝ }
-    ensures { λ r. ⌜ ((free : ℕ → Bool) → ReadUpTo free (now (s .entry)) w at (now (ids .entry)) → toldScan r
+fn ending(s: &[u8], scanned: Scanned, at: usize, ids: &[u8; IDS]) -> ScanRead
+    requires { ⌜ ((free : ℕ → Bool) × ReadUpTo free (now s) scanned at (now ids)) ⌝ }
+    ensures { λ r. ⌜ ((free : ℕ → Bool) → ReadUpTo free (now (s .entry)) scanned at (now (ids .entry)) → toldScan r
         ≡ mapRead scannedOf (verdict free (now (s .entry)))) ⌝ }
 {
-    let head = w.head;
+    let head = scanned.head;
     let version = head.version;
-    let lists = w.lists;
+    let lists = scanned.lists;
     match late_timers(version, &s[at..]) {
         Reach::Refused { fault, offset } => ScanRead::Refused {
             fault,
@@ -378,7 +380,7 @@ fn ending(s: &[u8], w: Scanned, at: usize, ids: &[u8; IDS]) -> ScanRead
                     offset: lists + width(version) * i,
                 },
                 FirstUnmapped::None => ScanRead::Taken {
-                    scanned: with_late_timers(w, at, n),
+                    scanned: with_late_timers(scanned, at, n),
                     length: at + n,
                 },
             }
@@ -387,15 +389,15 @@ fn ending(s: &[u8], w: Scanned, at: usize, ids: &[u8; IDS]) -> ScanRead
 }
 
 // Before version 29: timestamp and names behind the static objects, then the end.
-fn names_behind(s: &[u8], w: FrontFields, m: MiddleFields, ids: &mut [u8; IDS]) -> ScanRead
-    requires { ⌜ (w .version < 29) × ((t : List ℕ) × FrontIs t (now ids) (now s) w)
-        × MiddleIs (w .version) (drop (w .end) (now s)) m ⌝ }
+fn names_behind(s: &[u8], front: FrontFields, middle: MiddleFields, ids: &mut [u8; IDS]) -> ScanRead
+    requires { ⌜ (front .version < 29) × ((t : List ℕ) × FrontIs t (now ids) (now s) front)
+        × MiddleIs (front .version) (drop (front .end) (now s)) middle ⌝ }
     ensures told { λ r. ⌜
-        ((t : List ℕ) → FrontIs t (now (ids .entry)) (now (s .entry)) w → toldScan r
+        ((t : List ℕ) → FrontIs t (now (ids .entry)) (now (s .entry)) front → toldScan r
         ≡ mapRead scannedOf (verdict (freeIn t) (now (s .entry)))) ⌝ }
     ensures ids { λ _. ⌜ now (ids .exit) ≡ now (ids .entry) ⌝ }
 {
-    let at = w.end + m.metadata + m.early + m.objects;
+    let at = front.end + middle.metadata + middle.early + middle.objects;
     match name_mapping(&s[at..], ids) {
         NameMappingRead::Refused { fault, offset } => ScanRead::Refused {
             fault,
@@ -406,7 +408,12 @@ fn names_behind(s: &[u8], w: FrontFields, m: MiddleFields, ids: &mut [u8; IDS]) 
             count,
             length: n,
         } => {
-            let found = without_late_timers(w, m, timestamp, rows_of(at, NAMES_HEAD_LENGTH, n));
+            let found = without_late_timers(
+                front,
+                middle,
+                timestamp,
+                rows_of(at, NAMES_HEAD_LENGTH, n),
+            );
             let r = ending(s, found, at + n, ids);
             unmark(&s[at + NAMES_HEAD_LENGTH..], count, ids);
             r
@@ -415,30 +422,35 @@ fn names_behind(s: &[u8], w: FrontFields, m: MiddleFields, ids: &mut [u8; IDS]) 
 }
 
 // What follows the node data.
-fn behind_front(s: &[u8], w: FrontFields, ids: &mut [u8; IDS]) -> ScanRead
-    requires { ⌜ ((t : List ℕ) × FrontIs t (now ids) (now s) w) ⌝ }
+fn behind_front(s: &[u8], front: FrontFields, ids: &mut [u8; IDS]) -> ScanRead
+    requires { ⌜ ((t : List ℕ) × FrontIs t (now ids) (now s) front) ⌝ }
     ensures told { λ r. ⌜
-        ((t : List ℕ) → FrontIs t (now (ids .entry)) (now (s .entry)) w → toldScan r
+        ((t : List ℕ) → FrontIs t (now (ids .entry)) (now (s .entry)) front → toldScan r
         ≡ mapRead scannedOf (verdict (freeIn t) (now (s .entry)))) ⌝ }
     ensures ids { λ _. ⌜ now (ids .exit) ≡ now (ids .entry) ⌝ }
 {
-    let end = w.end;
-    match middle(w.version, &s[end..]) {
+    let end = front.end;
+    match middle(front.version, &s[end..]) {
         MiddleRead::Refused { fault, offset } => ScanRead::Refused {
             fault,
             offset: end + offset,
         },
-        MiddleRead::Lists(m) => {
-            if w.version < 29 {
-                return names_behind(s, w, m, ids);
+        MiddleRead::Lists(lists) => {
+            if front.version < 29 {
+                return names_behind(s, front, lists, ids);
             }
             let names = rows_of(
                 OPENING_LENGTH,
                 NAMES_HEAD_LENGTH,
-                w.lists - BESIDE_NAMES_LENGTH,
+                front.lists - BESIDE_NAMES_LENGTH,
             );
-            let found = without_late_timers(w, m, w.timestamp, names);
-            ending(s, found, end + m.metadata + m.early + m.objects, ids)
+            let found = without_late_timers(front, lists, front.timestamp, names);
+            ending(
+                s,
+                found,
+                end + lists.metadata + lists.early + lists.objects,
+                ids,
+            )
         }
     }
 }
@@ -450,10 +462,10 @@ pub fn scan(s: &[u8], ids: &mut [u8; IDS]) -> ScanRead
 {
     match front(s, ids) {
         FrontRead::Refused { fault, offset } => ScanRead::Refused { fault, offset },
-        FrontRead::Fields(w) => {
-            let r = behind_front(s, w, ids);
+        FrontRead::Fields(found) => {
+            let r = behind_front(s, found, ids);
             // Version 29's names are unmarked; before it there are none here.
-            unmark(&s[NAME_ROWS_AT..], w.count, ids);
+            unmark(&s[NAME_ROWS_AT..], found.count, ids);
             r
         }
     }
