@@ -96,11 +96,11 @@ noTimers = record { byte = 0; rows = [] }
 
 -- ---- the records, from and to nested pairs
 abbrev pub nameShape : Shape (ℕ × List ℕ) NameRow
-nameShape = record { make = λ x. record { id = x .0; name = x .1 }; parts = λ r. (r .id, r .name); there = λ r. refl; back = λ x. refl }
+nameShape = record { make = λ (id, name). record { id = id; name = name }; parts = λ r. (r .id, r .name); there = λ r. refl; back = λ x. refl }
 
 abbrev pub variableShape : Shape (List ℕ × (List ℕ × ℕ)) Variable
 variableShape = record {
-  make = λ x. record { key = x .0; value = x .1 .0; hidden = x .1 .1 };
+  make = λ (key, (value, hidden)). record { key = key; value = value; hidden = hidden };
   parts = λ r. (r .key, (r .value, r .hidden));
   there = λ r. refl;
   back = λ x. refl;
@@ -108,7 +108,8 @@ variableShape = record {
 
 abbrev pub metadataShape : Shape (ℕ × (ℕ × (List ℕ × (List Variable × List ℕ)))) MetadataRow
 metadataShape = record {
-  make = λ x. record { position = x .0; kind = x .1 .0; content = x .1 .1 .0; variables = x .1 .1 .1 .0; inventory = x .1 .1 .1 .1 };
+  make = λ (position, (kind, (content, (variables, inventory)))).
+      record { position = position; kind = kind; content = content; variables = variables; inventory = inventory };
   parts = λ r. (r .position, (r .kind, (r .content, (r .variables, r .inventory))));
   there = λ r. refl;
   back = λ x. refl;
@@ -116,7 +117,7 @@ metadataShape = record {
 
 abbrev pub objectShape : Shape (ℕ × (ℤ × (ℤ × (ℤ × List ℕ)))) ObjectRow
 objectShape = record {
-  make = λ x. record { kind = x .0; x = x .1 .0; y = x .1 .1 .0; z = x .1 .1 .1 .0; content = x .1 .1 .1 .1 };
+  make = λ (kind, (x, (y, (z, content)))). record { kind = kind; x = x; y = y; z = z; content = content };
   parts = λ r. (r .kind, (r .x, (r .y, (r .z, r .content))));
   there = λ r. refl;
   back = λ x. refl;
@@ -124,7 +125,7 @@ objectShape = record {
 
 abbrev pub timerShape : Shape (ℕ × (ℤ × ℤ)) TimerRow
 timerShape = record {
-  make = λ x. record { position = x .0; timeout = x .1 .0; elapsed = x .1 .1 };
+  make = λ (position, (timeout, elapsed)). record { position = position; timeout = timeout; elapsed = elapsed };
   parts = λ r. (r .position, (r .timeout, r .elapsed));
   there = λ r. refl;
   back = λ x. refl;
@@ -132,7 +133,7 @@ timerShape = record {
 
 abbrev pub nodeShape : Shape (List ℕ × (List ℕ × List ℕ)) Nodes
 nodeShape = record {
-  make = λ x. record { param0 = x .0; param1 = x .1 .0; param2 = x .1 .1 };
+  make = λ (param0, (param1, param2)). record { param0 = param0; param1 = param1; param2 = param2 };
   parts = λ r. (r .param0, (r .param1, r .param2));
   there = λ r. refl;
   back = λ x. refl;
@@ -140,21 +141,21 @@ nodeShape = record {
 
 abbrev pub openingShape : Shape (ℕ × (ℕ × ℕ)) Opening
 openingShape = record {
-  make = λ x. record { version = x .0; flags = x .1 .0; lighting = x .1 .1 };
+  make = λ (version, (flags, lighting)). record { version = version; flags = flags; lighting = lighting };
   parts = λ r. (r .version, (r .flags, r .lighting));
   there = λ r. refl;
   back = λ x. refl;
 }
 
 abbrev pub nameMappingShape : Shape (ℕ × List NameRow) NameMapping
-nameMappingShape = record { make = λ x. record { timestamp = x .0; names = x .1 }; parts = λ r. (r .timestamp, r .names); there = λ r. refl; back = λ x. refl }
+nameMappingShape = record { make = λ (timestamp, names). record { timestamp = timestamp; names = names }; parts = λ r. (r .timestamp, r .names); there = λ r. refl; back = λ x. refl }
 
 abbrev pub timersShape : Shape (ℕ × List TimerRow) Timers
-timersShape = record { make = λ x. record { byte = x .0; rows = x .1 }; parts = λ r. (r .byte, r .rows); there = λ r. refl; back = λ x. refl }
+timersShape = record { make = λ (byte, rows). record { byte = byte; rows = rows }; parts = λ r. (r .byte, r .rows); there = λ r. refl; back = λ x. refl }
 
 abbrev pub frontShape : Shape (Opening × (NameMapping × Nodes)) Front
 frontShape = record {
-  make = λ x. record { opening = x .0; mapping = x .1 .0; nodes = x .1 .1 };
+  make = λ (opening, (mapping, nodes)). record { opening = opening; mapping = mapping; nodes = nodes };
   parts = λ r. (r .opening, (r .mapping, r .nodes));
   there = λ r. refl;
   back = λ x. refl;
@@ -162,11 +163,12 @@ frontShape = record {
 
 abbrev pub restShape : Shape (List MetadataRow × (Timers × (List ObjectRow × (NameMapping × Timers)))) Rest
 restShape = record {
-  make = λ x. record { metadata = x .0; early = x .1 .0; objects = x .1 .1 .0; mapping = x .1 .1 .1 .0; late = x .1 .1 .1 .1 };
+  make = λ (metadata, (early, (objects, (mapping, late)))).
+      record { metadata = metadata; early = early; objects = objects; mapping = mapping; late = late };
   parts = λ r. (r .metadata, (r .early, (r .objects, (r .mapping, r .late))));
   there = λ r. refl;
   back = λ x. refl;
 }
 
 abbrev pub stepsShape : Shape (Front × Rest) Steps
-stepsShape = record { make = λ x. record { front = x .0; rest = x .1 }; parts = λ r. (r .front, r .rest); there = λ r. refl; back = λ x. refl }
+stepsShape = record { make = λ (front, rest). record { front = front; rest = rest }; parts = λ r. (r .front, r .rest); there = λ r. refl; back = λ x. refl }

@@ -71,7 +71,7 @@ pub record MiddleRows : Type 0 where
 
 abbrev pub middleShape : Shape (List MetadataRow × (Timers × List ObjectRow)) MiddleRows
 middleShape = record {
-  make = λ x. record { metadata = x .0; early = x .1 .0; objects = x .1 .1 };
+  make = λ (m, (e, o)). record { metadata = m; early = e; objects = o };
   parts = λ r. (r .metadata, (r .early, r .objects));
   there = λ r. refl;
   back = λ x. refl;

@@ -6,7 +6,13 @@ ghost use mathlib.Core.Path.{_≡_};
 ghost use Rattle.mapblock.specs.Inventory.{inventory};
 ghost use Rattle.mapblock.specs.Told.{toldReach, ended};
 
-// An inventory at the front of a part: through the first line that is exactly the end line.
+// The bytes of the end line `EndInventory`, with its newline.
+const END_LINE_LENGTH: usize = 13;
+
+// The byte that ends a line.
+const NEWLINE: u8 = 10;
+
+// Reads an inventory at the front of the bytes: it runs through the first line that is exactly the end line.
 pub fn inventory(s: &[u8]) -> Reach
     ensures { λ r. ⌜ toldReach r ≡ ended (inventory .read (now (s .entry))) ⌝ }
 {
@@ -15,10 +21,10 @@ pub fn inventory(s: &[u8]) -> Reach
     while p < s.len() {
         if fresh {
             if mark_at(s, p, b"EndInventory\n") {
-                return Reach::End(p + 13);
+                return Reach::End(p + END_LINE_LENGTH);
             }
         }
-        fresh = s[p] == 10;
+        fresh = s[p] == NEWLINE;
         p += 1;
     }
     Reach::Refused {

@@ -19,6 +19,11 @@ ghost use Rattle.mapblock.specs.Told.{toldReach, ended, toldEarly, timer
 // The bytes before the rows of such a list: a byte and a count.
 pub const LIST_HEAD_LENGTH: usize = 3;
 
+// In version 22's list of metadata the list version has two bytes.
+const OLD_LIST_VERSION_LENGTH: usize = 2;
+
+pub const OLD_METADATA_HEAD_LENGTH: usize = 4;
+
 // Behind a byte that is fixed, a count and so many rows.
 fn fixed_list(kind: ListKind, version: u8, s: &[u8], value: u8, fault: Fault) -> Reach
     ensures { λ r. ⌜ toldReach r
@@ -59,12 +64,12 @@ fn old_metadata(version: u8, s: &[u8]) -> Reach
             offset: 0,
         };
     }
-    match listed(ListKind::Metadata, version, &s[2..]) {
+    match listed(ListKind::Metadata, version, &s[OLD_LIST_VERSION_LENGTH..]) {
         Reach::Refused { fault, offset } => Reach::Refused {
             fault,
-            offset: 2 + offset,
+            offset: OLD_LIST_VERSION_LENGTH + offset,
         },
-        Reach::End(n) => Reach::End(2 + n),
+        Reach::End(n) => Reach::End(OLD_LIST_VERSION_LENGTH + n),
     }
 }
 

@@ -2,6 +2,7 @@
 use crate::fault::Fault;
 use crate::fault::Reach;
 use crate::inventory::inventory;
+use crate::positions::POSITION_LENGTH;
 use crate::positions::PositionRead;
 use crate::positions::position;
 use wire::fields::Run;
@@ -43,7 +44,13 @@ pub enum MetadataRead {
     Refused { fault: Fault, offset: usize },
 }
 
-// A variable's key and value at the front of a part.
+// A variable's key stands behind its length, a u16.
+const KEY_AT: usize = 2;
+
+// The bytes of a variable beside its key and its value: the lengths of both, a u16 and a u32.
+const KEY_AND_VALUE_LENGTHS: usize = 6;
+
+// Reads a variable's key and value at the front of the bytes.
 fn key_and_value(s: &[u8]) -> Reach
     ensures { λ r. ⌜ toldReach r ≡ ended ((prefixed {ends = Fault.Ends} 2 ▹ prefixed 4) .read (now (s .entry))) ⌝ }
 {
@@ -52,12 +59,12 @@ fn key_and_value(s: &[u8]) -> Reach
             fault: Fault::Ends,
             offset: p,
         },
-        Run::Bytes(k) => match run32_at(s, 2 + k) {
+        Run::Bytes(k) => match run32_at(s, KEY_AT + k) {
             Run::Ends(p) => Reach::Refused {
                 fault: Fault::Ends,
-                offset: 2 + k + p,
+                offset: KEY_AT + k + p,
             },
-            Run::Bytes(n) => Reach::End(6 + k + n),
+            Run::Bytes(n) => Reach::End(KEY_AND_VALUE_LENGTHS + k + n),
         },
     }
 }
@@ -117,29 +124,36 @@ fn variables(values: bool, version: u8, s: &[u8], count: u32) -> Reach
     Reach::End(at)
 }
 
-// Version 22's row behind its position: type and content.
+// Version 22's row: behind the position its type, a u16, and then its content with a u16 length in front.
+const KIND_AT: usize = POSITION_LENGTH;
+
+const CONTENT_LENGTH_AT: usize = 4;
+
+const CONTENT_AT: usize = 6;
+
+// Reads version 22's row behind its position: type and content.
 fn old_row(values: bool, version: u8, at: u16, s: &[u8]) -> MetadataRead
     requires { ⌜ (version < 23) × (positionFor values .read (now s) ≡ done at 2) ⌝ }
     ensures { λ r. ⌜ toldMetadata r
         ≡ mapRead (metadataFields version) (metadataRowFor values version .read (now (s .entry))) ⌝ }
 {
-    let U16::Value(kind) = u16_at(s, 2) else {
+    let U16::Value(kind) = u16_at(s, KIND_AT) else {
         return MetadataRead::Refused {
             fault: Fault::Ends,
-            offset: 2,
+            offset: KIND_AT,
         };
     };
-    match run16_at(s, 4) {
+    match run16_at(s, CONTENT_LENGTH_AT) {
         Run::Ends(p) => MetadataRead::Refused {
             fault: Fault::Ends,
-            offset: 4 + p,
+            offset: CONTENT_LENGTH_AT + p,
         },
         Run::Bytes(n) => {
             let fields = MetadataFields {
                 position: at,
                 kind,
                 content: Range {
-                    start: 6,
+                    start: CONTENT_AT,
                     length: n,
                 },
                 variables: 0,
@@ -148,33 +162,38 @@ fn old_row(values: bool, version: u8, at: u16, s: &[u8]) -> MetadataRead
             };
             MetadataRead::Row {
                 row: fields,
-                length: 6 + n,
+                length: CONTENT_AT + n,
             }
         }
     }
 }
 
-// The row from version 23 on, behind its position: variables and an inventory.
+// The row from version 23 on: behind the position the number of its variables, a u32, and then the variables.
+const COUNT_AT: usize = POSITION_LENGTH;
+
+const VARIABLES_AT: usize = 6;
+
+// Reads the row from version 23 on behind its position: variables and an inventory.
 fn new_row(values: bool, version: u8, at: u16, s: &[u8]) -> MetadataRead
     requires { ⌜ (23 ≤ version) × (positionFor values .read (now s) ≡ done at 2) ⌝ }
     ensures { λ r. ⌜ toldMetadata r
         ≡ mapRead (metadataFields version) (metadataRowFor values version .read (now (s .entry))) ⌝ }
 {
-    let U32::Value(count) = u32_at(s, 2) else {
+    let U32::Value(count) = u32_at(s, COUNT_AT) else {
         return MetadataRead::Refused {
             fault: Fault::Ends,
-            offset: 2,
+            offset: COUNT_AT,
         };
     };
-    match variables(values, version, &s[6..], count) {
+    match variables(values, version, &s[VARIABLES_AT..], count) {
         Reach::Refused { fault, offset } => MetadataRead::Refused {
             fault,
-            offset: 6 + offset,
+            offset: VARIABLES_AT + offset,
         },
-        Reach::End(n) => match inventory(&s[6 + n..]) {
+        Reach::End(n) => match inventory(&s[VARIABLES_AT + n..]) {
             Reach::Refused { fault, offset } => MetadataRead::Refused {
                 fault,
-                offset: 6 + n + offset,
+                offset: VARIABLES_AT + n + offset,
             },
             Reach::End(m) => {
                 let fields = MetadataFields {
@@ -183,17 +202,17 @@ fn new_row(values: bool, version: u8, at: u16, s: &[u8]) -> MetadataRead
                     content: NO_RANGE,
                     variables: count,
                     rows: Range {
-                        start: 6,
+                        start: VARIABLES_AT,
                         length: n,
                     },
                     inventory: Range {
-                        start: 6 + n,
+                        start: VARIABLES_AT + n,
                         length: m,
                     },
                 };
                 MetadataRead::Row {
                     row: fields,
-                    length: 6 + n + m,
+                    length: VARIABLES_AT + n + m,
                 }
             }
         },

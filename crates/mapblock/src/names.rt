@@ -36,7 +36,12 @@ pub enum NameRead {
     Refused { fault: Fault, offset: usize },
 }
 
-// The row at the front of a part, judged alone.
+// In a row the name's length, a u16, stands behind the id, and the name behind both.
+const NAME_LENGTH_AT: usize = 2;
+
+const NAME_AT: usize = 4;
+
+// Reads the row at the front of the bytes, judged alone.
 pub fn name_row(s: &[u8]) -> NameRead
     ensures { λ r. ⌜ toldName r ≡ mapRead nameFields (nameRow all [] .read (now (s .entry))) ⌝ }
 {
@@ -46,19 +51,19 @@ pub fn name_row(s: &[u8]) -> NameRead
             offset: 0,
         };
     };
-    match run16_at(s, 2) {
+    match run16_at(s, NAME_LENGTH_AT) {
         Run::Ends(p) => NameRead::Refused {
             fault: Fault::Ends,
-            offset: 2 + p,
+            offset: NAME_LENGTH_AT + p,
         },
         Run::Bytes(n) => {
             let name = Range {
-                start: 4,
+                start: NAME_AT,
                 length: n,
             };
             NameRead::Row {
                 row: NameFields { id, name },
-                length: 4 + n,
+                length: NAME_AT + n,
             }
         }
     }
@@ -149,8 +154,12 @@ pub fn name_rows(s: &[u8], count: u16, ids: &mut [u8; IDS]) -> Reach
     Reach::End(at)
 }
 
-// The bytes before the rows: timestamp, list version and count.
+// The bytes before the rows: timestamp, list version and count, and where the last two stand.
 pub const NAMES_HEAD_LENGTH: usize = 7;
+
+const LIST_VERSION_AT: usize = 4;
+
+const COUNT_AT: usize = 5;
 
 // Timestamp, number of rows, and where they end; or the fault and its place.
 pub enum NameMappingRead {
@@ -178,22 +187,22 @@ pub(crate) fn name_mapping(s: &[u8], ids: &mut [u8; IDS]) -> NameMappingRead
             offset: 0,
         };
     };
-    let U8::Value(zero) = u8_at(s, 4) else {
+    let U8::Value(zero) = u8_at(s, LIST_VERSION_AT) else {
         return NameMappingRead::Refused {
             fault: Fault::Ends,
-            offset: 4,
+            offset: LIST_VERSION_AT,
         };
     };
     if zero != 0 {
         return NameMappingRead::Refused {
             fault: Fault::MappingVersion,
-            offset: 4,
+            offset: LIST_VERSION_AT,
         };
     }
-    let U16::Value(count) = u16_at(s, 5) else {
+    let U16::Value(count) = u16_at(s, COUNT_AT) else {
         return NameMappingRead::Refused {
             fault: Fault::Ends,
-            offset: 5,
+            offset: COUNT_AT,
         };
     };
     match name_rows(&s[NAMES_HEAD_LENGTH..], count, ids) {

@@ -20,6 +20,14 @@ pub const NODES: usize = 4096;
 // How many content ids there are, of two bytes each.
 pub const IDS: usize = 65536;
 
+// The bytes of the two widths before the param lists: of content ids, and of param1 and param2 together.
+pub const WIDTHS_LENGTH: usize = 2;
+
+// The second width, and its place behind the first.
+const PARAMS_WIDTH: u8 = 2;
+
+const PARAMS_WIDTH_AT: usize = 1;
+
 // The bytes of a param0.
 pub fn width(version: u8) -> usize
     ensures { λ r. ⌜ r ≡ width version ⌝ }
@@ -63,24 +71,24 @@ pub(crate) fn node_data(version: u8, s: &[u8]) -> Reach
             offset: 0,
         };
     }
-    let U8::Value(two) = u8_at(s, 1) else {
+    let U8::Value(two) = u8_at(s, PARAMS_WIDTH_AT) else {
         return Reach::Refused {
             fault: Fault::Ends,
-            offset: 1,
+            offset: PARAMS_WIDTH_AT,
         };
     };
-    if two != 2 {
+    if two != PARAMS_WIDTH {
         return Reach::Refused {
             fault: Fault::ParamsWidth,
-            offset: 1,
+            offset: PARAMS_WIDTH_AT,
         };
     }
-    match params(version, &s[2..]) {
+    match params(version, &s[WIDTHS_LENGTH..]) {
         Reach::Refused { fault, offset } => Reach::Refused {
             fault,
-            offset: 2 + offset,
+            offset: WIDTHS_LENGTH + offset,
         },
-        Reach::End(n) => Reach::End(2 + n),
+        Reach::End(n) => Reach::End(WIDTHS_LENGTH + n),
     }
 }
 

@@ -28,7 +28,18 @@ pub enum ObjectRead {
     Refused { fault: Fault, offset: usize },
 }
 
-// The row at the front of a part.
+// In a row three coordinates stand behind the type, and behind them the content's length, a u16, and the content.
+const X_AT: usize = 1;
+
+const Y_AT: usize = 5;
+
+const Z_AT: usize = 9;
+
+const CONTENT_LENGTH_AT: usize = 13;
+
+const CONTENT_AT: usize = 15;
+
+// Reads the row at the front of the bytes.
 pub fn object_row(s: &[u8]) -> ObjectRead
     ensures { λ r. ⌜ toldObject r ≡ mapRead objectFields (objectRow .read (now (s .entry))) ⌝ }
 {
@@ -38,32 +49,32 @@ pub fn object_row(s: &[u8]) -> ObjectRead
             offset: 0,
         };
     };
-    let S32::Value(x) = s32_at(s, 1) else {
+    let S32::Value(x) = s32_at(s, X_AT) else {
         return ObjectRead::Refused {
             fault: Fault::Ends,
-            offset: 1,
+            offset: X_AT,
         };
     };
-    let S32::Value(y) = s32_at(s, 5) else {
+    let S32::Value(y) = s32_at(s, Y_AT) else {
         return ObjectRead::Refused {
             fault: Fault::Ends,
-            offset: 5,
+            offset: Y_AT,
         };
     };
-    let S32::Value(z) = s32_at(s, 9) else {
+    let S32::Value(z) = s32_at(s, Z_AT) else {
         return ObjectRead::Refused {
             fault: Fault::Ends,
-            offset: 9,
+            offset: Z_AT,
         };
     };
-    match run16_at(s, 13) {
+    match run16_at(s, CONTENT_LENGTH_AT) {
         Run::Ends(p) => ObjectRead::Refused {
             fault: Fault::Ends,
-            offset: 13 + p,
+            offset: CONTENT_LENGTH_AT + p,
         },
         Run::Bytes(n) => {
             let content = Range {
-                start: 15,
+                start: CONTENT_AT,
                 length: n,
             };
             ObjectRead::Row {
@@ -74,7 +85,7 @@ pub fn object_row(s: &[u8]) -> ObjectRead
                     z,
                     content,
                 },
-                length: 15 + n,
+                length: CONTENT_AT + n,
             }
         }
     }

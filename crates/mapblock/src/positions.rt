@@ -7,6 +7,12 @@ ghost use mathlib.Core.Path.{_≡_};
 ghost use Rattle.mapblock.specs.Layout.{position};
 ghost use Rattle.mapblock.specs.Told.{toldPosition, PositionMarked};
 
+// The bytes of a position.
+pub const POSITION_LENGTH: usize = 2;
+
+// The position of a block's last node.
+const LAST_POSITION: u16 = 4095;
+
 // A position is refused at its own place, the row's first byte.
 pub enum PositionRead {
     At(u16),
@@ -20,7 +26,7 @@ pub(crate) fn position(s: &[u8]) -> PositionRead
     match u16_at(s, 0) {
         U16::Ends => PositionRead::Refused(Fault::Ends),
         U16::Value(p) => {
-            if 4095 < p {
+            if LAST_POSITION < p {
                 PositionRead::Refused(Fault::PositionAbove)
             } else {
                 PositionRead::At(p)

@@ -35,37 +35,37 @@ pub enum NameRowAnswer {
 }
 
 // The front row of a part of names, judged alone.
-pub fn name_row_of(part: &[u8]) -> NameRowAnswer
-    ensures { λ r. ⌜ toldNameRow r ≡ nameRowOf (now (part .entry)) ⌝ }
+pub fn name_row_of(rows: &[u8]) -> NameRowAnswer
+    ensures { λ r. ⌜ toldNameRow r ≡ nameRowOf (now (rows .entry)) ⌝ }
 {
-    if part.len() == 0 {
+    if rows.len() == 0 {
         return NameRowAnswer::NoSuchRow;
     }
-    match name_row(part) {
+    match name_row(rows) {
         NameRead::Row { row, length: n } => NameRowAnswer::Row { row, length: n },
         NameRead::Refused { fault, offset } => NameRowAnswer::Refused { fault, offset },
     }
 }
 
 // The name in the front row.
-pub fn name_of(part: &[u8]) -> &[u8]
-    ensures { λ r. ⌜ IsSlice (part .entry)
-        (rangeTold (λ (x : NameFields × ℕ). x .0 .name) (nameRowOf (now (part .entry)))) r ⌝ }
+pub fn name_of(rows: &[u8]) -> &[u8]
+    ensures { λ r. ⌜ IsSlice (rows .entry)
+        (rangeTold (λ (x : NameFields × ℕ). x .0 .name) (nameRowOf (now (rows .entry)))) r ⌝ }
 {
-    match name_row_of(part) {
-        NameRowAnswer::Row { row, length: _ } => slice_of(part, row.name),
-        _ => &part[..0],
+    match name_row_of(rows) {
+        NameRowAnswer::Row { row, length: _ } => slice_of(rows, row.name),
+        _ => &rows[..0],
     }
 }
 
 // What remains behind it.
-pub fn behind_name_row(part: &[u8]) -> &[u8]
-    ensures told { λ r. ⌜ now r ≡ rowsBehind (now (part .entry)) (nameRowOf (now (part .entry))) ⌝ }
-    ensures place { λ r. ⌜ ptr r ≡ placeIn (part .entry) (startTold (λ x. x .1) (nameRowOf (now (part .entry)))) ⌝ }
+pub fn behind_name_row(rows: &[u8]) -> &[u8]
+    ensures told { λ r. ⌜ now r ≡ rowsBehind (now (rows .entry)) (nameRowOf (now (rows .entry))) ⌝ }
+    ensures place { λ r. ⌜ ptr r ≡ placeIn (rows .entry) (startTold (λ x. x .1) (nameRowOf (now (rows .entry)))) ⌝ }
 {
-    match name_row_of(part) {
-        NameRowAnswer::Row { row: _, length: n } => &part[n..],
-        _ => &part[..0],
+    match name_row_of(rows) {
+        NameRowAnswer::Row { row: _, length: n } => &rows[n..],
+        _ => &rows[..0],
     }
 }
 
@@ -77,8 +77,8 @@ pub enum MetadataRowAnswer {
 }
 
 // The front row of a part of metadata, judged alone; how a row is laid out depends on the version.
-pub fn metadata_row_of(version: u8, part: &[u8]) -> MetadataRowAnswer
-    ensures { λ r. ⌜ toldMetadataRow r ≡ metadataRowOf version (now (part .entry)) ⌝ }
+pub fn metadata_row_of(version: u8, rows: &[u8]) -> MetadataRowAnswer
+    ensures { λ r. ⌜ toldMetadataRow r ≡ metadataRowOf version (now (rows .entry)) ⌝ }
 {
     if !is_version(version) {
         return MetadataRowAnswer::Refused {
@@ -86,57 +86,57 @@ pub fn metadata_row_of(version: u8, part: &[u8]) -> MetadataRowAnswer
             offset: 0,
         };
     }
-    if part.len() == 0 {
+    if rows.len() == 0 {
         return MetadataRowAnswer::NoSuchRow;
     }
-    match metadata_row(version, part) {
+    match metadata_row(version, rows) {
         MetadataRead::Row { row, length: n } => MetadataRowAnswer::Row { row, length: n },
         MetadataRead::Refused { fault, offset } => MetadataRowAnswer::Refused { fault, offset },
     }
 }
 
 // The content in the front row; from version 23 on it is empty.
-pub fn metadata_content_of(version: u8, part: &[u8]) -> &[u8]
-    ensures { λ r. ⌜ IsSlice (part .entry)
-        (rangeTold (λ (x : MetadataFields × ℕ). x .0 .content) (metadataRowOf version (now (part .entry)))) r ⌝ }
+pub fn metadata_content_of(version: u8, rows: &[u8]) -> &[u8]
+    ensures { λ r. ⌜ IsSlice (rows .entry)
+        (rangeTold (λ (x : MetadataFields × ℕ). x .0 .content) (metadataRowOf version (now (rows .entry)))) r ⌝ }
 {
-    match metadata_row_of(version, part) {
-        MetadataRowAnswer::Row { row, length: _ } => slice_of(part, row.content),
-        _ => &part[..0],
+    match metadata_row_of(version, rows) {
+        MetadataRowAnswer::Row { row, length: _ } => slice_of(rows, row.content),
+        _ => &rows[..0],
     }
 }
 
 // The variables in the front row; in version 22 they are empty.
-pub fn metadata_variables_of(version: u8, part: &[u8]) -> &[u8]
-    ensures { λ r. ⌜ IsSlice (part .entry)
-        (rangeTold (λ (x : MetadataFields × ℕ). x .0 .rows) (metadataRowOf version (now (part .entry)))) r ⌝ }
+pub fn metadata_variables_of(version: u8, rows: &[u8]) -> &[u8]
+    ensures { λ r. ⌜ IsSlice (rows .entry)
+        (rangeTold (λ (x : MetadataFields × ℕ). x .0 .rows) (metadataRowOf version (now (rows .entry)))) r ⌝ }
 {
-    match metadata_row_of(version, part) {
-        MetadataRowAnswer::Row { row, length: _ } => slice_of(part, row.rows),
-        _ => &part[..0],
+    match metadata_row_of(version, rows) {
+        MetadataRowAnswer::Row { row, length: _ } => slice_of(rows, row.rows),
+        _ => &rows[..0],
     }
 }
 
 // The inventory in the front row; in version 22 it is empty.
-pub fn metadata_inventory_of(version: u8, part: &[u8]) -> &[u8]
-    ensures { λ r. ⌜ IsSlice (part .entry)
-        (rangeTold (λ (x : MetadataFields × ℕ). x .0 .inventory) (metadataRowOf version (now (part .entry)))) r ⌝ }
+pub fn metadata_inventory_of(version: u8, rows: &[u8]) -> &[u8]
+    ensures { λ r. ⌜ IsSlice (rows .entry)
+        (rangeTold (λ (x : MetadataFields × ℕ). x .0 .inventory) (metadataRowOf version (now (rows .entry)))) r ⌝ }
 {
-    match metadata_row_of(version, part) {
-        MetadataRowAnswer::Row { row, length: _ } => slice_of(part, row.inventory),
-        _ => &part[..0],
+    match metadata_row_of(version, rows) {
+        MetadataRowAnswer::Row { row, length: _ } => slice_of(rows, row.inventory),
+        _ => &rows[..0],
     }
 }
 
 // What remains behind it.
-pub fn behind_metadata_row(version: u8, part: &[u8]) -> &[u8]
-    ensures told { λ r. ⌜ now r ≡ rowsBehind (now (part .entry)) (metadataRowOf version (now (part .entry))) ⌝ }
+pub fn behind_metadata_row(version: u8, rows: &[u8]) -> &[u8]
+    ensures told { λ r. ⌜ now r ≡ rowsBehind (now (rows .entry)) (metadataRowOf version (now (rows .entry))) ⌝ }
     ensures place { λ r. ⌜ ptr r
-        ≡ placeIn (part .entry) (startTold (λ x. x .1) (metadataRowOf version (now (part .entry)))) ⌝ }
+        ≡ placeIn (rows .entry) (startTold (λ x. x .1) (metadataRowOf version (now (rows .entry)))) ⌝ }
 {
-    match metadata_row_of(version, part) {
-        MetadataRowAnswer::Row { row: _, length: n } => &part[n..],
-        _ => &part[..0],
+    match metadata_row_of(version, rows) {
+        MetadataRowAnswer::Row { row: _, length: n } => &rows[n..],
+        _ => &rows[..0],
     }
 }
 
@@ -148,37 +148,37 @@ pub enum ObjectRowAnswer {
 }
 
 // The front row of a part of static objects, judged alone.
-pub fn object_row_of(part: &[u8]) -> ObjectRowAnswer
-    ensures { λ r. ⌜ toldObjectRow r ≡ objectRowOf (now (part .entry)) ⌝ }
+pub fn object_row_of(rows: &[u8]) -> ObjectRowAnswer
+    ensures { λ r. ⌜ toldObjectRow r ≡ objectRowOf (now (rows .entry)) ⌝ }
 {
-    if part.len() == 0 {
+    if rows.len() == 0 {
         return ObjectRowAnswer::NoSuchRow;
     }
-    match object_row(part) {
+    match object_row(rows) {
         ObjectRead::Row { row, length: n } => ObjectRowAnswer::Row { row, length: n },
         ObjectRead::Refused { fault, offset } => ObjectRowAnswer::Refused { fault, offset },
     }
 }
 
 // The content in the front row.
-pub fn object_content_of(part: &[u8]) -> &[u8]
-    ensures { λ r. ⌜ IsSlice (part .entry)
-        (rangeTold (λ (x : ObjectFields × ℕ). x .0 .content) (objectRowOf (now (part .entry)))) r ⌝ }
+pub fn object_content_of(rows: &[u8]) -> &[u8]
+    ensures { λ r. ⌜ IsSlice (rows .entry)
+        (rangeTold (λ (x : ObjectFields × ℕ). x .0 .content) (objectRowOf (now (rows .entry)))) r ⌝ }
 {
-    match object_row_of(part) {
-        ObjectRowAnswer::Row { row, length: _ } => slice_of(part, row.content),
-        _ => &part[..0],
+    match object_row_of(rows) {
+        ObjectRowAnswer::Row { row, length: _ } => slice_of(rows, row.content),
+        _ => &rows[..0],
     }
 }
 
 // What remains behind it.
-pub fn behind_object_row(part: &[u8]) -> &[u8]
-    ensures told { λ r. ⌜ now r ≡ rowsBehind (now (part .entry)) (objectRowOf (now (part .entry))) ⌝ }
-    ensures place { λ r. ⌜ ptr r ≡ placeIn (part .entry) (startTold (λ x. x .1) (objectRowOf (now (part .entry)))) ⌝ }
+pub fn behind_object_row(rows: &[u8]) -> &[u8]
+    ensures told { λ r. ⌜ now r ≡ rowsBehind (now (rows .entry)) (objectRowOf (now (rows .entry))) ⌝ }
+    ensures place { λ r. ⌜ ptr r ≡ placeIn (rows .entry) (startTold (λ x. x .1) (objectRowOf (now (rows .entry)))) ⌝ }
 {
-    match object_row_of(part) {
-        ObjectRowAnswer::Row { row: _, length: n } => &part[n..],
-        _ => &part[..0],
+    match object_row_of(rows) {
+        ObjectRowAnswer::Row { row: _, length: n } => &rows[n..],
+        _ => &rows[..0],
     }
 }
 
@@ -190,13 +190,13 @@ pub enum TimerRowAnswer {
 }
 
 // The front row of a part of timers, judged alone.
-pub fn timer_row_of(part: &[u8]) -> TimerRowAnswer
-    ensures { λ r. ⌜ toldTimerRow r ≡ timerRowOf (now (part .entry)) ⌝ }
+pub fn timer_row_of(rows: &[u8]) -> TimerRowAnswer
+    ensures { λ r. ⌜ toldTimerRow r ≡ timerRowOf (now (rows .entry)) ⌝ }
 {
-    if part.len() == 0 {
+    if rows.len() == 0 {
         return TimerRowAnswer::NoSuchRow;
     }
-    match timer_row(part) {
+    match timer_row(rows) {
         TimerRead::Row(row) => TimerRowAnswer::Row {
             row,
             length: TIMER_ROW_LENGTH,
@@ -206,12 +206,12 @@ pub fn timer_row_of(part: &[u8]) -> TimerRowAnswer
 }
 
 // What remains behind it.
-pub fn behind_timer_row(part: &[u8]) -> &[u8]
-    ensures told { λ r. ⌜ now r ≡ rowsBehind (now (part .entry)) (timerRowOf (now (part .entry))) ⌝ }
-    ensures place { λ r. ⌜ ptr r ≡ placeIn (part .entry) (startTold (λ x. x .1) (timerRowOf (now (part .entry)))) ⌝ }
+pub fn behind_timer_row(rows: &[u8]) -> &[u8]
+    ensures told { λ r. ⌜ now r ≡ rowsBehind (now (rows .entry)) (timerRowOf (now (rows .entry))) ⌝ }
+    ensures place { λ r. ⌜ ptr r ≡ placeIn (rows .entry) (startTold (λ x. x .1) (timerRowOf (now (rows .entry)))) ⌝ }
 {
-    match timer_row_of(part) {
-        TimerRowAnswer::Row { row: _, length: n } => &part[n..],
-        _ => &part[..0],
+    match timer_row_of(rows) {
+        TimerRowAnswer::Row { row: _, length: n } => &rows[n..],
+        _ => &rows[..0],
     }
 }

@@ -88,7 +88,10 @@ pub fn rows(kind: ListKind, version: u8, s: &[u8], count: u16) -> Reach
     Reach::End(at)
 }
 
-// A count and so many rows.
+// The bytes of a list's count.
+const COUNT_LENGTH: usize = 2;
+
+// Reads a count and so many rows.
 pub(crate) fn listed(kind: ListKind, version: u8, s: &[u8]) -> Reach
     ensures { λ r. ⌜ toldReach r ≡ ended (listed 2 (rowAfter kind version) .read (now (s .entry))) ⌝ }
 {
@@ -98,11 +101,11 @@ pub(crate) fn listed(kind: ListKind, version: u8, s: &[u8]) -> Reach
             offset: 0,
         };
     };
-    match rows(kind, version, &s[2..], count) {
+    match rows(kind, version, &s[COUNT_LENGTH..], count) {
         Reach::Refused { fault, offset } => Reach::Refused {
             fault,
-            offset: 2 + offset,
+            offset: COUNT_LENGTH + offset,
         },
-        Reach::End(n) => Reach::End(2 + n),
+        Reach::End(n) => Reach::End(COUNT_LENGTH + n),
     }
 }

@@ -7,6 +7,7 @@ use crate::head::Sections;
 use crate::head::is_version;
 use crate::lists::EarlyRead;
 use crate::lists::LIST_HEAD_LENGTH;
+use crate::lists::OLD_METADATA_HEAD_LENGTH;
 use crate::lists::early_timers;
 use crate::lists::late_timers;
 use crate::lists::metadata_list;
@@ -18,6 +19,7 @@ use crate::names::sized;
 use crate::names::unmark;
 use crate::nodes::FirstUnmapped;
 use crate::nodes::IDS;
+use crate::nodes::WIDTHS_LENGTH;
 use crate::nodes::first_unmapped;
 use crate::nodes::node_data;
 use crate::nodes::width;
@@ -40,6 +42,19 @@ ghost use Rattle.mapblock.specs.Table.{freeIn};
 ghost use Rattle.mapblock.specs.Scan.{openingOn, openingIs, toldOpening, FrontTold, FrontIs, MiddleTold, MiddleIs, metadataHead, earlyHead, Sized, withoutLateTimers, withLateTimersAt, ReadUpTo, toldScan};
 
 // ---- the front: head, the names of version 29, node data
+// The places of step 1's fields. Before version 27 step 1 ends where the lighting would stand.
+const FLAGS_AT: usize = 1;
+
+const LIGHTING_AT: usize = 2;
+
+// The bytes of step 1 from version 27 on.
+const OPENING_LENGTH: usize = 4;
+
+// Version 29's timestamp and names stand between step 1 and the two widths, and their rows behind step 1 and the list's head.
+const BESIDE_NAMES_LENGTH: usize = OPENING_LENGTH + WIDTHS_LENGTH;
+
+const NAME_ROWS_AT: usize = OPENING_LENGTH + NAMES_HEAD_LENGTH;
+
 pub struct OpeningFields {
     pub version: u8,
     pub flags: u8,
@@ -87,21 +102,21 @@ fn opening(s: &[u8]) -> OpeningRead
             offset: 0,
         };
     }
-    let U8::Value(flags) = u8_at(s, 1) else {
+    let U8::Value(flags) = u8_at(s, FLAGS_AT) else {
         return OpeningRead::Refused {
             fault: Fault::Ends,
-            offset: 1,
+            offset: FLAGS_AT,
         };
     };
     if version < 27 {
-        return opened(version, flags, NO_LIGHTING, 2);
+        return opened(version, flags, NO_LIGHTING, LIGHTING_AT);
     }
-    match u16_at(s, 2) {
+    match u16_at(s, LIGHTING_AT) {
         U16::Ends => OpeningRead::Refused {
             fault: Fault::Ends,
-            offset: 2,
+            offset: LIGHTING_AT,
         },
-        U16::Value(lighting) => opened(version, flags, lighting, 4),
+        U16::Value(lighting) => opened(version, flags, lighting, OPENING_LENGTH),
     }
 }
 
@@ -122,31 +137,31 @@ pub enum FrontRead {
 }
 
 // Before version 29: the node data at once.
-fn plain_front(s: &[u8], o: OpeningFields, at: usize, ids: &[u8; IDS]) -> FrontRead
-    requires { ⌜ (o .version < 29) × (opening .read (now s) ≡ done (openingIs o) at) ⌝ }
+fn plain_front(s: &[u8], fields: OpeningFields, at: usize, ids: &[u8; IDS]) -> FrontRead
+    requires { ⌜ (fields .version < 29) × (opening .read (now s) ≡ done (openingIs fields) at) ⌝ }
     ensures { λ r. ⌜ FrontTold (now (ids .entry)) (now (ids .entry)) (now (s .entry)) r ⌝ }
 {
     sized(ids);
-    match node_data(o.version, &s[at..]) {
+    match node_data(fields.version, &s[at..]) {
         Reach::Refused { fault, offset } => FrontRead::Refused {
             fault,
             offset: at + offset,
         },
         Reach::End(n) => FrontRead::Fields(FrontFields {
-            version: o.version,
-            flags: o.flags,
-            lighting: o.lighting,
+            version: fields.version,
+            flags: fields.flags,
+            lighting: fields.lighting,
             timestamp: 0,
             count: 0,
-            lists: at + 2,
+            lists: at + WIDTHS_LENGTH,
             end: at + n,
         }),
     }
 }
 
 // In version 29: timestamp and names, then the node data. The names' ids stay marked, unless the front is refused.
-fn named_front(s: &[u8], o: OpeningFields, at: usize, ids: &mut [u8; IDS]) -> FrontRead
-    requires { ⌜ (29 ≤ o .version) × (opening .read (now s) ≡ done (openingIs o) at) ⌝ }
+fn named_front(s: &[u8], fields: OpeningFields, at: usize, ids: &mut [u8; IDS]) -> FrontRead
+    requires { ⌜ (29 ≤ fields .version) × (opening .read (now s) ≡ done (openingIs fields) at) ⌝ }
     ensures { λ r. ⌜ FrontTold (now (ids .entry)) (now (ids .exit)) (now (s .entry)) r ⌝ }
 {
     match name_mapping(&s[at..], ids) {
@@ -158,7 +173,7 @@ fn named_front(s: &[u8], o: OpeningFields, at: usize, ids: &mut [u8; IDS]) -> Fr
             timestamp,
             count,
             length: n,
-        } => match node_data(o.version, &s[at + n..]) {
+        } => match node_data(fields.version, &s[at + n..]) {
             Reach::Refused { fault, offset } => {
                 unmark(&s[at + NAMES_HEAD_LENGTH..], count, ids);
                 FrontRead::Refused {
@@ -167,12 +182,12 @@ fn named_front(s: &[u8], o: OpeningFields, at: usize, ids: &mut [u8; IDS]) -> Fr
                 }
             }
             Reach::End(m) => FrontRead::Fields(FrontFields {
-                version: o.version,
-                flags: o.flags,
-                lighting: o.lighting,
+                version: fields.version,
+                flags: fields.flags,
+                lighting: fields.lighting,
                 timestamp,
                 count,
-                lists: at + n + 2,
+                lists: at + n + WIDTHS_LENGTH,
                 end: at + n + m,
             }),
         },
@@ -184,14 +199,11 @@ fn front(s: &[u8], ids: &mut [u8; IDS]) -> FrontRead
 {
     match opening(s) {
         OpeningRead::Refused { fault, offset } => FrontRead::Refused { fault, offset },
-        OpeningRead::Fields {
-            fields: o,
-            length: n,
-        } => {
-            if o.version < 29 {
-                plain_front(s, o, n, ids)
+        OpeningRead::Fields { fields, length: n } => {
+            if fields.version < 29 {
+                plain_front(s, fields, n, ids)
             } else {
-                named_front(s, o, n, ids)
+                named_front(s, fields, n, ids)
             }
         }
     }
@@ -268,61 +280,70 @@ fn rows_of(at: usize, head: usize, size: usize) -> Range
 pub fn metadata_head(version: u8) -> usize
     ensures { λ r. ⌜ r ≡ metadataHead version ⌝ }
 {
-    if version < 23 { 4 } else { LIST_HEAD_LENGTH }
+    if version < 23 {
+        OLD_METADATA_HEAD_LENGTH
+    } else {
+        LIST_HEAD_LENGTH
+    }
 }
 
 // What stands before version 24's timers: all of it where there are none.
-fn early_head(m: MiddleFields) -> usize
-    ensures { λ r. ⌜ r ≡ earlyHead m ⌝ }
+fn early_head(middle: MiddleFields) -> usize
+    ensures { λ r. ⌜ r ≡ earlyHead middle ⌝ }
 {
-    if m.timer == 1 {
+    if middle.timer == 1 {
         LIST_HEAD_LENGTH
     } else {
-        m.early
+        middle.early
     }
 }
 
 // What is found before the late timers.
-fn without_late_timers(w: FrontFields, m: MiddleFields, timestamp: u32, names: Range) -> Scanned
-    requires { ⌜ Sized w m ⌝ }
-    ensures { λ r. ⌜ r ≡ withoutLateTimers w m timestamp names ⌝ }
+fn without_late_timers(
+    front: FrontFields,
+    middle: MiddleFields,
+    timestamp: u32,
+    names: Range,
+) -> Scanned
+    requires { ⌜ Sized front middle ⌝ }
+    ensures { λ r. ⌜ r ≡ withoutLateTimers front middle timestamp names ⌝ }
 {
-    let early = w.end + m.metadata;
+    let early = front.end + middle.metadata;
     Scanned {
         head: Head {
-            version: w.version,
-            flags: w.flags,
-            lighting: w.lighting,
+            version: front.version,
+            flags: front.flags,
+            lighting: front.lighting,
             timestamp,
-            timer: m.timer,
+            timer: middle.timer,
         },
-        lists: w.lists,
+        lists: front.lists,
         sections: Sections {
             names,
-            metadata: rows_of(w.end, metadata_head(w.version), m.metadata),
-            objects: rows_of(early + m.early, LIST_HEAD_LENGTH, m.objects),
-            timers: rows_of(early, early_head(m), m.early),
+            metadata: rows_of(front.end, metadata_head(front.version), middle.metadata),
+            objects: rows_of(early + middle.early, LIST_HEAD_LENGTH, middle.objects),
+            timers: rows_of(early, early_head(middle), middle.early),
         },
     }
 }
 
 // The same with the late timers, which are the n bytes from a place on.
-fn with_late_timers(w: Scanned, at: usize, n: usize) -> Scanned
-    requires { ⌜ (25 ≤ w .head .version → 3 ≤ n) × InReach (at + n) ⌝ }
-    ensures { λ r. ⌜ r ≡ withLateTimersAt w at n ⌝ }
+fn with_late_timers(scanned: Scanned, at: usize, n: usize) -> Scanned
+    requires { ⌜ (25 ≤ scanned .head .version → 3 ≤ n) × InReach (at + n) ⌝ }
+    ensures { λ r. ⌜ r ≡ withLateTimersAt scanned at n ⌝ }
 {
-    let head = w.head;
+    let head = scanned.head;
     if head.version < 25 {
-        return w;
+        return scanned;
     }
-    let before = w.sections;
+    let before = scanned.sections;
     let names = before.names;
     let metadata = before.metadata;
     let objects = before.objects;
     let timers = rows_of(at, LIST_HEAD_LENGTH, n);
     Scanned {
         head,
-        lists: w.lists,
+        lists: scanned.lists,
         sections: Sections {
             names,
             metadata,
@@ -333,14 +354,14 @@ fn with_late_timers(w: Scanned, at: usize, n: usize) -> Scanned
 }
 
 // The late timers, the end of the bytes, and that every id is mapped.
-fn ending(s: &[u8], w: Scanned, at: usize, ids: &[u8; IDS]) -> ScanRead
-    requires { ⌜ ((free : ℕ → Bool) × ReadUpTo free (now s) w at (now ids)) ⌝ }
-    ensures { λ r. ⌜ ((free : ℕ → Bool) → ReadUpTo free (now (s .entry)) w at (now (ids .entry)) → toldScan r
+fn ending(s: &[u8], scanned: Scanned, at: usize, ids: &[u8; IDS]) -> ScanRead
+    requires { ⌜ ((free : ℕ → Bool) × ReadUpTo free (now s) scanned at (now ids)) ⌝ }
+    ensures { λ r. ⌜ ((free : ℕ → Bool) → ReadUpTo free (now (s .entry)) scanned at (now (ids .entry)) → toldScan r
         ≡ mapRead scannedOf (verdict free (now (s .entry)))) ⌝ }
 {
-    let head = w.head;
+    let head = scanned.head;
     let version = head.version;
-    let lists = w.lists;
+    let lists = scanned.lists;
     match late_timers(version, &s[at..]) {
         Reach::Refused { fault, offset } => ScanRead::Refused {
             fault,
@@ -359,7 +380,7 @@ fn ending(s: &[u8], w: Scanned, at: usize, ids: &[u8; IDS]) -> ScanRead
                     offset: lists + width(version) * i,
                 },
                 FirstUnmapped::None => ScanRead::Taken {
-                    scanned: with_late_timers(w, at, n),
+                    scanned: with_late_timers(scanned, at, n),
                     length: at + n,
                 },
             }
@@ -368,15 +389,15 @@ fn ending(s: &[u8], w: Scanned, at: usize, ids: &[u8; IDS]) -> ScanRead
 }
 
 // Before version 29: timestamp and names behind the static objects, then the end.
-fn names_behind(s: &[u8], w: FrontFields, m: MiddleFields, ids: &mut [u8; IDS]) -> ScanRead
-    requires { ⌜ (w .version < 29) × ((t : List ℕ) × FrontIs t (now ids) (now s) w)
-        × MiddleIs (w .version) (drop (w .end) (now s)) m ⌝ }
+fn names_behind(s: &[u8], front: FrontFields, middle: MiddleFields, ids: &mut [u8; IDS]) -> ScanRead
+    requires { ⌜ (front .version < 29) × ((t : List ℕ) × FrontIs t (now ids) (now s) front)
+        × MiddleIs (front .version) (drop (front .end) (now s)) middle ⌝ }
     ensures told { λ r. ⌜
-        ((t : List ℕ) → FrontIs t (now (ids .entry)) (now (s .entry)) w → toldScan r
+        ((t : List ℕ) → FrontIs t (now (ids .entry)) (now (s .entry)) front → toldScan r
         ≡ mapRead scannedOf (verdict (freeIn t) (now (s .entry)))) ⌝ }
     ensures ids { λ _. ⌜ now (ids .exit) ≡ now (ids .entry) ⌝ }
 {
-    let at = w.end + m.metadata + m.early + m.objects;
+    let at = front.end + middle.metadata + middle.early + middle.objects;
     match name_mapping(&s[at..], ids) {
         NameMappingRead::Refused { fault, offset } => ScanRead::Refused {
             fault,
@@ -387,7 +408,12 @@ fn names_behind(s: &[u8], w: FrontFields, m: MiddleFields, ids: &mut [u8; IDS]) 
             count,
             length: n,
         } => {
-            let found = without_late_timers(w, m, timestamp, rows_of(at, NAMES_HEAD_LENGTH, n));
+            let found = without_late_timers(
+                front,
+                middle,
+                timestamp,
+                rows_of(at, NAMES_HEAD_LENGTH, n),
+            );
             let r = ending(s, found, at + n, ids);
             unmark(&s[at + NAMES_HEAD_LENGTH..], count, ids);
             r
@@ -396,27 +422,35 @@ fn names_behind(s: &[u8], w: FrontFields, m: MiddleFields, ids: &mut [u8; IDS]) 
 }
 
 // What follows the node data.
-fn behind_front(s: &[u8], w: FrontFields, ids: &mut [u8; IDS]) -> ScanRead
-    requires { ⌜ ((t : List ℕ) × FrontIs t (now ids) (now s) w) ⌝ }
+fn behind_front(s: &[u8], front: FrontFields, ids: &mut [u8; IDS]) -> ScanRead
+    requires { ⌜ ((t : List ℕ) × FrontIs t (now ids) (now s) front) ⌝ }
     ensures told { λ r. ⌜
-        ((t : List ℕ) → FrontIs t (now (ids .entry)) (now (s .entry)) w → toldScan r
+        ((t : List ℕ) → FrontIs t (now (ids .entry)) (now (s .entry)) front → toldScan r
         ≡ mapRead scannedOf (verdict (freeIn t) (now (s .entry)))) ⌝ }
     ensures ids { λ _. ⌜ now (ids .exit) ≡ now (ids .entry) ⌝ }
 {
-    let end = w.end;
-    match middle(w.version, &s[end..]) {
+    let end = front.end;
+    match middle(front.version, &s[end..]) {
         MiddleRead::Refused { fault, offset } => ScanRead::Refused {
             fault,
             offset: end + offset,
         },
-        MiddleRead::Lists(m) => {
-            if w.version < 29 {
-                return names_behind(s, w, m, ids);
+        MiddleRead::Lists(lists) => {
+            if front.version < 29 {
+                return names_behind(s, front, lists, ids);
             }
-            // Timestamp and names stand between the four bytes of step 1 and the two widths.
-            let names = rows_of(4, NAMES_HEAD_LENGTH, w.lists - 6);
-            let found = without_late_timers(w, m, w.timestamp, names);
-            ending(s, found, end + m.metadata + m.early + m.objects, ids)
+            let names = rows_of(
+                OPENING_LENGTH,
+                NAMES_HEAD_LENGTH,
+                front.lists - BESIDE_NAMES_LENGTH,
+            );
+            let found = without_late_timers(front, lists, front.timestamp, names);
+            ending(
+                s,
+                found,
+                end + lists.metadata + lists.early + lists.objects,
+                ids,
+            )
         }
     }
 }
@@ -428,10 +462,10 @@ pub fn scan(s: &[u8], ids: &mut [u8; IDS]) -> ScanRead
 {
     match front(s, ids) {
         FrontRead::Refused { fault, offset } => ScanRead::Refused { fault, offset },
-        FrontRead::Fields(w) => {
-            let r = behind_front(s, w, ids);
-            // Version 29's names: their rows stand behind step 1 and the list's head. Before it there are none here.
-            unmark(&s[11..], w.count, ids);
+        FrontRead::Fields(found) => {
+            let r = behind_front(s, found, ids);
+            // Version 29's names are unmarked; before it there are none here.
+            unmark(&s[NAME_ROWS_AT..], found.count, ids);
             r
         }
     }

@@ -1,5 +1,6 @@
 // Rows of node timers.
 use crate::fault::Fault;
+use crate::positions::POSITION_LENGTH;
 use crate::positions::PositionRead;
 use crate::positions::position;
 use wire::fields::S32;
@@ -29,7 +30,12 @@ pub enum TimerRead {
     Refused { fault: Fault, offset: usize },
 }
 
-// The row at the front of a part, judged alone.
+// In a row the timeout stands behind the position, and the elapsed time behind the timeout.
+const TIMEOUT_AT: usize = POSITION_LENGTH;
+
+const ELAPSED_AT: usize = 6;
+
+// Reads the row at the front of the bytes, judged alone.
 pub(crate) fn timer_row(s: &[u8]) -> TimerRead
     ensures { λ r. ⌜ toldTimer r ≡ mapRead timerFields (timerRow [] .read (now (s .entry))) ⌝ }
 {
@@ -39,16 +45,16 @@ pub(crate) fn timer_row(s: &[u8]) -> TimerRead
             offset: 0,
         },
         PositionRead::At(position) => {
-            let S32::Value(timeout) = s32_at(s, 2) else {
+            let S32::Value(timeout) = s32_at(s, TIMEOUT_AT) else {
                 return TimerRead::Refused {
                     fault: Fault::Ends,
-                    offset: 2,
+                    offset: TIMEOUT_AT,
                 };
             };
-            let S32::Value(elapsed) = s32_at(s, 6) else {
+            let S32::Value(elapsed) = s32_at(s, ELAPSED_AT) else {
                 return TimerRead::Refused {
                     fault: Fault::Ends,
-                    offset: 6,
+                    offset: ELAPSED_AT,
                 };
             };
             TimerRead::Row(TimerFields {

@@ -18,11 +18,11 @@ enum-known-n : tie.Need-enum-known-n
 enum-known-n c = search needs
 
 -- the row lies in the part
-fits : (c : tie.After-known-told) → c .before .n .given .0 .1 .0 ≤ length (now (c .before .before .before .before .before .args .part))
+fits : (c : tie.After-known-told) → c .before .n .given .0 .1 .0 ≤ length (now (c .before .before .before .before .before .args .rows))
 fits c =
     let a = c .before .before .before .before .before .args in
     let v = a .version in
-    row-fits (now (a .part)) (metadataFields v) (metadataRow v []) (version-was v (now (a .part)) (sym (ap toldMetadataRow (c .before .n .given .1)) ∙ c .before .before .before .metadata-row-of .ensures))
+    row-fits (now (a .rows)) (metadataFields v) (metadataRow v []) (version-was v (now (a .rows)) (sym (ap toldMetadataRow (c .before .n .given .1)) ∙ c .before .before .before .metadata-row-of .ensures))
 
 sub-result : tie.Need-sub-result
 sub-result c = fits c
@@ -37,10 +37,10 @@ slice-aggregate-result : tie.Need-slice-aggregate-result
 slice-aggregate-result c = search needs
 
 returns : tie.Need-returns
-returns c = behind-told (c .before .before .before .before .before .before .args .part) (sym (ap toldMetadataRow (c .before .before .n .given .1)) ∙ c .before .before .before .before .metadata-row-of .ensures)
+returns c = behind-told (c .before .before .before .before .before .before .args .rows) (sym (ap toldMetadataRow (c .before .before .n .given .1)) ∙ c .before .before .before .before .metadata-row-of .ensures)
 
 returns-2 : tie.Need-returns-2
-returns-2 c = let r = c .before .before .metadata-row-of in none-behind (c .before .before .before .before .args .part) (toldMetadataRow (r .result)) (r .ensures) (no-metadata (r .result) (c .before .match .keys2))
+returns-2 c = let r = c .before .before .metadata-row-of in none-behind (c .before .before .before .before .args .rows) (toldMetadataRow (r .result)) (r .ensures) (no-metadata (r .result) (c .before .match .keys2))
 
 pub behind-metadata-row-spec : {M : Type 1} → statement M
 behind-metadata-row-spec =

@@ -17,8 +17,8 @@ enum-known-n : tie.Need-enum-known-n
 enum-known-n c = search needs
 
 -- the row lies in the part
-fits : (c : tie.After-known-told) → c .before .n .given .0 .1 .0 ≤ length (now (c .before .before .before .before .before .args .part))
-fits c = row-fits (now (c .before .before .before .before .before .args .part)) objectFields objectRow (sym (ap toldObjectRow (c .before .n .given .1)) ∙ c .before .before .before .object-row-of .ensures)
+fits : (c : tie.After-known-told) → c .before .n .given .0 .1 .0 ≤ length (now (c .before .before .before .before .before .args .rows))
+fits c = row-fits (now (c .before .before .before .before .before .args .rows)) objectFields objectRow (sym (ap toldObjectRow (c .before .n .given .1)) ∙ c .before .before .before .object-row-of .ensures)
 
 sub-result : tie.Need-sub-result
 sub-result c = fits c
@@ -33,10 +33,10 @@ slice-aggregate-result : tie.Need-slice-aggregate-result
 slice-aggregate-result c = search needs
 
 returns : tie.Need-returns
-returns c = behind-told (c .before .before .before .before .before .before .args .part) (sym (ap toldObjectRow (c .before .before .n .given .1)) ∙ c .before .before .before .before .object-row-of .ensures)
+returns c = behind-told (c .before .before .before .before .before .before .args .rows) (sym (ap toldObjectRow (c .before .before .n .given .1)) ∙ c .before .before .before .before .object-row-of .ensures)
 
 returns-2 : tie.Need-returns-2
-returns-2 c = let r = c .before .before .object-row-of in none-behind (c .before .before .before .before .args .part) (toldObjectRow (r .result)) (r .ensures) (no-object (r .result) (c .before .match .keys2))
+returns-2 c = let r = c .before .before .object-row-of in none-behind (c .before .before .before .before .args .rows) (toldObjectRow (r .result)) (r .ensures) (no-object (r .result) (c .before .match .keys2))
 
 pub behind-object-row-spec : {M : Type 1} → statement M
 behind-object-row-spec =

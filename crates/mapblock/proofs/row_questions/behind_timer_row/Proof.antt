@@ -18,8 +18,8 @@ enum-known-n : tie.Need-enum-known-n
 enum-known-n c = search needs
 
 -- the row lies in the part
-fits : (c : tie.After-known-told) → c .before .n .given .0 .1 .0 ≤ length (now (c .before .before .before .before .before .args .part))
-fits c = row-fits (now (c .before .before .before .before .before .args .part)) timerFields (timerRow []) (sym (ap toldTimerRow (c .before .n .given .1)) ∙ c .before .before .before .timer-row-of .ensures)
+fits : (c : tie.After-known-told) → c .before .n .given .0 .1 .0 ≤ length (now (c .before .before .before .before .before .args .rows))
+fits c = row-fits (now (c .before .before .before .before .before .args .rows)) timerFields (timerRow []) (sym (ap toldTimerRow (c .before .n .given .1)) ∙ c .before .before .before .timer-row-of .ensures)
 
 sub-result : tie.Need-sub-result
 sub-result c = fits c
@@ -34,10 +34,10 @@ slice-aggregate-result : tie.Need-slice-aggregate-result
 slice-aggregate-result c = search needs
 
 returns : tie.Need-returns
-returns c = behind-told (c .before .before .before .before .before .before .args .part) (sym (ap toldTimerRow (c .before .before .n .given .1)) ∙ c .before .before .before .before .timer-row-of .ensures)
+returns c = behind-told (c .before .before .before .before .before .before .args .rows) (sym (ap toldTimerRow (c .before .before .n .given .1)) ∙ c .before .before .before .before .timer-row-of .ensures)
 
 returns-2 : tie.Need-returns-2
-returns-2 c = let r = c .before .before .timer-row-of in none-behind (c .before .before .before .before .args .part) (toldTimerRow (r .result)) (r .ensures) (no-timer (r .result) (c .before .match .keys2))
+returns-2 c = let r = c .before .before .timer-row-of in none-behind (c .before .before .before .before .args .rows) (toldTimerRow (r .result)) (r .ensures) (no-timer (r .result) (c .before .match .keys2))
 
 pub behind-timer-row-spec : {M : Type 1} → statement M
 behind-timer-row-spec =

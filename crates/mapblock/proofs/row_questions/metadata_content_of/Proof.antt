@@ -20,10 +20,10 @@ slice-aggregate-result : tie.Need-slice-aggregate-result
 slice-aggregate-result c = search needs
 
 returns : tie.Need-returns
-returns c = part-told (c .before .before .before .before .before .before .args .part) (λ (x : MetadataFields × ℕ). x .0 .content) (sym (ap toldMetadataRow (c .before .before .row .given .1)) ∙ c .before .before .before .before .metadata-row-of .ensures) (c .slice-of .ensures)
+returns c = part-told (c .before .before .before .before .before .before .args .rows) (λ (x : MetadataFields × ℕ). x .0 .content) (sym (ap toldMetadataRow (c .before .before .row .given .1)) ∙ c .before .before .before .before .metadata-row-of .ensures) (c .slice-of .ensures)
 
 returns-2 : tie.Need-returns-2
-returns-2 c = let r = c .before .before .metadata-row-of in none-told (c .before .before .before .before .args .part) (λ (x : MetadataFields × ℕ). x .0 .content) (toldMetadataRow (r .result)) _ (r .ensures) (no-metadata (r .result) (c .before .match .keys2)) refl refl
+returns-2 c = let r = c .before .before .metadata-row-of in none-told (c .before .before .before .before .args .rows) (λ (x : MetadataFields × ℕ). x .0 .content) (toldMetadataRow (r .result)) _ (r .ensures) (no-metadata (r .result) (c .before .match .keys2)) refl refl
 
 pub metadata-content-of-spec : {M : Type 1} → statement M
 metadata-content-of-spec = tie.close (tie.spec metadata-row-of-requires enum-known-row slice-of-requires slice-aggregate-result returns returns-2)

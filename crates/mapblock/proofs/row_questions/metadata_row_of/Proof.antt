@@ -15,12 +15,12 @@ is-version-requires : tie.Need-is-version-requires
 is-version-requires c κs = search needs
 
 returns : tie.Need-returns
-returns c = version-other (c .before .before .before .args .version) (now (c .before .before .before .args .part)) (sym (c .before .is-version .ensures) ∙ not-true _ (c .if1 .taken))
+returns c = version-other (c .before .before .before .args .version) (now (c .before .before .before .args .rows)) (sym (c .before .is-version .ensures) ∙ not-true _ (c .if1 .taken))
 
 returns-2 : tie.Need-returns-2
 returns-2 c =
     let v = c .before .before .before .before .args .version in
-    let s = now (c .before .before .before .before .args .part) in
+    let s = now (c .before .before .before .before .args .rows) in
     version-good v s (sym (c .before .before .is-version .ensures) ∙ not-false _ (c .before .if1 .left)) (asked-none s (mapRead (metadataFields v) (metadataRow v [] .read s)) (c .if2 .taken))
 
 metadata-row-requires : tie.Need-metadata-row-requires
@@ -35,14 +35,14 @@ enum-known-fault c = search needs
 returns-3 : tie.Need-returns-3
 returns-3 c =
     let a = c .before .before .before .before .before .before .before .before .args in
-    version-good (a .version) (now (a .part)) (sym (c .before .before .before .before .before .before .is-version .ensures) ∙ not-false _ (c .before .before .before .before .before .if1 .left))
-    (asked-row (now (a .part)) (c .before .before .before .before .if2 .left) (sym (ap toldMetadata (c .before .row .given .1)) ∙ c .before .before .before .metadata-row .ensures))
+    version-good (a .version) (now (a .rows)) (sym (c .before .before .before .before .before .before .is-version .ensures) ∙ not-false _ (c .before .before .before .before .before .if1 .left))
+    (asked-row (now (a .rows)) (c .before .before .before .before .if2 .left) (sym (ap toldMetadata (c .before .row .given .1)) ∙ c .before .before .before .metadata-row .ensures))
 
 returns-4 : tie.Need-returns-4
 returns-4 c =
     let a = c .before .before .before .before .before .before .before .before .args in
-    version-good (a .version) (now (a .part)) (sym (c .before .before .before .before .before .before .is-version .ensures) ∙ not-false _ (c .before .before .before .before .before .if1 .left))
-    (asked-row (now (a .part)) (c .before .before .before .before .if2 .left) (sym (ap toldMetadata (c .before .fault .given .1)) ∙ c .before .before .before .metadata-row .ensures))
+    version-good (a .version) (now (a .rows)) (sym (c .before .before .before .before .before .before .is-version .ensures) ∙ not-false _ (c .before .before .before .before .before .if1 .left))
+    (asked-row (now (a .rows)) (c .before .before .before .before .if2 .left) (sym (ap toldMetadata (c .before .fault .given .1)) ∙ c .before .before .before .metadata-row .ensures))
 
 pub metadata-row-of-spec : {M : Type 1} → statement M
 metadata-row-of-spec =

@@ -11,7 +11,7 @@ use Rattle.mapblock.proofs.row_questions.name_row_of.Statement.{stateme
 use Rattle.mapblock.proofs.row_questions.name_row_of.Tie as tie
 
 returns : tie.Need-returns
-returns c = let s = now (c .before .before .args .part) in asked-none s (mapRead nameFields (nameRow all [] .read s)) (c .if1 .taken)
+returns c = let s = now (c .before .before .args .rows) in asked-none s (mapRead nameFields (nameRow all [] .read s)) (c .if1 .taken)
 
 name-row-requires : tie.Need-name-row-requires
 name-row-requires c κs = search needs
@@ -23,10 +23,10 @@ enum-known-fault : tie.Need-enum-known-fault
 enum-known-fault c = search needs
 
 returns-2 : tie.Need-returns-2
-returns-2 c = asked-row (now (c .before .before .before .before .before .before .args .part)) (c .before .before .before .before .if1 .left) (sym (ap toldName (c .before .row .given .1)) ∙ c .before .before .before .name-row .ensures)
+returns-2 c = asked-row (now (c .before .before .before .before .before .before .args .rows)) (c .before .before .before .before .if1 .left) (sym (ap toldName (c .before .row .given .1)) ∙ c .before .before .before .name-row .ensures)
 
 returns-3 : tie.Need-returns-3
-returns-3 c = asked-row (now (c .before .before .before .before .before .before .args .part)) (c .before .before .before .before .if1 .left) (sym (ap toldName (c .before .fault .given .1)) ∙ c .before .before .before .name-row .ensures)
+returns-3 c = asked-row (now (c .before .before .before .before .before .before .args .rows)) (c .before .before .before .before .if1 .left) (sym (ap toldName (c .before .fault .given .1)) ∙ c .before .before .before .name-row .ensures)
 
 pub name-row-of-spec : {M : Type 1} → statement M
 name-row-of-spec = tie.close (tie.spec returns name-row-requires enum-known-row enum-known-fault returns-2 returns-3)

@@ -19,13 +19,13 @@ bytes : (c : tie.After-shared-slice-known) → Bytes (now (c .before .args .s))
 bytes c i = c .shared-slice-known .given i .fits
 
 -- the lists behind the node data, refused or read
-no-lists : (c : tie.After-fault) → let a = c .before .before .before .before .before .args in middle (a .w .version) .read (drop (a .w .end) (now (a .s))) ≡ refused (c .fault .given .0 .0) (c .fault .given .0 .1 .0)
-no-lists c = let a = c .before .before .before .before .before .args in rw (c .fault .given .1, rest-is (a .w .end) (now (a .s))) at (c .before .before .middle .ensures)
+no-lists : (c : tie.After-fault) → let a = c .before .before .before .before .before .args in middle (a .front .version) .read (drop (a .front .end) (now (a .s))) ≡ refused (c .fault .given .0 .0) (c .fault .given .0 .1 .0)
+no-lists c = let a = c .before .before .before .before .before .args in rw (c .fault .given .1, rest-is (a .front .end) (now (a .s))) at (c .before .before .middle .ensures)
 
-lists-are : (c : tie.After-m) → let a = c .before .before .before .before .before .args in MiddleIs (a .w .version) (drop (a .w .end) (now (a .s))) (c .m .given .0 .0)
-lists-are c = let a = c .before .before .before .before .before .args in rw (c .m .given .1, rest-is (a .w .end) (now (a .s))) at (c .before .before .middle .ensures)
+lists-are : (c : tie.After-lists) → let a = c .before .before .before .before .before .args in MiddleIs (a .front .version) (drop (a .front .end) (now (a .s))) (c .lists .given .0 .0)
+lists-are c = let a = c .before .before .before .before .before .args in rw (c .lists .given .1, rest-is (a .front .end) (now (a .s))) at (c .before .before .middle .ensures)
 
-inside : (c : tie.After-m) → let a = c .before .before .before .before .before .args in let m = c .m .given .0 .0 in a .w .end + m .metadata + m .early + m .objects ≤ length (now (a .s))
+inside : (c : tie.After-lists) → let a = c .before .before .before .before .before .args in let m = c .lists .given .0 .0 in a .front .end + m .metadata + m .early + m .objects ≤ length (now (a .s))
 inside c = middle-inside _ _ _ _ (c .before .before .before .before .before .pre .1) _ (lists-are c) (bytes (c .before .before .before .before))
 
 sub-middle : tie.Need-sub-middle
@@ -46,10 +46,10 @@ enum-known-fault c = search needs
 add-t16 : tie.Need-add-t16
 add-t16 c =
     let a = c .before .before .before .before .before .before .args in
-    omega (arith, front-inside _ _ _ _ (c .before .before .before .before .before .before .pre .1), length-drop (a .w .end) (now (a .s)), within (middle (a .w .version)) (drop (a .w .end) (now (a .s))) (no-lists (c .before)))
+    omega (arith, front-inside _ _ _ _ (c .before .before .before .before .before .before .pre .1), length-drop (a .front .end) (now (a .s)), within (middle (a .front .version)) (drop (a .front .end) (now (a .s))) (no-lists (c .before)))
 
-enum-known-m : tie.Need-enum-known-m
-enum-known-m c = search needs
+enum-known-lists : tie.Need-enum-known-lists
+enum-known-lists c = search needs
 
 names-behind-requires : tie.Need-names-behind-requires
 names-behind-requires c κs = (c .before .if1 .taken, c .before .before .before .before .before .before .before .before .before .pre, lists-are (c .before .before .before .before))
@@ -63,7 +63,7 @@ sub-rows-of c = let r = names-room _ _ _ _ (c .before .before .before .before .b
 rows-of-requires : tie.Need-rows-of-requires
 rows-of-requires c κs =
     let r = names-room _ _ _ _ (c .before .before .before .before .before .before .before .before .before .pre .1) _ (lists-are (c .before .before .before .before)) (bytes (c .before .before .before .before .before .before .before .before)) (omega (arith, c .before .if1 .left)) in
-    let l : c .before .before .before .before .before .before .before .before .before .args .w .lists ≤ length (now (c .before .before .before .before .before .before .before .before .before .args .s)) = omega (arith, front-inside _ _ _ _ (c .before .before .before .before .before .before .before .before .before .pre .1), c .before .before .before .before .before .before .before .before .before .pre .1 .ends) in
+    let l : c .before .before .before .before .before .before .before .before .before .args .front .lists ≤ length (now (c .before .before .before .before .before .before .before .before .before .args .s)) = omega (arith, front-inside _ _ _ _ (c .before .before .before .before .before .before .before .before .before .pre .1), c .before .before .before .before .before .before .before .before .before .pre .1 .ends) in
     (omega arith, omega (arith, c .before .before .before .before .before .before .before .before .before .good .0 .0))
 
 without-late-timers-requires : tie.Need-without-late-timers-requires
@@ -97,7 +97,7 @@ behind-front-spec =
     middle-requires
     enum-known-fault
     add-t16
-    enum-known-m
+    enum-known-lists
     names-behind-requires
     returns
     sub-rows-of

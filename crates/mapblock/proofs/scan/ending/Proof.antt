@@ -19,19 +19,19 @@ use Rattle.mapblock.proofs.scan.ending.Statement.{statement}
 use Rattle.mapblock.proofs.scan.ending.Tie as tie
 
 -- the first node that is not mapped
-firstUnmapped-is : (c : tie.After-i) → let a = c .before .before .before .before .before .before .before .before .before .before .before .before .args in some (c .i .given .0 .0) ≡ firstUnmappedIn (a .w .head .version) (drop (a .w .lists) (now (a .s))) (now (a .ids))
+firstUnmapped-is : (c : tie.After-i) → let a = c .before .before .before .before .before .before .before .before .before .before .before .before .args in some (c .i .given .0 .0) ≡ firstUnmappedIn (a .scanned .head .version) (drop (a .scanned .lists) (now (a .s))) (now (a .ids))
 firstUnmapped-is c =
     let a = c .before .before .before .before .before .before .before .before .before .before .before .before .args in
     let u = c .before .before .before .before .before .before .before .before .before .before .before .before .pre .1 in
-    rw (rest-is (a .w .lists) (now (a .s))) at (sym (ap toldUnmapped (c .i .given .1)) ∙ c .before .before .first-unmapped .ensures)
-    ∙ firstUnmapped-there (a .w .head .version) (now (a .s)) (now (a .ids)) (a .w .lists) (a .at) (u .long) (u .inside)
+    rw (rest-is (a .scanned .lists) (now (a .s))) at (sym (ap toldUnmapped (c .i .given .1)) ∙ c .before .before .first-unmapped .ensures)
+    ∙ firstUnmapped-there (a .scanned .head .version) (now (a .s)) (now (a .ids)) (a .scanned .lists) (a .at) (u .long) (u .inside)
 
-firstUnmapped-at : (c : tie.After-i) → let a = c .before .before .before .before .before .before .before .before .before .before .before .before .args in let v = a .w .head .version in
+firstUnmapped-at : (c : tie.After-i) → let a = c .before .before .before .before .before .before .before .before .before .before .before .before .args in let v = a .scanned .head .version in
     (width v * c .i .given .0 .0 < 8192) × (width v * c .i .given .0 .0 ≤ 4096 * width v)
-firstUnmapped-at c = let a = c .before .before .before .before .before .before .before .before .before .before .before .before .args in width-place (a .w .head .version) (c .i .given .0 .0) (omega (arith, first-below (unmarkedIn (a .w .head .version) (drop (a .w .lists) (now (a .s))) (now (a .ids))) 4096 0 (firstUnmapped-is c)))
+firstUnmapped-at c = let a = c .before .before .before .before .before .before .before .before .before .before .before .before .args in width-place (a .scanned .head .version) (c .i .given .0 .0) (omega (arith, first-below (unmarkedIn (a .scanned .head .version) (drop (a .scanned .lists) (now (a .s))) (now (a .ids))) 4096 0 (firstUnmapped-is c)))
 
 -- the late timers that were read
-late-is : (c : tie.After-n) → let a = c .before .before .before .before .before .before .args in done tt (c .n .given .0 .0) ≡ ended (lateTimers (a .w .head .version) .read (drop (a .at) (now (a .s))))
+late-is : (c : tie.After-n) → let a = c .before .before .before .before .before .before .args in done tt (c .n .given .0 .0) ≡ ended (lateTimers (a .scanned .head .version) .read (drop (a .at) (now (a .s))))
 late-is c = rw (rest-is (c .before .before .before .before .before .before .args .at) (now (c .before .before .before .before .before .before .args .s))) at (sym (ap toldReach (c .n .given .1)) ∙ c .before .before .late-timers .ensures)
 
 sub-late-timers : tie.Need-sub-late-timers
@@ -54,7 +54,7 @@ add-t18 c =
     let a = c .before .before .before .before .before .before .before .args in
     let u = c .before .before .before .before .before .before .before .pre .1 in
     let e = rw (rest-is (a .at) (now (a .s))) at (sym (ap toldReach (c .before .fault .given .1)) ∙ c .before .before .before .late-timers .ensures) in
-    omega (arith, length-drop (a .at) (now (a .s)), u .inside, within-ended (lateTimers (a .w .head .version)) (drop (a .at) (now (a .s))) e)
+    omega (arith, length-drop (a .at) (now (a .s)), u .inside, within-ended (lateTimers (a .scanned .head .version)) (drop (a .at) (now (a .s))) e)
 
 enum-known-n : tie.Need-enum-known-n
 enum-known-n c = search needs
@@ -123,8 +123,8 @@ returns-4 c =
     let a = c .before .before .before .before .before .before .before .before .before .before .before .before .before .args in
     let q = c .before .before .before .before .before .before .before .before .before .before .before .before .before .pre .1 in
     let b : Bytes (now (a .s)) = λ i. c .before .before .before .before .before .before .before .before .before .before .before .before .shared-slice-known .given i .fits in
-    let e = rw (rest-is (a .w .lists) (now (a .s))) at (sym (ap toldUnmapped (c .before .enum-told .given .1)) ∙ c .before .before .before .first-unmapped .ensures)
-    ∙ firstUnmapped-there (a .w .head .version) (now (a .s)) (now (a .ids)) (a .w .lists) (a .at) (q .long) (q .inside) in
+    let e = rw (rest-is (a .scanned .lists) (now (a .s))) at (sym (ap toldUnmapped (c .before .enum-told .given .1)) ∙ c .before .before .before .first-unmapped .ensures)
+    ∙ firstUnmapped-there (a .scanned .head .version) (now (a .s)) (now (a .ids)) (a .scanned .lists) (a .at) (q .long) (q .inside) in
     λ free u. rw (c .with-late-timers .ensures) (late-done u (late-is (c .before .before .before .before .before .before .before)) b (c .before .before .before .before .before .if1 .left) e)
 
 pub ending-spec : {M : Type 1} → statement M

@@ -11,14 +11,14 @@ opening-requires c κs = search needs
 enum-known-fault : tie.Need-enum-known-fault
 enum-known-fault c = search needs
 
-enum-known-o : tie.Need-enum-known-o
-enum-known-o c = search needs
+enum-known-fields : tie.Need-enum-known-fields
+enum-known-fields c = search needs
 
 plain-front-requires : tie.Need-plain-front-requires
-plain-front-requires c κs = (c .before .if1 .taken, sym (c .before .before .before .before .before .before .opening .ensures) ∙ ap toldOpening (c .before .before .before .before .o .given .1))
+plain-front-requires c κs = (c .before .if1 .taken, sym (c .before .before .before .before .before .before .opening .ensures) ∙ ap toldOpening (c .before .before .before .before .fields .given .1))
 
 named-front-requires : tie.Need-named-front-requires
-named-front-requires c κs = (c .before .if1 .left, sym (c .before .before .before .before .before .before .opening .ensures) ∙ ap toldOpening (c .before .before .before .before .o .given .1))
+named-front-requires c κs = (c .before .if1 .left, sym (c .before .before .before .before .before .before .opening .ensures) ∙ ap toldOpening (c .before .before .before .before .fields .given .1))
 
 returns : tie.Need-returns
 returns c = (front-refused _ _ (sym (c .before .before .before .opening .ensures) ∙ ap toldOpening (c .before .fault .given .1)), refl)
@@ -35,7 +35,7 @@ front-spec =
     (tie.spec
     opening-requires
     enum-known-fault
-    enum-known-o
+    enum-known-fields
     plain-front-requires
     named-front-requires
     returns

@@ -26,7 +26,7 @@ told : (c : tie.After-name-mapping) {r : NameMappingRead} → c .name-mapping .r
 told c e = sym (ap toldMapping e) ∙ (rw rest-is at (c .name-mapping .ensures .0))
 
 names : (c : tie.After-timestamp) → let a = start (c .before .before) .args in let r = c .timestamp .given .0 in
-    NamesRead (now (a .ids)) (c .before .before .name-mapping .last .1 .0) (now (a .s)) (a .o) (a .at) (r .0) (r .1 .0) (r .1 .1 .0)
+    NamesRead (now (a .ids)) (c .before .before .name-mapping .last .1 .0) (now (a .s)) (a .fields) (a .at) (r .0) (r .1 .0) (r .1 .1 .0)
 names c = let d = c .before .before in names-read _ _ _ (start d .pre .1) (start d .pre .0) (marked d) (told d (c .timestamp .given .1))
 
 -- node data

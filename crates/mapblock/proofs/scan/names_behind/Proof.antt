@@ -21,20 +21,20 @@ bytes : (c : tie.After-shared-slice-known) → Bytes (now (c .before .args .s))
 bytes c i = c .shared-slice-known .given i .fits
 
 -- where the static objects end
-inside : (c : tie.After-shared-slice-known) → let a = c .before .args in a .w .end + a .m .metadata + a .m .early + a .m .objects ≤ length (now (a .s))
+inside : (c : tie.After-shared-slice-known) → let a = c .before .args in a .front .end + a .middle .metadata + a .middle .early + a .middle .objects ≤ length (now (a .s))
 inside c = let p = c .before .pre in middle-inside _ _ _ _ (p .1 .1) _ (p .2) (bytes c)
 
 -- the names that were read, and the table with them
-name-mapping-is : (c : tie.After-timestamp) → let a = c .before .before .before .before .before .before .before .before .before .before .args in let at = a .w .end + a .m .metadata + a .m .early + a .m .objects in let g = c .timestamp .given .0 in
+name-mapping-is : (c : tie.After-timestamp) → let a = c .before .before .before .before .before .before .before .before .before .before .args in let at = a .front .end + a .middle .metadata + a .middle .early + a .middle .objects in let g = c .timestamp .given .0 in
     (done (pair (g .0) (g .1 .0)) (g .1 .1 .0) ≡ mapRead shownMapping (nameMapping (freeIn (now (a .ids))) .read (drop at (now (a .s)))))
     × NameMappingMarked (now (a .ids)) (c .before .before .name-mapping .last .1 .0) (nameMapping (freeIn (now (a .ids))) .read (drop at (now (a .s))))
 name-mapping-is c =
     let a = c .before .before .before .before .before .before .before .before .before .before .args in
-    let e = rw (rest-is (a .w .end + a .m .metadata + a .m .early + a .m .objects) (now (a .s))) at (c .before .before .name-mapping .ensures) in
+    let e = rw (rest-is (a .front .end + a .middle .metadata + a .middle .early + a .middle .objects) (now (a .s))) at (c .before .before .name-mapping .ensures) in
     (sym (ap toldMapping (c .timestamp .given .1)) ∙ e .0, e .1)
 
 names-are : (c : tie.After-timestamp) → let a = c .before .before .before .before .before .before .before .before .before .before .args in
-    (7 ≤ c .timestamp .given .0 .1 .1 .0) × (a .w .end + a .m .metadata + a .m .early + a .m .objects + c .timestamp .given .0 .1 .1 .0 ≤ length (now (a .s)))
+    (7 ≤ c .timestamp .given .0 .1 .1 .0) × (a .front .end + a .middle .metadata + a .middle .early + a .middle .objects + c .timestamp .given .0 .1 .1 .0 ≤ length (now (a .s)))
 names-are c =
     let p = c .before .before .before .before .before .before .before .before .before .before .pre in
     names-long _ _ _ _ (p .1 .1) _ (p .2) (bytes (c .before .before .before .before .before .before .before .before .before)) (p .0) (name-mapping-is c .0)
@@ -68,7 +68,7 @@ add-t21 c =
     let a = c .before .before .before .before .before .before .before .before .before .before .before .args in
     let s = now (a .s) in
     let e = rw (rest-is _ s) at (sym (ap toldMapping (c .before .fault .given .1)) ∙ c .before .before .before .name-mapping .ensures .0) in
-    omega (arith, inside (c .before .before .before .before .before .before .before .before .before .before), length-drop (a .w .end + a .m .metadata + a .m .early + a .m .objects) s, told-in shownMapping (nameMapping (freeIn (now (a .ids)))) (drop (a .w .end + a .m .metadata + a .m .early + a .m .objects) s) e)
+    omega (arith, inside (c .before .before .before .before .before .before .before .before .before .before), length-drop (a .front .end + a .middle .metadata + a .middle .early + a .middle .objects) s, told-in shownMapping (nameMapping (freeIn (now (a .ids)))) (drop (a .front .end + a .middle .metadata + a .middle .early + a .middle .objects) s) e)
 
 enum-known-timestamp : tie.Need-enum-known-timestamp
 enum-known-timestamp c = search needs
@@ -108,7 +108,7 @@ returns : tie.Need-returns
 returns c =
     let a = c .before .before .before .before .before .before .before .before .before .before .before .args in
     let p = c .before .before .before .before .before .before .before .before .before .before .before .pre in
-    let at = a .w .end + a .m .metadata + a .m .early + a .m .objects in
+    let at = a .front .end + a .middle .metadata + a .middle .early + a .middle .objects in
     let r = nameMapping (freeIn (now (a .ids))) .read (drop at (now (a .s))) in
     let e = rw (rest-is at (now (a .s))) at (c .before .before .before .name-mapping .ensures) in
     let k = sym (ap toldMapping (c .before .fault .given .1)) ∙ e .0 in
@@ -118,7 +118,7 @@ returns-2 : tie.Need-returns-2
 returns-2 c =
     let a = c .before .before .before .before .before .before .before .before .before .before .before .before .before .before .before .before .before .before .args in
     let p = c .before .before .before .before .before .before .before .before .before .before .before .before .before .before .before .before .before .before .pre in
-    let at = a .w .end + a .m .metadata + a .m .early + a .m .objects in
+    let at = a .front .end + a .middle .metadata + a .middle .early + a .middle .objects in
     let e = name-mapping-is (c .before .before .before .before .before .before .before .before) in (
       (λ t F. c .before .before .before .ending .ensures (freeIn t) (rw (c .before .before .before .before .before .without-late-timers .ensures, c .before .before .before .before .before .before .rows-of .ensures) (names-upto t _ _ _ F _ (p .2) (bytes (c .before .before .before .before .before .before .before .before .before .before .before .before .before .before .before .before .before)) (p .0) (e .0) _ (e .1)))),
       rw (rest-is (at + 7) (now (a .s))) at (c .unmark .ensures) ∙ names-restored _ _ _ _ (p .1 .1) _ (p .2) (bytes (c .before .before .before .before .before .before .before .before .before .before .before .before .before .before .before .before .before)) (p .0) (e .0) _ (e .1),

@@ -17,11 +17,11 @@ use Rattle.mapblock.proofs.scan.plain_front.Tie as tie
 abbrev start : tie.After-node-data → tie.Start
 start c = c .before .before .before .before
 
-told : (c : tie.After-node-data) {r : Reach} → c .node-data .result ≡ r → let a = start c .args in toldReach r ≡ ended (nodes (a .o .version) .read (drop (a .at) (now (a .s))))
+told : (c : tie.After-node-data) {r : Reach} → c .node-data .result ≡ r → let a = start c .args in toldReach r ≡ ended (nodes (a .fields .version) .read (drop (a .at) (now (a .s))))
 told c e = sym (ap toldReach e) ∙ (rw rest-is at (c .node-data .ensures))
 
 place : (c : tie.After-node-data) {r : Reach} → c .node-data .result ≡ r → let a = start c .args in a .at + reach (toldReach r) ≤ length (now (a .s))
-place c e = let a = start c .args in opened-in (λ _. tt) (nodes (a .o .version)) (now (a .s)) (start c .pre .1) (told c e)
+place c e = let a = start c .args in opened-in (λ _. tt) (nodes (a .fields .version)) (now (a .s)) (start c .pre .1) (told c e)
 
 sized-requires : tie.Need-sized-requires
 sized-requires c κs = search needs

@@ -12,10 +12,10 @@ use mathlib.Core.Path.{_∙_}
 use Rattle.mapblock.proofs.scan.scan.Statement.{statement}
 use Rattle.mapblock.proofs.scan.scan.Tie as tie
 
-front-is : (c : tie.After-w) → let a = c .before .before .before .before .before .args in FrontIs (now (a .ids)) (c .before .before .front .last .1 .0) (now (a .s)) (c .w .given .0 .0)
-front-is c = rw (c .w .given .1) at (c .before .before .front .ensures)
+front-is : (c : tie.After-found) → let a = c .before .before .before .before .before .args in FrontIs (now (a .ids)) (c .before .before .front .last .1 .0) (now (a .s)) (c .found .given .0 .0)
+front-is c = rw (c .found .given .1) at (c .before .before .front .ensures)
 
-long : (c : tie.After-w) → 11 ≤ length (now (c .before .before .before .before .before .args .s))
+long : (c : tie.After-found) → 11 ≤ length (now (c .before .before .before .before .before .args .s))
 long c = omega (arith, front-inside _ _ _ _ (front-is c), front-is c .ends)
 
 front-requires : tie.Need-front-requires
@@ -24,8 +24,8 @@ front-requires c κs = search needs
 enum-known-fault : tie.Need-enum-known-fault
 enum-known-fault c = search needs
 
-enum-known-w : tie.Need-enum-known-w
-enum-known-w c = search needs
+enum-known-found : tie.Need-enum-known-found
+enum-known-found c = search needs
 
 behind-front-requires : tie.Need-behind-front-requires
 behind-front-requires c κs = (_, front-is (c .before .before))
@@ -57,7 +57,7 @@ scan-spec =
     (tie.spec
     front-requires
     enum-known-fault
-    enum-known-w
+    enum-known-found
     behind-front-requires
     sub-unmark
     part-unmark-start

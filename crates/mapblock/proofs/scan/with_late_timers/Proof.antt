@@ -3,7 +3,7 @@ use Rattle.mapblock.proofs.scan.with_late_timers.Statement.{statement}
 use Rattle.mapblock.proofs.scan.with_late_timers.Tie as tie
 
 returns : tie.Need-returns
-returns c = rw (lt-leb 25 (c .before .before .before .args .w .head .version) (c .if1 .taken))
+returns c = rw (lt-leb 25 (c .before .before .before .args .scanned .head .version) (c .if1 .taken))
 
 rows-of-requires : tie.Need-rows-of-requires
 rows-of-requires c κs =
@@ -12,7 +12,7 @@ rows-of-requires c κs =
 
 returns-2 : tie.Need-returns-2
 returns-2 c =
-    let w = c .before .before .before .before .before .before .before .before .args .w in
+    let w = c .before .before .before .before .before .before .before .before .args .scanned in
     rw (c .rows-of .ensures, le-leb 25 (w .head .version) (c .before .before .before .before .before .if1 .left))
 
 pub with-late-timers-spec : {M : Type 1} → statement M
