@@ -25,7 +25,8 @@ use Rattle.mapblock.proofs.GoodRows.{either, fixed-ok}
 use Rattle.block_writer.specs.Frames.{nameFrame, metadataFrame, timerFrame, sectionRows}
 use Rattle.block_writer.specs.BlockParts.{BlockParts, headFits, param0Fits, fits, given, made, rowsMade, blockMade, WellTyped}
 use Rattle.block_writer.specs.Judging.{mappingOn, mappingFront, mappingBehind, timersLate}
-use Rattle.block_writer.specs.Sections.{Rows}
+use Rattle.block_writer.specs.Sections.{Rows, SectionRows}
+use Rattle.block_writer.specs.declared.counts.RowCounts.{RowCounts}
 use Rattle.block_writer.proofs.Framed.{savedFrame, metadataListFrame, earlyFrame, lateFrame, looser-both, name-mapping-looser, metadata-list-looser, early-looser, late-looser}
 use Rattle.block_writer.proofs.RowsJudging.{rows-ok, name-mapping-ok}
 use Rattle.block_writer.proofs.Fitting.{Fitting, fits-plain, fits-headFits, fits-timed}
@@ -173,14 +174,13 @@ block-settled p b held version h = settled-by p b held version (made-of p b h)
 
 -- from parts that fit and the rows of their sections
 module _ (p : BlockParts) (f : fits p ≡ true) where
-  pub made-by : {i j e g : ℕ} (l : List NameRow) (m : List MetadataRow) (o : List ObjectRow) (k : List TimerRow)
-      → Rows nameFrame (p .names) i l → Rows (metadataFrame (p .head .version)) (p .metadata) j m → Rows objectRow (p .objects) e o → Rows timerFrame (p .timers) g k
-      → MadeOf p (made p l m o k)
-  made-by l m o k x y z w = record {
+  pub made-by : {counts : RowCounts} (l : List NameRow) (m : List MetadataRow) (o : List ObjectRow) (k : List TimerRow)
+      → SectionRows (p .head .version) (p .names) (p .metadata) (p .objects) (p .timers) counts l m o k → MadeOf p (made p l m o k)
+  made-by l m o k w = record {
     fitting = fits-plain p .0 f;
-    names = record { are = x .are; many = refl };
-    metadata = record { are = y .are; many = refl };
-    objects = record { are = z .are; many = refl };
-    timers = record { are = w .are; many = refl };
+    names = record { are = w .names .are; many = refl };
+    metadata = record { are = w .metadata .are; many = refl };
+    objects = record { are = w .objects .are; many = refl };
+    timers = record { are = w .timers .are; many = refl };
     same = refl;
   }

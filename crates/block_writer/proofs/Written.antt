@@ -23,7 +23,7 @@ use Rattle.mapblock.proofs.Taken.{taken}
 use Rattle.block_writer.specs.Frames.{nameFrame, metadataFrame, timerFrame}
 use Rattle.block_writer.specs.BlockParts.{BlockParts, fits, made, rowsMade, blockMade, WellTyped}
 use Rattle.block_writer.specs.Measured.{bytesFor, Written}
-use Rattle.block_writer.specs.Sections.{Rows, countsOf, countsIn}
+use Rattle.block_writer.specs.Sections.{SectionRows, countsOf, countsIn}
 use Rattle.block_writer.specs.Judging.{Small}
 use Rattle.block_writer.specs.Write.{judgedBytes, writeOf}
 use Rattle.block_writer.specs.declared.counts.RowCounts.{RowCounts}
@@ -74,14 +74,8 @@ module _ (p : BlockParts) (c : RowCounts) (f : fits p ≡ true) (h : some c ≡ 
   unfolding blockIs
   count-is = counted .2
 
-  pub record Judgeable : Type 0 where
-    pub names : Rows nameFrame (p .names) (c .names) (blockIs .names)
-    pub metadata : Rows (metadataFrame (p .head .version)) (p .metadata) (c .metadata) (blockIs .metadata)
-    pub objects : Rows objectRow (p .objects) (c .objects) (blockIs .objects)
-    pub timers : Rows timerFrame (p .timers) (c .timers) (blockIs .timers)
-
-  pub judgeable : Judgeable
-  judgeable = let m = parts-are in record {
+  pub section-rows : SectionRows (p .head .version) (p .names) (p .metadata) (p .objects) (p .timers) c (blockIs .names) (blockIs .metadata) (blockIs .objects) (blockIs .timers)
+  section-rows = let m = parts-are in record {
     names = record { are = m .names .are; many = ap (λ (c : RowCounts). c .names) count-is };
     metadata = record { are = m .metadata .are; many = ap (λ (c : RowCounts). c .metadata) count-is };
     objects = record { are = m .objects .are; many = ap (λ (c : RowCounts). c .objects) count-is };
@@ -90,12 +84,12 @@ module _ (p : BlockParts) (c : RowCounts) (f : fits p ≡ true) (h : some c ≡ 
 
   module _ (held : WellTyped p) where
     pub small : Small (p .names) × (Small (p .objects) × Small (p .timers))
-    small = let j = judgeable in (names-small (held .names) (j .names), (objects-small (held .objects) (j .objects), timers-small (held .timers) (j .timers)))
+    small = let j = section-rows in (names-small (held .names) (j .names), (objects-small (held .objects) (j .objects), timers-small (held .timers) (j .timers)))
 
     -- the bytes that are laid
     bytes-are : block all .encode blockIs ≡ bytesFor p c
     bytes-are =
-        let j = judgeable in
+        let j = section-rows in
         let b = blockIs in
         ap (block all .encode) (sym (parts-are .same))
         ∙ encoded p c (b .names) (b .metadata) (b .objects) (b .timers) (held .param1) (held .param2) (j .names .many) (j .metadata .many) (j .objects .many) (j .timers .many)

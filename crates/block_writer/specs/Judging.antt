@@ -3,19 +3,22 @@ use Prim.Native.Nat.{ℕ, _+_, _*_, _<_, _≤_}
 use mathlib.Core.Path.{_≡_}
 use mathlib.Core.Option.{Option}
 use mathlib.Core.List.{List}
-use mathlib.Core.Bool.{Bool, cond}
+use mathlib.Core.Bool.{Bool, true, cond}
 use lib.ListN.{length, getD}
 use Rattle.wire.specs.Read.{Read, done}
 use Rattle.wire.specs.Formats.{_▹_, only}
 use Rattle.mapblock.specs.Inventory.{Form}
 use Rattle.mapblock.specs.Data.{NameRow, MetadataRow, ObjectRow, TimerRow, Opening, NameMapping, Timers, Nodes, Front, Rest, noMapping, noTimers}
-use Rattle.mapblock.specs.Layout.{since, before, width, unmapped, nameMapping, front, rest, lateTimers}
-use Rattle.mapblock.specs.Block.{contentId, firstFrom}
+use Rattle.mapblock.specs.Layout.{since, before, all, width, isVersion, unmapped, nameMapping, front, rest, lateTimers}
+use Rattle.mapblock.specs.Block.{contentId, firstFrom, block, verdict}
 use Rattle.mapblock.specs.Scan as scan
 use Rattle.mapblock.specs.Table.{freeIn, Tabled}
 use Rattle.mapblock.specs.Told.{ended}
 use Rattle.mapblock.specs.declared.fault.Fault.{Fault}
 use Rattle.mapblock.specs.declared.head.Head.{Head}
+use Rattle.block_writer.specs.BlockParts.{BlockParts, WellTyped, fits, made}
+use Rattle.block_writer.specs.Sections.{SectionRows}
+use Rattle.block_writer.specs.declared.counts.RowCounts.{RowCounts}
 
 -- what is said of a value's bytes, but for the value
 abbrev pub verdictOn : {A : Type 0} → Form A → A → Read Fault (Unit {0})
@@ -86,6 +89,21 @@ pub record RestJudged (t u : List ℕ) (h : Head) (l : List NameRow) (m : List M
   pub judged : (free : ℕ → Bool) → (h .version < 29 → free ≡ freeIn t) → r ≡ verdictOn (rest free (h .version)) (restOn h l m o k)
   pub marks : (n : ℕ) → h .version < 29 → r ≡ done tt n → Tabled 65536 (unmapped (freeIn t) l) u
   pub kept : 29 ≤ h .version → u ≡ t
+
+-- ---- the whole block
+-- parts that may be judged: they fit, and no length passes a usize
+pub record Judgeable (p : BlockParts) : Type 0 where
+  pub version : isVersion (p .head .version) ≡ true
+  pub fit : fits p ≡ true
+  pub typed : WellTyped p
+  pub small : Small (p .names) × (Small (p .objects) × Small (p .timers))
+
+-- the reader's verdict on the bytes of the block that the parts make
+abbrev pub BlockJudged : BlockParts → RowCounts → Read Fault (Unit {0}) → Type 0
+BlockJudged p counts r =
+    (l : List NameRow) (m : List MetadataRow) (o : List ObjectRow) (k : List TimerRow)
+    → SectionRows (p .head .version) (p .names) (p .metadata) (p .objects) (p .timers) counts l m o k
+    → r ≡ ended (verdict all (block all .encode (made p l m o k)))
 
 -- ---- content ids
 -- whether a node's id has no mark in the table, and the first node whose id has none

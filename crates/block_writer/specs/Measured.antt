@@ -14,15 +14,15 @@ use Rattle.block_writer.specs.declared.measure.Measured.the-variants as 
 
 -- the bytes to be laid
 abbrev pub bytesFor : BlockParts → RowCounts → List ℕ
-bytesFor p c = blockBytes (p .head) c (p .param0) (p .param1) (p .param2) (p .names) (p .metadata) (p .objects) (p .timers)
+bytesFor p counts = blockBytes (p .head) counts (p .param0) (p .param1) (p .param2) (p .names) (p .metadata) (p .objects) (p .timers)
 
 -- n bytes, which are written wherever they fit
-pub record Written (p : BlockParts) (c : RowCounts) (n : ℕ) : Type 0 where
-  pub long : n ≡ length (bytesFor p c)
-  pub in-room : (room : ℕ) → n ≤ room → writeOf p room ≡ good (bytesFor p c)
+pub record Written (p : BlockParts) (counts : RowCounts) (n : ℕ) : Type 0 where
+  pub long : n ≡ length (bytesFor p counts)
+  pub in-room : (room : ℕ) → n ≤ room → writeOf p room ≡ good (bytesFor p counts)
   pub no-room : (room : ℕ) → room < n → writeOf p room ≡ plain noRoom
 
 abbrev pub MeasuredAs : BlockParts → Measured → Type 0
-MeasuredAs p (measured.Fits c n) = Written p c n
+MeasuredAs p (measured.Fits counts n) = Written p counts n
 MeasuredAs p measured.Misfit = (room : ℕ) → writeOf p room ≡ plain partsMisfit
 MeasuredAs p (measured.Refused f q) = (room : ℕ) → writeOf p room ≡ refusal (refusalNumber f) 0 q

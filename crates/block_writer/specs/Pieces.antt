@@ -52,13 +52,13 @@ frontBytes h count names param0 param1 param2 =
 
 -- steps 5 to 8
 abbrev pub restBytes : Head → RowCounts → List ℕ → List ℕ → List ℕ → List ℕ → List ℕ
-restBytes h c names metadata objects timers =
-    metadataBytes (h .version) (c .metadata) metadata
-    ++ (earlyBytes (h .version) (h .timer) (c .timers) timers
-    ++ (objectsBytes (c .objects) objects
-    ++ (cond (before 29 (h .version)) (mappingBytes (h .timestamp) (c .names) names) []
-    ++ lateBytes (h .version) (c .timers) timers)))
+restBytes h counts names metadata objects timers =
+    metadataBytes (h .version) (counts .metadata) metadata
+    ++ (earlyBytes (h .version) (h .timer) (counts .timers) timers
+    ++ (objectsBytes (counts .objects) objects
+    ++ (cond (before 29 (h .version)) (mappingBytes (h .timestamp) (counts .names) names) []
+    ++ lateBytes (h .version) (counts .timers) timers)))
 
 unfoldable pub blockBytes : Head → RowCounts → List ℕ → List ℕ → List ℕ → List ℕ → List ℕ → List ℕ → List ℕ → List ℕ
-blockBytes h c param0 param1 param2 names metadata objects timers =
-    frontBytes h (c .names) names param0 param1 param2 ++ restBytes h c names metadata objects timers
+blockBytes h counts param0 param1 param2 names metadata objects timers =
+    frontBytes h (counts .names) names param0 param1 param2 ++ restBytes h counts names metadata objects timers

@@ -19,7 +19,7 @@ use Rattle.block_writer.specs.declared.frames.RowCount.{RowCount}
 use Rattle.block_writer.specs.declared.frames.RowCount.the-variants as rowCount
 use Rattle.block_writer.specs.declared.counts.RowCounts.{RowCounts}
 use Rattle.block_writer.specs.declared.counts.RowCountsRead.{RowCountsRead}
-use Rattle.block_writer.specs.declared.counts.RowCountsRead.the-variants as prefixed
+use Rattle.block_writer.specs.declared.counts.RowCountsRead.the-variants as countsRead
 
 abbrev pub RowOf : SectionKind → Type 0
 RowOf section.Names = NameRow
@@ -60,10 +60,18 @@ countsIn v names metadata objects timers =
     some (record { names = a; metadata = b; objects = c; timers = d })
 
 abbrev pub toldCounts : RowCountsRead → Option RowCounts
-toldCounts (prefixed.Rows c) = some c
-toldCounts prefixed.NotWhole = none
+toldCounts (countsRead.Rows counts) = some counts
+toldCounts countsRead.NotWhole = none
 
 -- bytes that are so many rows
 pub record Rows {A : Type 0} (f : Form A) (s : List ℕ) (count : ℕ) (l : List A) : Type 0 where
   pub are : sectionRows f s ≡ some l
   pub many : length l ≡ count
+
+-- the rows that the bytes of the four sections are, so many of each
+pub record SectionRows (version : ℕ) (nameBytes metadataBytes objectBytes timerBytes : List ℕ) (counts : RowCounts)
+    (l : List NameRow) (m : List MetadataRow) (o : List ObjectRow) (k : List TimerRow) : Type 0 where
+  pub names : Rows nameFrame nameBytes (counts .names) l
+  pub metadata : Rows (metadataFrame version) metadataBytes (counts .metadata) m
+  pub objects : Rows objectRow objectBytes (counts .objects) o
+  pub timers : Rows timerFrame timerBytes (counts .timers) k

@@ -29,22 +29,22 @@ pub(crate) fn count_all(
         ≡ countsIn version (now (names .entry)) (now (metadata .entry)) (now (objects .entry))
         (now (timers .entry)) ⌝ }
 {
-    let RowCount::Rows(a) = row_count(SectionKind::Names, version, names) else {
+    let RowCount::Rows(name_rows) = row_count(SectionKind::Names, version, names) else {
         return RowCountsRead::NotWhole;
     };
-    let RowCount::Rows(b) = row_count(SectionKind::Metadata, version, metadata) else {
+    let RowCount::Rows(metadata_rows) = row_count(SectionKind::Metadata, version, metadata) else {
         return RowCountsRead::NotWhole;
     };
-    let RowCount::Rows(c) = row_count(SectionKind::Objects, version, objects) else {
+    let RowCount::Rows(object_rows) = row_count(SectionKind::Objects, version, objects) else {
         return RowCountsRead::NotWhole;
     };
     match row_count(SectionKind::Timers, version, timers) {
         RowCount::NotWhole => RowCountsRead::NotWhole,
-        RowCount::Rows(d) => RowCountsRead::Rows(RowCounts {
-            names: a,
-            metadata: b,
-            objects: c,
-            timers: d,
+        RowCount::Rows(timer_rows) => RowCountsRead::Rows(RowCounts {
+            names: name_rows,
+            metadata: metadata_rows,
+            objects: object_rows,
+            timers: timer_rows,
         }),
     }
 }

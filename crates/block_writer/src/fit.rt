@@ -62,9 +62,8 @@ fn timers_fit(head: Head, timers: &[u8]) -> bool
 
 // Whether head, lists and timers fit together.
 pub(crate) fn fit(head: Head, param0: &[u16], param1: &[u8], param2: &[u8], timers: &[u8]) -> bool
-    ensures { λ r. ⌜ r ≡ fits
-        (blockParts head (now (param0 .entry)) (now (param1 .entry)) (now (param2 .entry)) [] [] []
-        (now (timers .entry))) ⌝ }
+    ensures { λ r. ⌜ r ≡ fits (blockParts head (now (param0 .entry)) (now (param1 .entry)) (now (param2 .entry))
+        [] [] [] (now (timers .entry))) ⌝ }
 {
     if !are_whole(param0.len(), param1.len(), param2.len()) {
         return false;

@@ -26,15 +26,14 @@ ghost use lib.ListN.{length};
 ghost use Rattle.wire.specs.Read.{done, shift, reach};
 ghost use Rattle.wire.specs.Formats.{listed};
 ghost use Rattle.mapblock.specs.Data.{NameRow, MetadataRow, ObjectRow, TimerRow, NameMapping, Nodes};
-ghost use Rattle.mapblock.specs.Layout.{all, isVersion, metadata, nodes, objectRow, timerRow, earlyTimers, lateTimers};
-ghost use Rattle.mapblock.specs.Block.{block, verdict};
+ghost use Rattle.mapblock.specs.Layout.{isVersion, metadata, nodes, timerRow, earlyTimers, lateTimers};
 ghost use Rattle.wire.specs.Ranges.{InReach};
-ghost use Rattle.mapblock.specs.Told.{toldReach, ended, toldUnmapped};
+ghost use Rattle.mapblock.specs.Told.{toldReach, toldUnmapped};
 ghost use Rattle.block_writer.specs.Frames.{nameFrame, metadataFrame, timerFrame};
-ghost use Rattle.block_writer.specs.BlockParts.{WellTyped, headFits, param0Fits, timersFit, fits, blockParts, made};
-ghost use Rattle.block_writer.specs.Sections.{Rows};
+ghost use Rattle.block_writer.specs.BlockParts.{headFits, param0Fits, timersFit, blockParts};
+ghost use Rattle.block_writer.specs.Sections.{Rows, SectionRows};
 ghost use Rattle.block_writer.specs.Measured.{MeasuredAs};
-ghost use Rattle.block_writer.specs.Judging.{verdictOn, Small, timersEarly, timersLate, timersOn, openingLength, listsLength, MappingJudged, FrontJudged, EndingJudged, RestJudged, firstUnmappedAmong};
+ghost use Rattle.block_writer.specs.Judging.{verdictOn, Small, timersEarly, timersLate, timersOn, openingLength, listsLength, MappingJudged, FrontJudged, EndingJudged, RestJudged, Judgeable, BlockJudged, firstUnmappedAmong};
 
 // What was said of bytes, told from a place so many bytes before them.
 fn shift(at: usize, r: Reach) -> Reach
@@ -52,8 +51,8 @@ fn shift(at: usize, r: Reach) -> Reach
 
 // Timestamp and names; the ids are marked.
 fn judge_name_mapping(names: &[u8], count: u16, ids: &mut [u8; IDS]) -> Reach
-    ensures told { λ r. ⌜
-        ((x : NameMapping) → x .timestamp < 4294967296 → Rows nameFrame (now (names .entry)) count (x .names)
+    ensures told { λ r. ⌜ ((x : NameMapping) → x .timestamp < 4294967296
+        → Rows nameFrame (now (names .entry)) count (x .names)
         → MappingJudged (now (ids .entry)) (now (ids .exit)) x (toldReach r)) ⌝ }
     ensures bounded { λ r. ⌜ reach (toldReach r) ≤ 7 + length (now (names .entry)) ⌝ }
 {
@@ -62,9 +61,8 @@ fn judge_name_mapping(names: &[u8], count: u16, ids: &mut [u8; IDS]) -> Reach
 
 // The metadata list.
 fn judge_metadata(version: u8, list: &[u8], count: u16) -> Reach
-    ensures told { λ r. ⌜
-        ((l : List MetadataRow) → Rows (metadataFrame version) (now (list .entry)) count l → toldReach r
-        ≡ verdictOn (metadata version) l) ⌝ }
+    ensures told { λ r. ⌜ ((l : List MetadataRow) → Rows (metadataFrame version) (now (list .entry)) count l
+        → toldReach r ≡ verdictOn (metadata version) l) ⌝ }
     ensures bounded { λ r. ⌜ reach (toldReach r) ≤ 4 + length (now (list .entry)) ⌝ }
 {
     shift(
@@ -75,9 +73,8 @@ fn judge_metadata(version: u8, list: &[u8], count: u16) -> Reach
 
 // A count of timers and their rows.
 fn judge_timers(version: u8, timers: &[u8], count: u16) -> Reach
-    ensures told { λ r. ⌜
-        ((l : List TimerRow) → Rows timerFrame (now (timers .entry)) count l → toldReach r
-        ≡ verdictOn (listed 2 timerRow) l) ⌝ }
+    ensures told { λ r. ⌜ ((l : List TimerRow) → Rows timerFrame (now (timers .entry)) count l
+        → toldReach r ≡ verdictOn (listed 2 timerRow) l) ⌝ }
     ensures bounded { λ r. ⌜ reach (toldReach r) ≤ 2 + length (now (timers .entry)) ⌝ }
 {
     shift(2, rows(ListKind::Timers, version, timers, count))
@@ -85,9 +82,8 @@ fn judge_timers(version: u8, timers: &[u8], count: u16) -> Reach
 
 // Version 24's timer byte, and its timers where that is 1.
 fn judge_timers_24(head: Head, timers: &[u8], count: u16) -> Reach
-    ensures told { λ r. ⌜
-        ((l : List TimerRow) → Rows timerFrame (now (timers .entry)) count l → toldReach r
-        ≡ verdictOn (earlyTimers 24) (timersOn head l)) ⌝ }
+    ensures told { λ r. ⌜ ((l : List TimerRow) → Rows timerFrame (now (timers .entry)) count l
+        → toldReach r ≡ verdictOn (earlyTimers 24) (timersOn head l)) ⌝ }
     ensures bounded { λ r. ⌜ reach (toldReach r) ≤ 3 + length (now (timers .entry)) ⌝ }
 {
     if 1 < head.timer {
@@ -104,10 +100,9 @@ fn judge_timers_24(head: Head, timers: &[u8], count: u16) -> Reach
 
 // What follows the metadata.
 fn judge_early_timers(head: Head, timers: &[u8], count: u16) -> Reach
-    ensures told { λ r. ⌜
-        ((l : List TimerRow) → Rows timerFrame (now (timers .entry)) count l → headFits head ≡ true
-        → timersFit head (now (timers .entry)) ≡ true → toldReach r
-        ≡ verdictOn (earlyTimers (head .version)) (timersEarly head l)) ⌝ }
+    ensures told { λ r. ⌜ ((l : List TimerRow) → Rows timerFrame (now (timers .entry)) count l
+        → headFits head ≡ true → timersFit head (now (timers .entry)) ≡ true
+        → toldReach r ≡ verdictOn (earlyTimers (head .version)) (timersEarly head l)) ⌝ }
     ensures bounded { λ r. ⌜ reach (toldReach r) ≤ 3 + length (now (timers .entry)) ⌝ }
 {
     if head.version == 24 {
@@ -121,9 +116,8 @@ fn judge_early_timers(head: Head, timers: &[u8], count: u16) -> Reach
 
 // The timers at the end, from version 25.
 fn judge_late_timers(head: Head, timers: &[u8], count: u16) -> Reach
-    ensures told { λ r. ⌜
-        ((l : List TimerRow) → Rows timerFrame (now (timers .entry)) count l → headFits head ≡ true → toldReach r
-        ≡ verdictOn (lateTimers (head .version)) (timersLate head l)) ⌝ }
+    ensures told { λ r. ⌜ ((l : List TimerRow) → Rows timerFrame (now (timers .entry)) count l → headFits head ≡ true
+        → toldReach r ≡ verdictOn (lateTimers (head .version)) (timersLate head l)) ⌝ }
     ensures bounded { λ r. ⌜ reach (toldReach r) ≤ 3 + length (now (timers .entry)) ⌝ }
 {
     if head.version < 25 {
@@ -133,28 +127,35 @@ fn judge_late_timers(head: Head, timers: &[u8], count: u16) -> Reach
 }
 
 // Behind the static objects: names before version 29, and the timers at the end.
-fn judge_ending(head: Head, c: RowCounts, names: &[u8], timers: &[u8], ids: &mut [u8; IDS]) -> Reach
+fn judge_ending(
+    head: Head,
+    counts: RowCounts,
+    names: &[u8],
+    timers: &[u8],
+    ids: &mut [u8; IDS],
+) -> Reach
     requires { ⌜ Small (now names) × Small (now timers) ⌝ }
-    ensures told { λ r. ⌜
-        ((l : List NameRow) (k : List TimerRow) → Rows nameFrame (now (names .entry)) (c .names) l
-        → Rows timerFrame (now (timers .entry)) (c .timers) k → headFits head ≡ true
+    ensures told { λ r. ⌜ ((l : List NameRow) (k : List TimerRow)
+        → Rows nameFrame (now (names .entry)) (counts .names) l
+        → Rows timerFrame (now (timers .entry)) (counts .timers) k
+        → headFits head ≡ true
         → EndingJudged (now (ids .entry)) (now (ids .exit)) head l k (toldReach r)) ⌝ }
     ensures bounded { λ r. ⌜ reach (toldReach r) ≤ 10 + length (now (names .entry)) + length (now (timers .entry)) ⌝ }
 {
     if 29 <= head.version {
-        return judge_late_timers(head, timers, c.timers);
+        return judge_late_timers(head, timers, counts.timers);
     }
-    let mapping = judge_name_mapping(names, c.names, ids);
+    let mapping = judge_name_mapping(names, counts.names, ids);
     let Reach::End(n) = mapping else {
         return mapping;
     };
-    shift(n, judge_late_timers(head, timers, c.timers))
+    shift(n, judge_late_timers(head, timers, counts.timers))
 }
 
 // What follows the node data; of static objects the reader refuses none.
 fn judge_rest(
     head: Head,
-    c: RowCounts,
+    counts: RowCounts,
     names: &[u8],
     metadata: &[u8],
     objects: &[u8],
@@ -162,27 +163,25 @@ fn judge_rest(
     ids: &mut [u8; IDS],
 ) -> Reach
     requires { ⌜ Small (now names) × (Small (now objects) × Small (now timers)) ⌝ }
-    ensures told { λ r. ⌜
-        ((l : List NameRow) (m : List MetadataRow) (o : List ObjectRow) (k : List TimerRow)
-        → Rows nameFrame (now (names .entry)) (c .names) l
-        → Rows (metadataFrame (head .version)) (now (metadata .entry)) (c .metadata) m
-        → Rows objectRow (now (objects .entry)) (c .objects) o → Rows timerFrame (now (timers .entry)) (c .timers) k
+    ensures told { λ r. ⌜ ((l : List NameRow) (m : List MetadataRow) (o : List ObjectRow) (k : List TimerRow)
+        → SectionRows (head .version) (now (names .entry)) (now (metadata .entry)) (now (objects .entry))
+        (now (timers .entry)) counts l m o k
         → headFits head ≡ true → timersFit head (now (timers .entry)) ≡ true
         → RestJudged (now (ids .entry)) (now (ids .exit)) head l m o k (toldReach r)) ⌝ }
-    ensures bounded { λ r. ⌜ reach (toldReach r) ≤ 20 + length (now (metadata .entry)) + length
-        (now (names .entry)) + length (now (objects .entry)) + length (now (timers .entry)) + length
-        (now (timers .entry)) ⌝ }
+    ensures bounded { λ r. ⌜ reach (toldReach r) ≤ 20
+        + length (now (metadata .entry)) + length (now (names .entry)) + length (now (objects .entry))
+        + length (now (timers .entry)) + length (now (timers .entry)) ⌝ }
 {
-    let first = judge_metadata(head.version, metadata, c.metadata);
+    let first = judge_metadata(head.version, metadata, counts.metadata);
     let Reach::End(a) = first else {
         return first;
     };
-    let second = judge_early_timers(head, timers, c.timers);
+    let second = judge_early_timers(head, timers, counts.timers);
     let Reach::End(b) = second else {
         return shift(a, second);
     };
     let at = a + b + LIST_HEAD_LENGTH + objects.len();
-    shift(at, judge_ending(head, c, names, timers, ids))
+    shift(at, judge_ending(head, counts, names, timers, ids))
 }
 
 // The bytes of step 1.
@@ -202,12 +201,11 @@ fn lists_length(version: u8) -> usize
 // Up to the end of the node data. In version 29 the ids of the names are marked.
 fn judge_front(head: Head, names: &[u8], count: u16, ids: &mut [u8; IDS]) -> Reach
     requires { ⌜ Small (now names) ⌝ }
-    ensures told { λ r. ⌜
-        ((l : List NameRow) (n : Nodes) → Rows nameFrame (now (names .entry)) count l → isVersion (head .version)
-        ≡ true → headFits head ≡ true → nodes (head .version) .Ok n
+    ensures told { λ r. ⌜ ((l : List NameRow) (n : Nodes) → Rows nameFrame (now (names .entry)) count l
+        → isVersion (head .version) ≡ true → headFits head ≡ true → nodes (head .version) .Ok n
         → FrontJudged (now (ids .entry)) (now (ids .exit)) head l n (toldReach r)) ⌝ }
     ensures bounded { λ r. ⌜ reach (toldReach r) ≤ 16397 + length (now (names .entry)) ⌝ }
-    ensures { λ r. ⌜ ((n : ℕ) → toldReach r ≡ done tt n → listsLength (head .version) ≤ n) ⌝ }
+    ensures holds_lists { λ r. ⌜ ((n : ℕ) → toldReach r ≡ done tt n → listsLength (head .version) ≤ n) ⌝ }
 {
     let opening = opening_length(head.version);
     let nodes = 2 + lists_length(head.version);
@@ -241,7 +239,7 @@ fn first_unmapped(version: u8, param0: &[u16], param2: &[u8], ids: &[u8; IDS]) -
 // Of the whole block.
 fn judge(
     head: Head,
-    c: RowCounts,
+    counts: RowCounts,
     param0: &[u16],
     param1: &[u8],
     param2: &[u8],
@@ -250,29 +248,19 @@ fn judge(
     objects: &[u8],
     timers: &[u8],
 ) -> Reach
-    requires { ⌜ (isVersion (head .version) ≡ true)
-        × (fits (blockParts head (now param0) (now param1) (now param2) (now names) (now metadata) (now objects)
-        (now timers)) ≡ true) ⌝ }
-    requires { ⌜ WellTyped
-        (blockParts head (now param0) (now param1) (now param2) (now names) (now metadata) (now objects)
-        (now timers)) ⌝ }
-    requires { ⌜ Small (now names) × (Small (now objects) × Small (now timers)) ⌝ }
-    ensures { λ r. ⌜ ((l : List NameRow) (m : List MetadataRow) (o : List ObjectRow) (k : List TimerRow)
-        → Rows nameFrame (now (names .entry)) (c .names) l
-        → Rows (metadataFrame (head .version)) (now (metadata .entry)) (c .metadata) m
-        → Rows objectRow (now (objects .entry)) (c .objects) o → Rows timerFrame (now (timers .entry)) (c .timers) k
-        → toldReach r ≡ ended
-        (verdict all (block all .encode
-        (made (blockParts head (now (param0 .entry)) (now (param1 .entry)) (now (param2 .entry)) (now (names .entry))
-        (now (metadata .entry)) (now (objects .entry)) (now (timers .entry))) l m o k)))) ⌝ }
+    requires { ⌜ Judgeable (blockParts head (now param0) (now param1) (now param2)
+        (now names) (now metadata) (now objects) (now timers)) ⌝ }
+    ensures { λ r. ⌜ BlockJudged (blockParts head (now (param0 .entry)) (now (param1 .entry)) (now (param2 .entry))
+        (now (names .entry)) (now (metadata .entry)) (now (objects .entry)) (now (timers .entry)))
+        counts (toldReach r) ⌝ }
 {
     let mut ids = [0u8; IDS];
     let version = head.version;
-    let front = judge_front(head, names, c.names, &mut ids);
+    let front = judge_front(head, names, counts.names, &mut ids);
     let Reach::End(a) = front else {
         return front;
     };
-    let rest = judge_rest(head, c, names, metadata, objects, timers, &mut ids);
+    let rest = judge_rest(head, counts, names, metadata, objects, timers, &mut ids);
     let Reach::End(b) = rest else {
         return shift(a, rest);
     };
@@ -305,9 +293,8 @@ pub(crate) fn measure(
     objects: &[u8],
     timers: &[u8],
 ) -> Measured
-    ensures { λ r. ⌜ MeasuredAs
-        (blockParts head (now (param0 .entry)) (now (param1 .entry)) (now (param2 .entry)) (now (names .entry))
-        (now (metadata .entry)) (now (objects .entry)) (now (timers .entry))) r ⌝ }
+    ensures { λ r. ⌜ MeasuredAs (blockParts head (now (param0 .entry)) (now (param1 .entry)) (now (param2 .entry))
+        (now (names .entry)) (now (metadata .entry)) (now (objects .entry)) (now (timers .entry))) r ⌝ }
 {
     if !is_version(head.version) {
         return Measured::Refused {
@@ -320,9 +307,9 @@ pub(crate) fn measure(
     }
     match count_all(head.version, names, metadata, objects, timers) {
         RowCountsRead::NotWhole => Measured::Misfit,
-        RowCountsRead::Rows(c) => match judge(
+        RowCountsRead::Rows(counts) => match judge(
             head,
-            c,
+            counts,
             param0,
             param1,
             param2,
@@ -332,10 +319,7 @@ pub(crate) fn measure(
             timers,
         ) {
             Reach::Refused { fault, offset } => Measured::Refused { fault, offset },
-            Reach::End(n) => Measured::Fits {
-                counts: c,
-                length: n,
-            },
+            Reach::End(n) => Measured::Fits { counts, length: n },
         },
     }
 }

@@ -50,8 +50,8 @@ fn put_list(out: &mut [u8], at: usize, count: u16, rows: &[u8]) -> usize
 // The same behind a byte.
 fn put_byte_and_list(out: &mut [u8], at: usize, byte: u8, count: u16, rows: &[u8]) -> usize
     requires { ⌜ at + length (toBE 1 byte ++ listBytes count (now rows)) ≤ length (now out) ⌝ }
-    ensures { λ r. ⌜ PutAt at (toBE 1 byte ++ listBytes count (now (rows .entry))) (now (out .entry))
-        (now (out .exit)) r ⌝ }
+    ensures { λ r. ⌜ PutAt at (toBE 1 byte ++ listBytes count (now (rows .entry)))
+        (now (out .entry)) (now (out .exit)) r ⌝ }
 {
     put_u8(out, at, byte);
     put_list(out, at + 1, count, rows)
@@ -60,8 +60,8 @@ fn put_byte_and_list(out: &mut [u8], at: usize, byte: u8, count: u16, rows: &[u8
 // Timestamp and names.
 fn put_name_mapping(out: &mut [u8], at: usize, timestamp: u32, count: u16, rows: &[u8]) -> usize
     requires { ⌜ at + length (mappingBytes timestamp count (now rows)) ≤ length (now out) ⌝ }
-    ensures { λ r. ⌜ PutAt at (mappingBytes timestamp count (now (rows .entry))) (now (out .entry))
-        (now (out .exit)) r ⌝ }
+    ensures { λ r. ⌜ PutAt at (mappingBytes timestamp count (now (rows .entry)))
+        (now (out .entry)) (now (out .exit)) r ⌝ }
 {
     put_u32(out, at, timestamp);
     put_byte_and_list(out, at + 4, 0, count, rows)
@@ -95,8 +95,8 @@ fn put_narrow(out: &mut [u8], at: usize, param0: &[u16])
 // The version's width of each.
 fn put_param0(out: &mut [u8], at: usize, version: u8, param0: &[u16]) -> usize
     requires { ⌜ at + length (entryBytes (width version) (now param0)) ≤ length (now out) ⌝ }
-    ensures { λ r. ⌜ PutAt at (entryBytes (width version) (now (param0 .entry))) (now (out .entry))
-        (now (out .exit)) r ⌝ }
+    ensures { λ r. ⌜ PutAt at (entryBytes (width version) (now (param0 .entry)))
+        (now (out .entry)) (now (out .exit)) r ⌝ }
 {
     if version < 24 {
         put_narrow(out, at, param0);
@@ -138,8 +138,8 @@ fn put_nodes(
 // The metadata list. Version 22's list version is a u16.
 fn put_metadata(out: &mut [u8], at: usize, version: u8, count: u16, rows: &[u8]) -> usize
     requires { ⌜ at + length (metadataBytes version count (now rows)) ≤ length (now out) ⌝ }
-    ensures { λ r. ⌜ PutAt at (metadataBytes version count (now (rows .entry))) (now (out .entry))
-        (now (out .exit)) r ⌝ }
+    ensures { λ r. ⌜ PutAt at (metadataBytes version count (now (rows .entry)))
+        (now (out .entry)) (now (out .exit)) r ⌝ }
 {
     if version < 23 {
         put_u16(out, at, 1);
@@ -152,8 +152,8 @@ fn put_metadata(out: &mut [u8], at: usize, version: u8, count: u16, rows: &[u8])
 // What follows the metadata: version 24's timer byte and timers, version 23's 0.
 fn put_early(out: &mut [u8], at: usize, head: Head, count: u16, rows: &[u8]) -> usize
     requires { ⌜ at + length (earlyBytes (head .version) (head .timer) count (now rows)) ≤ length (now out) ⌝ }
-    ensures { λ r. ⌜ PutAt at (earlyBytes (head .version) (head .timer) count (now (rows .entry))) (now (out .entry))
-        (now (out .exit)) r ⌝ }
+    ensures { λ r. ⌜ PutAt at (earlyBytes (head .version) (head .timer) count (now (rows .entry)))
+        (now (out .entry)) (now (out .exit)) r ⌝ }
 {
     if head.version == 24 {
         if head.timer == 1 {
@@ -190,8 +190,8 @@ fn put_name_mapping_if(
     rows: &[u8],
 ) -> usize
     requires { ⌜ at + length (cond here (mappingBytes timestamp count (now rows)) []) ≤ length (now out) ⌝ }
-    ensures { λ r. ⌜ PutAt at (cond here (mappingBytes timestamp count (now (rows .entry))) []) (now (out .entry))
-        (now (out .exit)) r ⌝ }
+    ensures { λ r. ⌜ PutAt at (cond here (mappingBytes timestamp count (now (rows .entry))) [])
+        (now (out .entry)) (now (out .exit)) r ⌝ }
 {
     if here {
         return put_name_mapping(out, at, timestamp, count, rows);
@@ -209,10 +209,10 @@ fn put_front(
     param1: &[u8],
     param2: &[u8],
 ) -> usize
-    requires { ⌜ length (frontBytes head count (now names) (now param0) (now param1) (now param2)) ≤ length
-        (now out) ⌝ }
-    ensures { λ r. ⌜ PutAt 0
-        (frontBytes head count (now (names .entry)) (now (param0 .entry)) (now (param1 .entry)) (now (param2 .entry)))
+    requires { ⌜ length (frontBytes head count (now names) (now param0) (now param1) (now param2))
+        ≤ length (now out) ⌝ }
+    ensures { λ r. ⌜ PutAt 0 (frontBytes head count
+        (now (names .entry)) (now (param0 .entry)) (now (param1 .entry)) (now (param2 .entry)))
         (now (out .entry)) (now (out .exit)) r ⌝ }
 {
     let opened = put_opening(out, head);
@@ -232,37 +232,37 @@ fn put_rest(
     out: &mut [u8],
     at: usize,
     head: Head,
-    c: RowCounts,
+    counts: RowCounts,
     names: &[u8],
     metadata: &[u8],
     objects: &[u8],
     timers: &[u8],
 ) -> usize
-    requires { ⌜ at + length (restBytes head c (now names) (now metadata) (now objects) (now timers)) ≤ length
-        (now out) ⌝ }
-    ensures { λ r. ⌜ PutAt at
-        (restBytes head c (now (names .entry)) (now (metadata .entry)) (now (objects .entry)) (now (timers .entry)))
+    requires { ⌜ at + length (restBytes head counts (now names) (now metadata) (now objects) (now timers))
+        ≤ length (now out) ⌝ }
+    ensures { λ r. ⌜ PutAt at (restBytes head counts
+        (now (names .entry)) (now (metadata .entry)) (now (objects .entry)) (now (timers .entry)))
         (now (out .entry)) (now (out .exit)) r ⌝ }
 {
-    let first = put_metadata(out, at, head.version, c.metadata, metadata);
-    let second = put_early(out, first, head, c.timers, timers);
-    let third = put_byte_and_list(out, second, 0, c.objects, objects);
+    let first = put_metadata(out, at, head.version, counts.metadata, metadata);
+    let second = put_early(out, first, head, counts.timers, timers);
+    let third = put_byte_and_list(out, second, 0, counts.objects, objects);
     let fourth = put_name_mapping_if(
         head.version < 29,
         out,
         third,
         head.timestamp,
-        c.names,
+        counts.names,
         names,
     );
-    put_late(out, fourth, head.version, c.timers, timers)
+    put_late(out, fourth, head.version, counts.timers, timers)
 }
 
 // The whole block, at the front of the buffer.
 fn put_block(
     out: &mut [u8],
     head: Head,
-    c: RowCounts,
+    counts: RowCounts,
     param0: &[u16],
     param1: &[u8],
     param2: &[u8],
@@ -271,15 +271,15 @@ fn put_block(
     objects: &[u8],
     timers: &[u8],
 )
-    requires { ⌜ length (blockBytes head c (now param0) (now param1) (now param2) (now names) (now metadata)
-        (now objects) (now timers)) ≤ length (now out) ⌝ }
-    ensures { λ _. ⌜ now (out .exit)
-        ≡ overwrite 0 (blockBytes head c (now (param0 .entry)) (now (param1 .entry)) (now (param2 .entry))
+    requires { ⌜ length (blockBytes head counts (now param0) (now param1) (now param2)
+        (now names) (now metadata) (now objects) (now timers)) ≤ length (now out) ⌝ }
+    ensures { λ _. ⌜ now (out .exit) ≡ overwrite 0 (blockBytes head counts
+        (now (param0 .entry)) (now (param1 .entry)) (now (param2 .entry))
         (now (names .entry)) (now (metadata .entry)) (now (objects .entry)) (now (timers .entry)))
         (now (out .entry)) ⌝ }
 {
-    let at = put_front(out, head, c.names, names, param0, param1, param2);
-    put_rest(out, at, head, c, names, metadata, objects, timers);
+    let at = put_front(out, head, counts.names, names, param0, param1, param2);
+    put_rest(out, at, head, counts, names, metadata, objects, timers);
 }
 
 // The length of what was written, or why nothing was.
@@ -321,17 +321,14 @@ pub fn write(
     ) {
         Measured::Misfit => WriteAnswer::Misfit,
         Measured::Refused { fault, offset } => WriteAnswer::Refused { fault, offset },
-        Measured::Fits {
-            counts: c,
-            length: n,
-        } => {
+        Measured::Fits { counts, length: n } => {
             if out.len() < n {
                 return WriteAnswer::NoRoom;
             }
             put_block(
                 out,
                 head,
-                c,
+                counts,
                 param0,
                 param1,
                 param2,

@@ -11,26 +11,26 @@ use Rattle.block_writer.proofs.counts.count_all.Statement.{statement}
 use Rattle.block_writer.proofs.counts.count_all.Tie as tie
 
 -- the rows of each section that is whole
-names : (c : tie.After-known-told) → some (c .before .a .given .0 .0) ≡ Option·map length (sectionRows nameFrame (now (c .before .before .before .before .before .before .before .before .args .names)))
-names c = sym (ap toldRows (c .before .a .given .1)) ∙ c .before .before .before .row-count .ensures
+names : (c : tie.After-known-told) → some (c .before .name-rows .given .0 .0) ≡ Option·map length (sectionRows nameFrame (now (c .before .before .before .before .before .before .before .before .args .names)))
+names c = sym (ap toldRows (c .before .name-rows .given .1)) ∙ c .before .before .before .row-count .ensures
 
 metadata : (c : tie.After-known-told2) → let a = c .before .before .before .before .before .before .before .before .before .before .before .before .args in
-    some (c .before .b .given .0 .0) ≡ Option·map length (sectionRows (metadataFrame (a .version)) (now (a .metadata)))
-metadata c = sym (ap toldRows (c .before .b .given .1)) ∙ c .before .before .before .row-count2 .ensures
+    some (c .before .metadata-rows .given .0 .0) ≡ Option·map length (sectionRows (metadataFrame (a .version)) (now (a .metadata)))
+metadata c = sym (ap toldRows (c .before .metadata-rows .given .1)) ∙ c .before .before .before .row-count2 .ensures
 
 objects : (c : tie.After-known-told3) → let n = c .before .before .before .before .before .before .before .before in
-    some (c .before .c .given .0 .0) ≡ Option·map length (sectionRows objectRow (now (n .before .before .before .before .before .before .before .before .args .objects)))
-objects c = sym (ap toldRows (c .before .c .given .1)) ∙ c .before .before .before .row-count3 .ensures
+    some (c .before .object-rows .given .0 .0) ≡ Option·map length (sectionRows objectRow (now (n .before .before .before .before .before .before .before .before .args .objects)))
+objects c = sym (ap toldRows (c .before .object-rows .given .1)) ∙ c .before .before .before .row-count3 .ensures
 
 timers : (c : tie.After-known-told4) → let n = c .before .before .before .before .before .before .before .before .before .before .before .before in
-    some (c .before .d .given .0 .0) ≡ Option·map length (sectionRows timerFrame (now (n .before .before .before .before .before .before .before .before .args .timers)))
-timers c = sym (ap toldRows (c .before .d .given .1)) ∙ c .before .before .before .row-count4 .ensures
+    some (c .before .timer-rows .given .0 .0) ≡ Option·map length (sectionRows timerFrame (now (n .before .before .before .before .before .before .before .before .args .timers)))
+timers c = sym (ap toldRows (c .before .timer-rows .given .1)) ∙ c .before .before .before .row-count4 .ensures
 
 row-count-requires : tie.Need-row-count-requires
 row-count-requires c κs = search needs
 
-enum-known-a : tie.Need-enum-known-a
-enum-known-a c = search needs
+enum-known-name-rows : tie.Need-enum-known-name-rows
+enum-known-name-rows c = search needs
 
 enum-told : tie.Need-enum-told
 enum-told c = search needs
@@ -43,8 +43,8 @@ returns c =
 row-count-requires-2 : tie.Need-row-count-requires-2
 row-count-requires-2 c κs = search needs
 
-enum-known-b : tie.Need-enum-known-b
-enum-known-b c = search needs
+enum-known-metadata-rows : tie.Need-enum-known-metadata-rows
+enum-known-metadata-rows c = search needs
 
 enum-told-2 : tie.Need-enum-told-2
 enum-told-2 c = search needs
@@ -58,8 +58,8 @@ returns-2 c =
 row-count-requires-3 : tie.Need-row-count-requires-3
 row-count-requires-3 c κs = search needs
 
-enum-known-c : tie.Need-enum-known-c
-enum-known-c c = search needs
+enum-known-object-rows : tie.Need-enum-known-object-rows
+enum-known-object-rows c = search needs
 
 enum-told-3 : tie.Need-enum-told-3
 enum-told-3 c = search needs
@@ -77,8 +77,8 @@ row-count-requires-4 c κs = search needs
 enum-told-4 : tie.Need-enum-told-4
 enum-told-4 c = search needs
 
-enum-known-d : tie.Need-enum-known-d
-enum-known-d c = search needs
+enum-known-timer-rows : tie.Need-enum-known-timer-rows
+enum-known-timer-rows c = search needs
 
 returns-4 : tie.Need-returns-4
 returns-4 c =
@@ -100,19 +100,19 @@ count-all-spec =
     tie.close
     (tie.spec
     row-count-requires
-    enum-known-a
+    enum-known-name-rows
     enum-told
     returns
     row-count-requires-2
-    enum-known-b
+    enum-known-metadata-rows
     enum-told-2
     returns-2
     row-count-requires-3
-    enum-known-c
+    enum-known-object-rows
     enum-told-3
     returns-3
     row-count-requires-4
     enum-told-4
-    enum-known-d
+    enum-known-timer-rows
     returns-4
     returns-5)

@@ -26,7 +26,7 @@ firstUnmapped-at c =
     width-place (a .head .version) (c .i .given .0 .0) (first-below _ 4096 0 (sym (ap toldUnmapped (c .i .given .1)) ∙ c .before .before .first-unmapped .ensures)) .0
 
 judge-front-requires : tie.Need-judge-front-requires
-judge-front-requires c κs = c .before .before .before .before .before .before .before .before .pre .1 .1 .0
+judge-front-requires c κs = c .before .before .before .before .before .before .before .before .pre .small .0
 
 enum-known-front : tie.Need-enum-known-front
 enum-known-front c = search needs
@@ -37,15 +37,15 @@ enum-told c = search needs
 returns : tie.Need-returns
 returns c =
     let p = parts (c .before .before .before .before) in
-    let version = c .before .before .before .before .before .before .before .before .before .before .before .pre .0 .0 in
-    let fit = c .before .before .before .before .before .before .before .before .before .before .before .pre .0 .1 in
-    let held = c .before .before .before .before .before .before .before .before .before .before .before .pre .1 .0 in
-    λ l m o k nw mw ow tw.
-    let mk = made-by p fit l m o k nw mw ow tw in
-    judged-front p l m o k held version mk (clear-all 65536) (c .before .before .judge-front .ensures .0 l (made p l m o k .nodes) nw version (fits-headFits p fit) (nodes-there p l m o k held version mk)) (ap toldReach (c .enum-told .given .1))
+    let version = c .before .before .before .before .before .before .before .before .before .before .before .pre .version in
+    let fit = c .before .before .before .before .before .before .before .before .before .before .before .pre .fit in
+    let held = c .before .before .before .before .before .before .before .before .before .before .before .pre .typed in
+    λ l m o k w.
+    let mk = made-by p fit l m o k w in
+    judged-front p l m o k held version mk (clear-all 65536) (c .before .before .judge-front .ensures .0 l (made p l m o k .nodes) (w .names) version (fits-headFits p fit) (nodes-there p l m o k held version mk)) (ap toldReach (c .enum-told .given .1))
 
 judge-rest-requires : tie.Need-judge-rest-requires
-judge-rest-requires c κs = c .before .before .before .before .before .before .before .before .before .before .before .before .before .pre .1 .1
+judge-rest-requires c κs = c .before .before .before .before .before .before .before .before .before .before .before .before .before .pre .small
 
 enum-known-rest : tie.Need-enum-known-rest
 enum-known-rest c = search needs
@@ -54,28 +54,28 @@ enum-told-2 : tie.Need-enum-told-2
 enum-told-2 c = search needs
 
 shift-requires : tie.Need-shift-requires
-shift-requires c κs = omega (arith, c .before .before .before .before .before .before .before .judge-front .ensures .1 .0, ap (λ r. reach (toldReach r)) (c .before .before .before .before .before .front .given .1), c .before .before .judge-rest .ensures .1, c .before .before .before .before .before .before .before .before .before .before .before .before .before .before .before .before .pre .1 .1 .0, c .before .before .before .before .before .before .before .before .before .before .before .before .before .before .before .before .pre .1 .1 .1 .0, c .before .before .before .before .before .before .before .before .before .before .before .before .before .before .before .before .pre .1 .1 .1 .1, c .before .before .before .before .before .before .before .before .before .before .before .before .before .before .before .before .good .1 .1 .1 .1 .1 .1 .0 .1)
+shift-requires c κs = omega (arith, c .before .before .before .before .before .before .before .judge-front .ensures .1 .0, ap (λ r. reach (toldReach r)) (c .before .before .before .before .before .front .given .1), c .before .before .judge-rest .ensures .1, c .before .before .before .before .before .before .before .before .before .before .before .before .before .before .before .before .pre .small .0, c .before .before .before .before .before .before .before .before .before .before .before .before .before .before .before .before .pre .small .1 .0, c .before .before .before .before .before .before .before .before .before .before .before .before .before .before .before .before .pre .small .1 .1, c .before .before .before .before .before .before .before .before .before .before .before .before .before .before .before .before .good .1 .1 .1 .1 .1 .1 .0 .1)
 
 returns-2 : tie.Need-returns-2
 returns-2 c =
     let p = parts (c .before .before .before .before .before .before .before .before .before .before) in
-    let version = c .before .before .before .before .before .before .before .before .before .before .before .before .before .before .before .before .before .pre .0 .0 in
-    let fit = c .before .before .before .before .before .before .before .before .before .before .before .before .before .before .before .before .before .pre .0 .1 in
-    let held = c .before .before .before .before .before .before .before .before .before .before .before .before .before .before .before .before .before .pre .1 .0 in
-    λ l m o k nw mw ow tw.
-    let mk = made-by p fit l m o k nw mw ow tw in
-    judged-rest p l m o k held version mk (clear-all 65536) (c .before .before .before .before .before .before .before .before .judge-front .ensures .0 l (made p l m o k .nodes) nw version (fits-headFits p fit) (nodes-there p l m o k held version mk)) (ap toldReach (c .before .before .before .before .before .before .front .given .1)) (c .before .before .before .judge-rest .ensures .0 l m o k nw mw ow tw (fits-headFits p fit) (fits-timed p fit)) (ap toldReach (c .before .enum-told2 .given .1)) (c .shift .ensures)
+    let version = c .before .before .before .before .before .before .before .before .before .before .before .before .before .before .before .before .before .pre .version in
+    let fit = c .before .before .before .before .before .before .before .before .before .before .before .before .before .before .before .before .before .pre .fit in
+    let held = c .before .before .before .before .before .before .before .before .before .before .before .before .before .before .before .before .before .pre .typed in
+    λ l m o k w.
+    let mk = made-by p fit l m o k w in
+    judged-rest p l m o k held version mk (clear-all 65536) (c .before .before .before .before .before .before .before .before .judge-front .ensures .0 l (made p l m o k .nodes) (w .names) version (fits-headFits p fit) (nodes-there p l m o k held version mk)) (ap toldReach (c .before .before .before .before .before .before .front .given .1)) (c .before .before .before .judge-rest .ensures .0 l m o k w (fits-headFits p fit) (fits-timed p fit)) (ap toldReach (c .before .enum-told2 .given .1)) (c .shift .ensures)
 
 first-unmapped-requires : tie.Need-first-unmapped-requires
 first-unmapped-requires c κs =
-    let f = fits-plain (parts (c .before .before .before .before .before .before .before .before .before .before .before)) .0 (c .before .before .before .before .before .before .before .before .before .before .before .before .before .before .before .before .before .before .pre .0 .1) in
-    (f .size0, f .size2, fits-narrow (parts (c .before .before .before .before .before .before .before .before .before .before .before)) (c .before .before .before .before .before .before .before .before .before .before .before .before .before .before .before .before .before .before .pre .0 .1))
+    let f = fits-plain (parts (c .before .before .before .before .before .before .before .before .before .before .before)) .0 (c .before .before .before .before .before .before .before .before .before .before .before .before .before .before .before .before .before .before .pre .fit) in
+    (f .size0, f .size2, fits-narrow (parts (c .before .before .before .before .before .before .before .before .before .before .before)) (c .before .before .before .before .before .before .before .before .before .before .before .before .before .before .before .before .before .before .pre .fit))
 
 enum-told-3 : tie.Need-enum-told-3
 enum-told-3 c = search needs
 
 add-t22 : tie.Need-add-t22
-add-t22 c = omega (arith, c .before .before .before .before .before .before .before .before .before .before .before .before .judge-front .ensures .1 .0, ap (λ r. reach (toldReach r)) (c .before .before .before .before .before .before .before .before .before .before .front .given .1), c .before .before .before .before .before .before .before .judge-rest .ensures .1, ap (λ r. reach (toldReach r)) (c .before .before .before .before .before .rest .given .1), c .before .before .before .before .before .before .before .before .before .before .before .before .before .before .before .before .before .before .before .before .before .pre .1 .1 .0, c .before .before .before .before .before .before .before .before .before .before .before .before .before .before .before .before .before .before .before .before .before .pre .1 .1 .1 .0, c .before .before .before .before .before .before .before .before .before .before .before .before .before .before .before .before .before .before .before .before .before .pre .1 .1 .1 .1, c .before .before .before .before .before .before .before .before .before .before .before .before .before .before .before .before .before .before .before .before .before .good .1 .1 .1 .1 .1 .1 .0 .1)
+add-t22 c = omega (arith, c .before .before .before .before .before .before .before .before .before .before .before .before .judge-front .ensures .1 .0, ap (λ r. reach (toldReach r)) (c .before .before .before .before .before .before .before .before .before .before .front .given .1), c .before .before .before .before .before .before .before .judge-rest .ensures .1, ap (λ r. reach (toldReach r)) (c .before .before .before .before .before .rest .given .1), c .before .before .before .before .before .before .before .before .before .before .before .before .before .before .before .before .before .before .before .before .before .pre .small .0, c .before .before .before .before .before .before .before .before .before .before .before .before .before .before .before .before .before .before .before .before .before .pre .small .1 .0, c .before .before .before .before .before .before .before .before .before .before .before .before .before .before .before .before .before .before .before .before .before .pre .small .1 .1, c .before .before .before .before .before .before .before .before .before .before .before .before .before .before .before .before .before .before .before .before .before .good .1 .1 .1 .1 .1 .1 .0 .1)
 
 enum-known-i : tie.Need-enum-known-i
 enum-known-i c = search needs
@@ -93,27 +93,27 @@ mul-t27 : tie.Need-mul-t27
 mul-t27 c = rw (c .width .ensures) (omega (arith, firstUnmapped-at (c .before .before .before)))
 
 add-t28 : tie.Need-add-t28
-add-t28 c = rw (c .width .ensures) (omega (arith, firstUnmapped-at (c .before .before .before), c .before .before .before .before .before .before .before .before .before .before .before .before .before .before .before .judge-front .ensures .1 .0, ap (λ r. reach (toldReach r)) (c .before .before .before .before .before .before .before .before .before .before .before .before .before .front .given .1), c .before .before .before .before .before .before .before .before .before .before .before .before .before .before .before .before .before .before .before .before .before .before .before .before .pre .1 .1 .0))
+add-t28 c = rw (c .width .ensures) (omega (arith, firstUnmapped-at (c .before .before .before), c .before .before .before .before .before .before .before .before .before .before .before .before .before .before .before .judge-front .ensures .1 .0, ap (λ r. reach (toldReach r)) (c .before .before .before .before .before .before .before .before .before .before .before .before .before .front .given .1), c .before .before .before .before .before .before .before .before .before .before .before .before .before .before .before .before .before .before .before .before .before .before .before .before .pre .small .0))
 
 returns-3 : tie.Need-returns-3
 returns-3 c =
     let p = parts (c .before .before .before .before .before .before .before .before .before .before .before .before .before .before) in
-    let version = c .before .before .before .before .before .before .before .before .before .before .before .before .before .before .before .before .before .before .before .before .before .pre .0 .0 in
-    let fit = c .before .before .before .before .before .before .before .before .before .before .before .before .before .before .before .before .before .before .before .before .before .pre .0 .1 in
-    let held = c .before .before .before .before .before .before .before .before .before .before .before .before .before .before .before .before .before .before .before .before .before .pre .1 .0 in
-    λ l m o k nw mw ow tw.
-    let mk = made-by p fit l m o k nw mw ow tw in
-    judged-done p l m o k held version mk (clear-all 65536) (c .before .before .before .before .before .before .before .before .before .before .before .before .judge-front .ensures .0 l (made p l m o k .nodes) nw version (fits-headFits p fit) (nodes-there p l m o k held version mk)) (ap toldReach (c .before .before .before .before .before .before .before .before .before .before .front .given .1)) (c .before .before .before .before .before .before .before .judge-rest .ensures .0 l m o k nw mw ow tw (fits-headFits p fit) (fits-timed p fit)) (ap toldReach (c .before .before .before .before .before .rest .given .1)) (sym (ap toldUnmapped (c .enum-told3 .given .1)) ∙ c .before .before .first-unmapped .ensures)
+    let version = c .before .before .before .before .before .before .before .before .before .before .before .before .before .before .before .before .before .before .before .before .before .pre .version in
+    let fit = c .before .before .before .before .before .before .before .before .before .before .before .before .before .before .before .before .before .before .before .before .before .pre .fit in
+    let held = c .before .before .before .before .before .before .before .before .before .before .before .before .before .before .before .before .before .before .before .before .before .pre .typed in
+    λ l m o k w.
+    let mk = made-by p fit l m o k w in
+    judged-done p l m o k held version mk (clear-all 65536) (c .before .before .before .before .before .before .before .before .before .before .before .before .judge-front .ensures .0 l (made p l m o k .nodes) (w .names) version (fits-headFits p fit) (nodes-there p l m o k held version mk)) (ap toldReach (c .before .before .before .before .before .before .before .before .before .before .front .given .1)) (c .before .before .before .before .before .before .before .judge-rest .ensures .0 l m o k w (fits-headFits p fit) (fits-timed p fit)) (ap toldReach (c .before .before .before .before .before .rest .given .1)) (sym (ap toldUnmapped (c .enum-told3 .given .1)) ∙ c .before .before .first-unmapped .ensures)
 
 returns-4 : tie.Need-returns-4
 returns-4 c =
     let p = parts (c .before .before .before .before .before .before .before .before .before .before .before .before .before .before .before .before .before) in
-    let version = c .before .before .before .before .before .before .before .before .before .before .before .before .before .before .before .before .before .before .before .before .before .before .before .before .pre .0 .0 in
-    let fit = c .before .before .before .before .before .before .before .before .before .before .before .before .before .before .before .before .before .before .before .before .before .before .before .before .pre .0 .1 in
-    let held = c .before .before .before .before .before .before .before .before .before .before .before .before .before .before .before .before .before .before .before .before .before .before .before .before .pre .1 .0 in
-    λ l m o k nw mw ow tw.
-    let mk = made-by p fit l m o k nw mw ow tw in
-    rw (c .width .ensures, c .before .lists-length .ensures) (judged-firstUnmapped p l m o k held version mk (clear-all 65536) (c .before .before .before .before .before .before .before .before .before .before .before .before .before .before .before .judge-front .ensures .0 l (made p l m o k .nodes) nw version (fits-headFits p fit) (nodes-there p l m o k held version mk)) (ap toldReach (c .before .before .before .before .before .before .before .before .before .before .before .before .before .front .given .1)) (c .before .before .before .before .before .before .before .before .before .before .judge-rest .ensures .0 l m o k nw mw ow tw (fits-headFits p fit) (fits-timed p fit)) (ap toldReach (c .before .before .before .before .before .before .before .before .rest .given .1)) (sym (ap toldUnmapped (c .before .before .before .i .given .1)) ∙ c .before .before .before .before .before .first-unmapped .ensures))
+    let version = c .before .before .before .before .before .before .before .before .before .before .before .before .before .before .before .before .before .before .before .before .before .before .before .before .pre .version in
+    let fit = c .before .before .before .before .before .before .before .before .before .before .before .before .before .before .before .before .before .before .before .before .before .before .before .before .pre .fit in
+    let held = c .before .before .before .before .before .before .before .before .before .before .before .before .before .before .before .before .before .before .before .before .before .before .before .before .pre .typed in
+    λ l m o k w.
+    let mk = made-by p fit l m o k w in
+    rw (c .width .ensures, c .before .lists-length .ensures) (judged-firstUnmapped p l m o k held version mk (clear-all 65536) (c .before .before .before .before .before .before .before .before .before .before .before .before .before .before .before .judge-front .ensures .0 l (made p l m o k .nodes) (w .names) version (fits-headFits p fit) (nodes-there p l m o k held version mk)) (ap toldReach (c .before .before .before .before .before .before .before .before .before .before .before .before .before .front .given .1)) (c .before .before .before .before .before .before .before .before .before .before .judge-rest .ensures .0 l m o k w (fits-headFits p fit) (fits-timed p fit)) (ap toldReach (c .before .before .before .before .before .before .before .before .rest .given .1)) (sym (ap toldUnmapped (c .before .before .before .i .given .1)) ∙ c .before .before .before .before .before .first-unmapped .ensures))
 
 pub judge-spec : {M : Type 1} → statement M
 judge-spec =

@@ -29,7 +29,7 @@ returns : tie.Need-returns
 returns c =
     let bm : Bytes (now (c .before .before .before .before .before .before .before .args .metadata)) = λ i. c .before .before .before .before .before .shared-slice-known2 .given i .fits in
     let h = c .before .before .before .before .before .before .before .args .head in (
-      (λ l m o k nw mw ow tw f t. rest-no-metadata h l m o k (metadata-settled (h .version) bm mw) (c .before .before .judge-metadata .ensures .0 m mw) (ap toldReach (c .enum-told .given .1))),
+      (λ l m o k w f t. rest-no-metadata h l m o k (metadata-settled (h .version) bm (w .metadata)) (c .before .before .judge-metadata .ensures .0 m (w .metadata)) (ap toldReach (c .enum-told .given .1))),
       omega (arith, c .before .before .judge-metadata .ensures .1),
     )
 
@@ -50,9 +50,9 @@ returns-2 c =
     let bm : Bytes (now (c .before .before .before .before .before .before .before .before .before .before .before .before .args .metadata)) = λ i. c .before .before .before .before .before .before .before .before .before .before .shared-slice-known2 .given i .fits in
     let bt : Bytes (now (c .before .before .before .before .before .before .before .before .before .before .before .before .args .timers)) = λ i. c .before .before .before .before .before .before .before .before .shared-slice-known4 .given i .fits in
     let h = c .before .before .before .before .before .before .before .before .before .before .before .before .args .head in (
-      (λ l m o k nw mw ow tw f t.
-          rest-no-early h l m o k (metadata-settled (h .version) bm mw) (sym (ap toldReach (c .before .before .before .before .before .first .given .1)) ∙ c .before .before .before .before .before .before .before .judge-metadata .ensures .0 m mw)
-          (early-settled h bt tw f (timer-byte (c .before .before .before .before .before .before .before)) t) (c .before .before .before .judge-early-timers .ensures .0 k tw f t) (ap toldReach (c .before .enum-told2 .given .1)) (c .shift .ensures)),
+      (λ l m o k w f t.
+          rest-no-early h l m o k (metadata-settled (h .version) bm (w .metadata)) (sym (ap toldReach (c .before .before .before .before .before .first .given .1)) ∙ c .before .before .before .before .before .before .before .judge-metadata .ensures .0 m (w .metadata))
+          (early-settled h bt (w .timers) f (timer-byte (c .before .before .before .before .before .before .before)) t) (c .before .before .before .judge-early-timers .ensures .0 k (w .timers) f t) (ap toldReach (c .before .enum-told2 .given .1)) (c .shift .ensures)),
       omega (arith, ap reach (c .shift .ensures), shift-reach (c .before .before .before .before .before .first .given .0 .0) (toldReach (c .before .before .before .judge-early-timers .result)), c .before .before .before .before .before .before .before .judge-metadata .ensures .1, ap (λ r. reach (toldReach r)) (c .before .before .before .before .before .first .given .1), c .before .before .before .judge-early-timers .ensures .1),
     )
 
@@ -77,10 +77,10 @@ returns-3 c =
     let bt : Bytes (now (c .before .before .before .before .before .before .before .before .before .before .before .before .before .before .before .args .timers)) = λ i. c .before .before .before .before .before .before .before .before .before .before .before .shared-slice-known4 .given i .fits in
     let h = c .before .before .before .before .before .before .before .before .before .before .before .before .before .before .before .args .head in
     let bo : Bytes (now (c .before .before .before .before .before .before .before .before .before .before .before .before .before .before .before .args .objects)) = λ i. c .before .before .before .before .before .before .before .before .before .before .before .before .shared-slice-known3 .given i .fits in (
-      (λ l m o k nw mw ow tw f t.
-          rest-on h l m o k (metadata-settled (h .version) bm mw) (sym (ap toldReach (c .before .before .before .before .before .before .before .before .first .given .1)) ∙ c .before .before .before .before .before .before .before .before .before .before .judge-metadata .ensures .0 m mw)
-          (early-settled h bt tw f (timer-byte (c .before .before .before .before .before .before .before .before .before .before)) t) (sym (ap toldReach (c .before .before .before .before .second .given .1)) ∙ c .before .before .before .before .before .before .judge-early-timers .ensures .0 k tw f t)
-          (objects-verdictOn bo ow) (omega arith) (c .before .judge-ending .ensures .0 l k nw tw f) (c .shift2 .ensures)),
+      (λ l m o k w f t.
+          rest-on h l m o k (metadata-settled (h .version) bm (w .metadata)) (sym (ap toldReach (c .before .before .before .before .before .before .before .before .first .given .1)) ∙ c .before .before .before .before .before .before .before .before .before .before .judge-metadata .ensures .0 m (w .metadata))
+          (early-settled h bt (w .timers) f (timer-byte (c .before .before .before .before .before .before .before .before .before .before)) t) (sym (ap toldReach (c .before .before .before .before .second .given .1)) ∙ c .before .before .before .before .before .before .judge-early-timers .ensures .0 k (w .timers) f t)
+          (objects-verdictOn bo (w .objects)) (omega arith) (c .before .judge-ending .ensures .0 l k (w .names) (w .timers) f) (c .shift2 .ensures)),
       omega (arith, ap reach (c .shift2 .ensures), shift-reach (c .before .before .before .before .before .before .before .before .first .given .0 .0 + c .before .before .before .before .second .given .0 .0 + 3 + length (now (c .before .before .before .before .before .before .before .before .before .before .before .before .before .before .before .args .objects))) (toldReach (c .before .judge-ending .result)), c .before .before .before .before .before .before .before .before .before .before .judge-metadata .ensures .1, ap (λ r. reach (toldReach r)) (c .before .before .before .before .before .before .before .before .first .given .1), c .before .before .before .before .before .before .judge-early-timers .ensures .1, ap (λ r. reach (toldReach r)) (c .before .before .before .before .second .given .1), c .before .judge-ending .ensures .1),
     )
 

@@ -11,7 +11,7 @@ use mathlib.Core.Bool.{true}
 use borrow.Author.Tests.{not-true, not-false}
 use Rattle.block_writer.specs.BlockParts.{BlockParts, WellTyped, blockParts, fits, made}
 use Rattle.block_writer.specs.Sections.{countsIn, toldCounts}
-use Rattle.block_writer.proofs.Written.{bad-version, misfit, ragged, judgeable, blockIs, small, refuses, writes}
+use Rattle.block_writer.proofs.Written.{bad-version, misfit, ragged, section-rows, blockIs, small, refuses, writes}
 
 -- the parts, and that they are what the types of a call hold
 abbrev parts : tie.After-shared-slice-known7 → BlockParts
@@ -40,17 +40,17 @@ version-is c = sym (c .before .is-version .ensures) ∙ not-false _ (c .if1 .lef
 fit-is : (c : tie.Else2) → fits (parts (c .before .before .before .before)) ≡ true
 fit-is c = sym (c .before .fit .ensures) ∙ not-false _ (c .if2 .left)
 
-count-is : (c : tie.After-known-told) → let p = parts (c .before .before .before .before .before .before .before .before) in some (c .before .c .given .0 .0) ≡ countsIn (p .head .version) (p .names) (p .metadata) (p .objects) (p .timers)
-count-is c = sym (ap toldCounts (c .before .c .given .1)) ∙ c .before .before .before .count-all .ensures
+count-is : (c : tie.After-known-told) → let p = parts (c .before .before .before .before .before .before .before .before) in some (c .before .counts .given .0 .0) ≡ countsIn (p .head .version) (p .names) (p .metadata) (p .objects) (p .timers)
+count-is c = sym (ap toldCounts (c .before .counts .given .1)) ∙ c .before .before .before .count-all .ensures
 
 -- what the reader says
-verdictOn-is : (c : tie.After-judge) → let p = parts (c .before .before .before .before .before .before .before .before .before) in let b = blockIs p (c .before .before .c .given .0 .0) (fit-is (c .before .before .before .before .before)) (count-is (c .before)) in
+verdictOn-is : (c : tie.After-judge) → let p = parts (c .before .before .before .before .before .before .before .before .before) in let b = blockIs p (c .before .before .counts .given .0 .0) (fit-is (c .before .before .before .before .before)) (count-is (c .before)) in
     toldReach (c .judge .result) ≡ ended (verdict all (block all .encode (made p (b .names) (b .metadata) (b .objects) (b .timers))))
 verdictOn-is c =
     let p = parts (c .before .before .before .before .before .before .before .before .before) in
-    let b = blockIs p (c .before .before .c .given .0 .0) (fit-is (c .before .before .before .before .before)) (count-is (c .before)) in
-    let x = judgeable p (c .before .before .c .given .0 .0) (fit-is (c .before .before .before .before .before)) (count-is (c .before)) in
-    c .judge .ensures (b .names) (b .metadata) (b .objects) (b .timers) (x .names) (x .metadata) (x .objects) (x .timers)
+    let b = blockIs p (c .before .before .counts .given .0 .0) (fit-is (c .before .before .before .before .before)) (count-is (c .before)) in
+    let rows = section-rows p (c .before .before .counts .given .0 .0) (fit-is (c .before .before .before .before .before)) (count-is (c .before)) in
+    c .judge .ensures (b .names) (b .metadata) (b .objects) (b .timers) rows
 
 is-version-requires : tie.Need-is-version-requires
 is-version-requires c κs = search needs
@@ -70,14 +70,16 @@ count-all-requires c κs = search needs
 enum-told : tie.Need-enum-told
 enum-told c = search needs
 
-enum-known-c : tie.Need-enum-known-c
-enum-known-c c = search needs
+enum-known-counts : tie.Need-enum-known-counts
+enum-known-counts c = search needs
 
 judge-requires : tie.Need-judge-requires
-judge-requires c κs = (
-  (version-is (c .before .before .before .before .before .before), fit-is (c .before .before .before .before)),
-  (held-parts (c .before .before .before .before .before .before .before .before), small (parts (c .before .before .before .before .before .before .before .before)) (c .before .c .given .0 .0) (fit-is (c .before .before .before .before)) (count-is c) (held-parts (c .before .before .before .before .before .before .before .before))),
-)
+judge-requires c κs = record {
+  version = version-is (c .before .before .before .before .before .before);
+  fit = fit-is (c .before .before .before .before);
+  typed = held-parts (c .before .before .before .before .before .before .before .before);
+  small = small (parts (c .before .before .before .before .before .before .before .before)) (c .before .counts .given .0 .0) (fit-is (c .before .before .before .before)) (count-is c) (held-parts (c .before .before .before .before .before .before .before .before));
+}
 
 enum-known-fault : tie.Need-enum-known-fault
 enum-known-fault c = search needs
@@ -89,10 +91,10 @@ returns-3 : tie.Need-returns-3
 returns-3 c = ragged (parts (c .before .before .before .before .before .before .before)) (version-is (c .before .before .before .before .before)) (fit-is (c .before .before .before)) (sym (ap toldCounts (c .enum-told .given .1)) ∙ c .before .before .count-all .ensures)
 
 returns-4 : tie.Need-returns-4
-returns-4 c = refuses (parts (c .before .before .before .before .before .before .before .before .before .before .before .before)) (c .before .before .before .before .before .c .given .0 .0) (fit-is (c .before .before .before .before .before .before .before .before)) (count-is (c .before .before .before .before)) (held-parts (c .before .before .before .before .before .before .before .before .before .before .before .before)) (version-is (c .before .before .before .before .before .before .before .before .before .before)) (sym (ap toldReach (c .before .fault .given .1)) ∙ verdictOn-is (c .before .before .before))
+returns-4 c = refuses (parts (c .before .before .before .before .before .before .before .before .before .before .before .before)) (c .before .before .before .before .before .counts .given .0 .0) (fit-is (c .before .before .before .before .before .before .before .before)) (count-is (c .before .before .before .before)) (held-parts (c .before .before .before .before .before .before .before .before .before .before .before .before)) (version-is (c .before .before .before .before .before .before .before .before .before .before)) (sym (ap toldReach (c .before .fault .given .1)) ∙ verdictOn-is (c .before .before .before))
 
 returns-5 : tie.Need-returns-5
-returns-5 c = writes (parts (c .before .before .before .before .before .before .before .before .before .before .before .before)) (c .before .before .before .before .before .c .given .0 .0) (fit-is (c .before .before .before .before .before .before .before .before)) (count-is (c .before .before .before .before)) (held-parts (c .before .before .before .before .before .before .before .before .before .before .before .before)) (version-is (c .before .before .before .before .before .before .before .before .before .before)) (sym (ap toldReach (c .before .n .given .1)) ∙ verdictOn-is (c .before .before .before))
+returns-5 c = writes (parts (c .before .before .before .before .before .before .before .before .before .before .before .before)) (c .before .before .before .before .before .counts .given .0 .0) (fit-is (c .before .before .before .before .before .before .before .before)) (count-is (c .before .before .before .before)) (held-parts (c .before .before .before .before .before .before .before .before .before .before .before .before)) (version-is (c .before .before .before .before .before .before .before .before .before .before)) (sym (ap toldReach (c .before .n .given .1)) ∙ verdictOn-is (c .before .before .before))
 
 pub measure-spec : {M : Type 1} → statement M
 measure-spec =
@@ -104,7 +106,7 @@ measure-spec =
     returns-2
     count-all-requires
     enum-told
-    enum-known-c
+    enum-known-counts
     judge-requires
     enum-known-fault
     enum-known-n

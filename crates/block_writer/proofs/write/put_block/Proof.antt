@@ -11,10 +11,10 @@ use Rattle.block_writer.proofs.write.put_block.Statement.{statement}
 use Rattle.block_writer.proofs.write.put_block.Tie as tie
 
 abbrev front : tie.Start → List ℕ
-front s = let a = s .args in frontBytes (a .head) (a .c .names) (now (a .names)) (now (a .param0)) (now (a .param1)) (now (a .param2))
+front s = let a = s .args in frontBytes (a .head) (a .counts .names) (now (a .names)) (now (a .param0)) (now (a .param1)) (now (a .param2))
 
 abbrev rest : tie.Start → List ℕ
-rest s = let a = s .args in restBytes (a .head) (a .c) (now (a .names)) (now (a .metadata)) (now (a .objects)) (now (a .timers))
+rest s = let a = s .args in restBytes (a .head) (a .counts) (now (a .names)) (now (a .metadata)) (now (a .objects)) (now (a .timers))
 
 put-front-requires : tie.Need-put-front-requires
 unfolding blockBytes

@@ -14,19 +14,19 @@ use Rattle.block_writer.proofs.write.put_rest.Tie as tie
 
 -- the pieces, and what stands behind each
 abbrev first : tie.Start → List ℕ
-first s = let a = s .args in metadataBytes (a .head .version) (a .c .metadata) (now (a .metadata))
+first s = let a = s .args in metadataBytes (a .head .version) (a .counts .metadata) (now (a .metadata))
 
 abbrev second : tie.Start → List ℕ
-second s = let a = s .args in earlyBytes (a .head .version) (a .head .timer) (a .c .timers) (now (a .timers))
+second s = let a = s .args in earlyBytes (a .head .version) (a .head .timer) (a .counts .timers) (now (a .timers))
 
 abbrev third : tie.Start → List ℕ
-third s = let a = s .args in objectsBytes (a .c .objects) (now (a .objects))
+third s = let a = s .args in objectsBytes (a .counts .objects) (now (a .objects))
 
 abbrev fourth : tie.Start → List ℕ
-fourth s = let a = s .args in cond (before 29 (a .head .version)) (mappingBytes (a .head .timestamp) (a .c .names) (now (a .names))) []
+fourth s = let a = s .args in cond (before 29 (a .head .version)) (mappingBytes (a .head .timestamp) (a .counts .names) (now (a .names))) []
 
 abbrev fifth : tie.Start → List ℕ
-fifth s = let a = s .args in lateBytes (a .head .version) (a .c .timers) (now (a .timers))
+fifth s = let a = s .args in lateBytes (a .head .version) (a .counts .timers) (now (a .timers))
 
 abbrev behind₃ : tie.Start → List ℕ
 behind₃ s = fourth s ++ fifth s

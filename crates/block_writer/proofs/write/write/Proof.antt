@@ -15,8 +15,8 @@ abbrev parts : tie.After-slice-known → BlockParts
 parts c = blockParts (c .before .before .before .before .before .before .before .before .args .head) (now (c .before .before .before .before .before .before .before .before .args .param0)) (now (c .before .before .before .before .before .before .before .before .args .param1)) (now (c .before .before .before .before .before .before .before .before .args .param2)) (now (c .before .before .before .before .before .before .before .before .args .names)) (now (c .before .before .before .before .before .before .before .before .args .metadata)) (now (c .before .before .before .before .before .before .before .before .args .objects)) (now (c .before .before .before .before .before .before .before .before .args .timers))
 
 -- what the measuring pass found
-fits-as : (c : tie.After-known-told2) → Written (parts (c .before .before .before .before)) (c .before .c .given .0 .0) (c .before .c .given .0 .1 .0)
-fits-as c = subst (MeasuredAs (parts (c .before .before .before .before))) (c .before .c .given .1) (c .before .before .before .measure .ensures)
+fits-as : (c : tie.After-known-told2) → Written (parts (c .before .before .before .before)) (c .before .counts .given .0 .0) (c .before .counts .given .0 .1 .0)
+fits-as c = subst (MeasuredAs (parts (c .before .before .before .before))) (c .before .counts .given .1) (c .before .before .before .measure .ensures)
 
 measure-requires : tie.Need-measure-requires
 measure-requires c κs = search needs
@@ -27,8 +27,8 @@ enum-told c = search needs
 enum-known-fault : tie.Need-enum-known-fault
 enum-known-fault c = search needs
 
-enum-known-c : tie.Need-enum-known-c
-enum-known-c c = search needs
+enum-known-counts : tie.Need-enum-known-counts
+enum-known-counts c = search needs
 
 returns : tie.Need-returns
 returns c = answers-by (parts (c .before .before .before .before .before)) (now (c .before .before .before .before .before .before .before .before .before .before .before .before .before .args .out)) (plain noRoom) (fits-as (c .before) .no-room (length (now (c .before .before .before .before .before .before .before .before .before .before .before .before .before .args .out))) (c .if1 .taken))
@@ -55,7 +55,7 @@ write-spec =
     measure-requires
     enum-told
     enum-known-fault
-    enum-known-c
+    enum-known-counts
     returns
     put-block-requires
     returns-2
