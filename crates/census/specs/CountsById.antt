@@ -2,7 +2,7 @@
 use Prim.Native.Nat.{ℕ, zero, suc, _+_, _%_, _<_}
 use mathlib.Core.Path.{_≡_}
 use mathlib.Core.Bool.{Bool, _&&_}
-use mathlib.Core.List.{List, [], _∷_}
+use mathlib.Core.List.{List, map}
 use lib.Dec.{eqb}
 use lib.ListN.{length, getD}
 use Rattle.wire.specs.Choice.{bit}
@@ -47,7 +47,6 @@ countById q ids k = countIf (λ i. q i && eqb (ids i) k) 0 4096
 abbrev pub rowId : NameRow → ℕ
 rowId r = r .id
 
--- the rows of names, each with what is countedBy of its id
+-- the rows of names, each with what f counts of its id
 abbrev pub countedBy : (ℕ → ℕ) → List NameRow → Rows ones
-countedBy f [] = []
-countedBy f (r ∷ l) = record { name = r .name; count = f (r .id) } ∷ countedBy f l
+countedBy f l = map (λ r. record { name = r .name; count = f (r .id) }) l

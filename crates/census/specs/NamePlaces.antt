@@ -1,6 +1,6 @@
 -- The names of a block by places: a place is where a row stands in the section of names.
 use Prim.Native.Nat.{ℕ, _+_}
-use mathlib.Core.List.{List, [], _∷_}
+use mathlib.Core.List.{List, [], map}
 use lib.ListN.{getD, drop}
 use Rattle.wire.specs.Read.{Read, done, refused}
 use Rattle.mapblock.specs.Data.{NameRow}
@@ -37,5 +37,4 @@ namedAt s t p = record { name = rowAt s p .name; count = countAt s t p }
 
 -- the same of a list of places
 abbrev pub countedNames : List ℕ → List ℕ → List ℕ → Rows ones
-countedNames s t [] = []
-countedNames s t (p ∷ ps) = namedAt s t p ∷ countedNames s t ps
+countedNames s t ps = map (namedAt s t) ps

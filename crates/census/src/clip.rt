@@ -14,7 +14,7 @@ pub struct Clip {
     pub z1: usize,
 }
 
-// d, held to 0..16.
+// Holds a number to 0..16.
 fn clamp16(d: i64) -> usize
     ensures { λ r. ⌜ r ≡ clampOf d ⌝ }
 {
@@ -27,21 +27,21 @@ fn clamp16(d: i64) -> usize
     d as usize
 }
 
-// How many of a block's sixteen node coordinates on an axis are below v.
+// Tells how many of a block's sixteen node coordinates on an axis are below v.
 fn below(v: i32, block: i32) -> usize
     ensures { λ r. ⌜ r ≡ belowOf v block ⌝ }
 {
     clamp16(v as i64 - block as i64 * 16)
 }
 
-// How many of them are not above it.
+// Tells how many of them are not above v.
 fn upto(v: i32, block: i32) -> usize
     ensures { λ r. ⌜ r ≡ uptoOf v block ⌝ }
 {
     clamp16(v as i64 - block as i64 * 16 + 1)
 }
 
-// The part of a lot that lies in a block; it may be turned round, and then no node does.
+// Clips a lot to the block at some coordinates. Where no node of the block lies in the lot, a first step may come behind the last one.
 pub(crate) fn clip_to(lot: Lot, at: Coordinates) -> Clip
     ensures { λ r. ⌜ r ≡ clipOf lot at ⌝ }
 {

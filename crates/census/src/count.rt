@@ -1,4 +1,4 @@
-// Counting by content id: each node that lies in the lot raises the counter of its id by one. Counters wrap, and the promise says so; clear ones
+// Counting by content id: each node that lies in the lot raises the counter of its id by one. Counters wrap, and the contracts say so; clear ones
 // never do, since a block has 4,096 nodes.
 use crate::clip::Clip;
 use crate::clip::clip_to;
@@ -19,7 +19,7 @@ ghost use Rattle.census.specs.CountsById.{CountsById, Raised};
 ghost use Rattle.census.specs.Counters.{Table, isAt, wideId, narrowId};
 ghost use Rattle.census.specs.Clips.{clipWith, Sides};
 
-// The content id of the node at an index, where it has two bytes.
+// Gives the content id of the node at an index, where it has two bytes.
 fn wide_id(lists: &[u8], i: usize) -> usize
     requires { ⌜ 2 * i + 1 < length (now lists) ⌝ }
     ensures told { λ r. ⌜ r ≡ wideId (now (lists .entry)) i ⌝ }
@@ -28,7 +28,7 @@ fn wide_id(lists: &[u8], i: usize) -> usize
     lists[2 * i] as usize * 256 + lists[2 * i + 1] as usize
 }
 
-// The nodes at from..until, one by one.
+// Counts the nodes at from..until one by one.
 fn count_each(lists: &[u8], from: usize, until: usize, counts: &mut [u16; IDS])
     requires { ⌜ (2 * until ≤ length (now lists)) × Table (now counts) ⌝ }
     ensures { λ _. ⌜ Raised (isAt (wideId (now (lists .entry)))) from (until - from) (now (counts .entry))
@@ -42,7 +42,7 @@ fn count_each(lists: &[u8], from: usize, until: usize, counts: &mut [u16; IDS])
     }
 }
 
-// Four nodes. Neighbours mostly have the same id: a counter that is raised once for them is not waited for.
+// Counts four nodes. Neighbours mostly have the same id, and then their counter is raised once: four raises would wait for each other.
 fn count_four(lists: &[u8], i: usize, counts: &mut [u16; IDS])
     requires { ⌜ (2 * i + 8 ≤ length (now lists)) × Table (now counts) ⌝ }
     ensures { λ _. ⌜ Raised (isAt (wideId (now (lists .entry)))) i 4 (now (counts .entry)) (now (counts .exit)) ⌝ }
@@ -58,7 +58,7 @@ fn count_four(lists: &[u8], i: usize, counts: &mut [u16; IDS])
     }
 }
 
-// The row of nodes at from..until, with content ids of two bytes.
+// Counts the row of nodes at from..until, with content ids of two bytes.
 fn count_wide(lists: &[u8], from: usize, until: usize, counts: &mut [u16; IDS])
     requires { ⌜ (2 * until ≤ length (now lists)) × Table (now counts) ⌝ }
     ensures { λ _. ⌜ Raised (isAt (wideId (now (lists .entry)))) from (until - from) (now (counts .entry))
@@ -75,7 +75,7 @@ fn count_wide(lists: &[u8], from: usize, until: usize, counts: &mut [u16; IDS])
     }
 }
 
-// The same with param0 of one byte.
+// Counts such a row where a param0 has one byte.
 fn count_narrow(version: u8, lists: &[u8], from: usize, until: usize, counts: &mut [u16; IDS])
     requires { ⌜ (8192 + until ≤ length (now lists)) × Table (now counts) ⌝ }
     ensures { λ _. ⌜ Raised (isAt (narrowId version (now (lists .entry)))) from (until - from) (now (counts .entry))
@@ -89,7 +89,7 @@ fn count_narrow(version: u8, lists: &[u8], from: usize, until: usize, counts: &m
     }
 }
 
-// The width is the same for all of a block's nodes, so it is asked once for each row.
+// Counts a row of nodes. The width is the same for all of a block's nodes, so it is asked once for each row.
 fn count_row(version: u8, lists: &[u8], from: usize, until: usize, counts: &mut [u16; IDS])
     requires { ⌜ (until ≤ 4096) × (4096 * width version + 8192 ≤ length (now lists)) × Table (now counts) ⌝ }
     ensures { λ _. ⌜ Raised (isAt (idIn version (now (lists .entry)))) from (until - from) (now (counts .entry))
@@ -102,30 +102,30 @@ fn count_row(version: u8, lists: &[u8], from: usize, until: usize, counts: &mut 
     }
 }
 
-// The rows of one z.
-fn count_layer(version: u8, lists: &[u8], b: Clip, z: usize, counts: &mut [u16; IDS])
-    requires { ⌜ (b .z0 ≤ z) × (z < b .z1) × Sides b × (4096 * width version + 8192 ≤ length (now lists))
+// Counts the rows of the clip at one z.
+fn count_layer(version: u8, lists: &[u8], clip: Clip, z: usize, counts: &mut [u16; IDS])
+    requires { ⌜ (clip .z0 ≤ z) × (z < clip .z1) × Sides clip × (4096 * width version + 8192 ≤ length (now lists))
         × Table (now counts) ⌝ }
-    ensures { λ _. ⌜ Raised (clipWith b (idIn version (now (lists .entry)))) (z * 256) 256 (now (counts .entry))
+    ensures { λ _. ⌜ Raised (clipWith clip (idIn version (now (lists .entry)))) (z * 256) 256 (now (counts .entry))
         (now (counts .exit)) ⌝ }
 {
-    let mut y = b.y0;
-    while y < b.y1 {
+    let mut y = clip.y0;
+    while y < clip.y1 {
         let row = z * 256 + y * 16;
-        count_row(version, lists, row + b.x0, row + b.x1, counts);
+        count_row(version, lists, row + clip.x0, row + clip.x1, counts);
         y += 1;
     }
 }
 
-// The nodes of a clip lie in rows: no node is tested.
-fn count_clip(version: u8, lists: &[u8], b: Clip, counts: &mut [u16; IDS])
-    requires { ⌜ Sides b × (4096 * width version + 8192 ≤ length (now lists)) × Table (now counts) ⌝ }
-    ensures { λ _. ⌜ Raised (clipWith b (idIn version (now (lists .entry)))) 0 4096 (now (counts .entry))
+// Counts the nodes of a clip. They lie in rows, so that no node is tested.
+fn count_clip(version: u8, lists: &[u8], clip: Clip, counts: &mut [u16; IDS])
+    requires { ⌜ Sides clip × (4096 * width version + 8192 ≤ length (now lists)) × Table (now counts) ⌝ }
+    ensures { λ _. ⌜ Raised (clipWith clip (idIn version (now (lists .entry)))) 0 4096 (now (counts .entry))
         (now (counts .exit)) ⌝ }
 {
-    let mut z = b.z0;
-    while z < b.z1 {
-        count_layer(version, lists, b, z, counts);
+    let mut z = clip.z0;
+    while z < clip.z1 {
+        count_layer(version, lists, clip, z, counts);
         z += 1;
     }
 }
@@ -138,9 +138,15 @@ fn sized(counts: &[u16; IDS])
     let _first = whole[0];
 }
 
-// Counts the nodes of a block that lie in a lot: `lists` are the bytes of its param lists, `at` is where the block stands. This is an inner function
-// of the meter, whose promise is by cases: bytes that do not hold the lists have no nodes, and leave the counters as they are.
-pub fn count_in(version: u8, lists: &[u8], at: Coordinates, lot: Lot, counts: &mut [u16; IDS])
+// Counts the nodes of a block that lie in a lot: `lists` are the bytes of its param lists, `at` is where the block stands. Bytes that do
+// not hold the lists have no nodes, and leave the counters as they are.
+pub(crate) fn count_in(
+    version: u8,
+    lists: &[u8],
+    at: Coordinates,
+    lot: Lot,
+    counts: &mut [u16; IDS],
+)
     ensures counts { λ _. ⌜
         (holdsLists version (now (lists .entry)) ≡ true
         → CountsById version (now (lists .entry)) lot at (now (counts .entry)) (now (counts .exit))) ⌝ }

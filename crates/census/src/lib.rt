@@ -2,7 +2,7 @@
 pub mod census;
 pub mod clear;
 mod clip;
-pub mod count;
+mod count;
 pub mod places;
-pub mod sort;
-pub mod used;
+mod sort;
+mod used;

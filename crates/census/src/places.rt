@@ -9,7 +9,7 @@ ghost use denote.Ref.{ptr};
 ghost use Rattle.wire.specs.Places.{placeIn};
 ghost use Rattle.census.specs.NamePlaces.{rowAt, nameStartAt, countAt};
 
-// The name in the row at a place, empty where none stands there.
+// Gives the name in the row at a place, empty where none stands there.
 pub fn name_at(s: &[u8], p: usize) -> &[u8]
     ensures told { λ r. ⌜ now r ≡ rowAt (now (s .entry)) p .name ⌝ }
     ensures place { λ r. ⌜ ptr r ≡ placeIn (s .entry) (nameStartAt (now (s .entry)) p) ⌝ }
@@ -27,7 +27,7 @@ pub fn name_at(s: &[u8], p: usize) -> &[u8]
     }
 }
 
-// The id in the row at a place, 0 where none stands there.
+// Gives the id in the row at a place, 0 where none stands there.
 pub fn id_at(s: &[u8], p: usize) -> usize
     ensures told { λ r. ⌜ r ≡ rowAt (now (s .entry)) p .id ⌝ }
     ensures bounded { λ r. ⌜ r < 65536 ⌝ }
@@ -44,13 +44,14 @@ pub fn id_at(s: &[u8], p: usize) -> usize
     }
 }
 
+// Widens a counter. A cast in place would ask for a proof that the counter fits.
 fn wide(n: u16) -> u64
     ensures { λ r. ⌜ r ≡ n ⌝ }
 {
     n as u64
 }
 
-// What the counters tell of the id in the row at a place.
+// Gives the counter of the id in the row at a place.
 pub fn count_at(s: &[u8], counts: &[u16; IDS], p: usize) -> u64
     ensures { λ r. ⌜ r ≡ countAt (now (s .entry)) (now (counts .entry)) p ⌝ }
 {

@@ -10,14 +10,14 @@ ghost use Rattle.wire.specs.Store.{overwrite};
 ghost use Rattle.census.specs.UsedNames.{usedOf};
 
 // A table of places has the length that its type says; this says so to proofs, and does nothing.
-pub fn sized(places: &[usize; NODES])
+pub(crate) fn sized(places: &[usize; NODES])
     ensures { λ _. ⌜ length (now (places .entry)) ≡ 4096 ⌝ }
 {
     let _whole: &[usize] = places;
 }
 
 // Stores the places of the rows whose id has a count, and says how many; it ends with the rows, or where there is no room for more.
-pub fn used(s: &[u8], counts: &[u16; IDS], places: &mut [usize; NODES]) -> usize
+pub(crate) fn used(s: &[u8], counts: &[u16; IDS], places: &mut [usize; NODES]) -> usize
     ensures bounded { λ r. ⌜ r ≤ 4096 ⌝ }
     ensures told { λ r. ⌜ r ≡ length (usedOf (now (counts .entry)) (now (s .entry))) ⌝ }
     ensures places { λ _. ⌜ now (places .exit)

@@ -1,4 +1,4 @@
--- The invariant: clearing the ids of the rows that are left gives the answer.
+-- The invariant: clearing the ids of the rows that are left gives the answer. The measure: the bytes that are left.
 use borrow.Author.Needs.{needs}
 use mathlib.Core.Path.{_≡_}
 use mathlib.Core.List.{[]}

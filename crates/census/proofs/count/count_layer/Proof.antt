@@ -1,4 +1,4 @@
--- The invariant: the rows before y are counted.
+-- The invariant: the rows before y are counted. The measure: the rows of the clip from y on.
 use Prim.Native.Nat.{_-_, _*_, _≤_}
 use mathlib.Core.Path.{refl}
 use native.Mathlib.Omega.{arith}
@@ -11,15 +11,15 @@ use Rattle.census.proofs.count.count_layer.Statement.{statement}
 use Rattle.census.proofs.count.count_layer.Tie as tie
 
 abbrev Inv-loop : tie.InvT-loop
-Inv-loop version lists b z counts₀ y₀ counts y = (b .y0 ≤ y) × (y ≤ 16) × Raised (clipWith b (idIn version lists)) (z * 256) (y * 16) counts₀ counts
+Inv-loop version lists clip z counts₀ y₀ counts y = (clip .y0 ≤ y) × (y ≤ 16) × Raised (clipWith clip (idIn version lists)) (z * 256) (y * 16) counts₀ counts
 
 abbrev μ-loop : tie.MeasureT-loop
-μ-loop version lists b z counts₀ y₀ counts y = b .y1 - y
+μ-loop version lists clip z counts₀ y₀ counts y = clip .y1 - y
 
 loop-holds : tie.Need-loop-holds Inv-loop μ-loop
 loop-holds c =
     let s = c .before in
-    (omega arith, s .pre .2 .y0, layer-first (s .args .b) _ (s .args .z) (s .pre .4) (s .pre .2 .y0))
+    (omega arith, s .pre .2 .y0, layer-first (s .args .clip) _ (s .args .z) (s .pre .4) (s .pre .2 .y0))
 
 mul-row : tie.Need-mul-row Inv-loop μ-loop
 mul-row c = omega arith
@@ -51,13 +51,13 @@ loop-again : tie.Need-loop-again Inv-loop μ-loop
 loop-again c =
     let s = c .before .before .before .before .before .before .before .before in
     let l = c .before .before .before .before .before .before .loop in
-    (omega arith, omega arith, layer-on (s .args .b) (idIn (s .args .version) (s .args .lists .now)) (s .args .z) (l .y) _ _ (s .pre .2) (s .pre .0) (s .pre .1) (l .inv .0) (omega arith) refl refl (l .inv .2) (c .count-row .ensures))
+    (omega arith, omega arith, layer-on (s .args .clip) (idIn (s .args .version) (s .args .lists .now)) (s .args .z) (l .y) _ _ (s .pre .2) (s .pre .0) (s .pre .1) (l .inv .0) (omega arith) refl refl (l .inv .2) (c .count-row .ensures))
 
 returns : tie.Need-returns Inv-loop μ-loop
 returns c =
     let s = c .before .before .before .before in
     let l = c .before .before .loop in
-    layer-last (s .args .b) (idIn (s .args .version) (s .args .lists .now)) (s .args .z) (l .y) (omega arith) (l .inv .1) (l .inv .2)
+    layer-last (s .args .clip) (idIn (s .args .version) (s .args .lists .now)) (s .args .z) (l .y) (omega arith) (l .inv .1) (l .inv .2)
 
 pub count-layer-spec : {M : Type 1} → statement M
 count-layer-spec =

@@ -1,4 +1,4 @@
--- The invariant: the ids of the indices before i are counted.
+-- The invariant: the ids of the indices from..i are counted. The measure: the indices from i up to the end.
 use borrow.Author.Needs.{needs}
 use Prim.Native.Nat.{_+_, _-_, _≤_, _<_}
 use mathlib.Core.Path.{_≡_}

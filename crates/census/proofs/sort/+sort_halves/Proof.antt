@@ -1,3 +1,4 @@
+-- By recursion over the number of places: each half is shorter than the whole.
 use borrow.Author.Needs.{needs}
 use Prim.Native.Nat.{ℕ, _<_, _≤_, _/_}
 use mathlib.Core.Path.{_≡_, sym, _∙_}

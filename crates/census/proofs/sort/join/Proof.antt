@@ -1,3 +1,5 @@
+-- The invariant: the first o places of b are in order, what is left of either run can follow them, and every sum over all of these is that over a.
+-- The measure: the places that are still to be put.
 use borrow.Author.Needs.{needs}
 use Prim.Native.Nat.{_-_}
 use mathlib.Core.Path.{_≡_, refl, sym, _∙_}

@@ -1,3 +1,4 @@
+-- The invariant: the first i places of a are those of b. The measure: the places that are still to be copied.
 use borrow.Author.Needs.{needs}
 use Prim.Native.Nat.{_≤_, _-_}
 use mathlib.Core.Path.{_≡_, refl}

@@ -1,4 +1,4 @@
--- The invariant: what is stored, and what is used of the rows that are left, is what is used of all of them.
+-- The invariant: what is stored, and what is used of the rows that are left, is what is used of all of them. The measure: the bytes that are left.
 use borrow.Author.Needs.{needs}
 use mathlib.Core.Path.{_≡_}
 use mathlib.Core.List.{[]}
