@@ -5,6 +5,7 @@ use crate::frames::row_count;
 ghost use mathlib.Core.Path.{_≡_};
 ghost use Rattle.block_writer.specs.Sections.{countsIn, toldCounts};
 
+// How many rows each section has.
 pub struct RowCounts {
     pub names: u16,
     pub metadata: u16,
@@ -12,12 +13,13 @@ pub struct RowCounts {
     pub timers: u16,
 }
 
+// The counts, or that a section is not made of whole rows.
 pub enum RowCountsRead {
     Rows(RowCounts),
     NotWhole,
 }
 
-// RowCounts the rows of the four sections.
+// This counts the rows of the four sections: the writer puts each count before its rows.
 pub(crate) fn count_all(
     version: u8,
     names: &[u8],

@@ -12,6 +12,7 @@ ghost use lib.ListN.{length};
 ghost use Rattle.block_writer.specs.Frames.{timerFrame, sectionRows};
 ghost use Rattle.block_writer.specs.Sections.{frameOf, lengthRead, toldFrame, toldRows};
 
+// The four sections.
 pub enum SectionKind {
     Names,
     Metadata,
@@ -25,7 +26,7 @@ pub enum Frame {
     NotWhole,
 }
 
-// All rows of timers are of one length.
+// This finds the length of a timer's row, which is the same for all.
 fn timer_frame(s: &[u8]) -> Frame
     ensures { λ r. ⌜ toldFrame r ≡ lengthRead (timerFrame .read (now (s .entry))) ⌝ }
 {
@@ -36,7 +37,7 @@ fn timer_frame(s: &[u8]) -> Frame
     }
 }
 
-// The length of a section's front row.
+// This finds the length of a section's front row, so that the rows can be counted.
 fn front_row(section: SectionKind, version: u8, s: &[u8]) -> Frame
     ensures { λ r. ⌜ toldFrame r ≡ lengthRead (frameOf section version .read (now (s .entry))) ⌝ }
 {
@@ -75,7 +76,7 @@ pub enum RowCount {
     NotWhole,
 }
 
-// RowCounts the rows of a section to its end.
+// This counts the rows of a section to its end.
 pub(crate) fn row_count(section: SectionKind, version: u8, s: &[u8]) -> RowCount
     ensures { λ r. ⌜ toldRows r ≡ Option·map length (sectionRows (frameOf section version) (now (s .entry))) ⌝ }
 {

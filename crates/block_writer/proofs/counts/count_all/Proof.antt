@@ -10,20 +10,27 @@ use Rattle.block_writer.proofs.RowCounts.{counts-are}
 use Rattle.block_writer.proofs.counts.count_all.Statement.{statement}
 use Rattle.block_writer.proofs.counts.count_all.Tie as tie
 
+-- places in the function, each from the places behind it
+abbrev start : tie.After-known-told → tie.Start
+start c = c .before .before .before .before .before .before .before .before
+
+abbrev after-known-told : tie.After-known-told3 → tie.After-known-told
+after-known-told c = c .before .before .before .before .before .before .before .before
+
 -- the rows of each section that is whole
-names : (c : tie.After-known-told) → some (c .before .name-rows .given .0 .0) ≡ Option·map length (sectionRows nameFrame (now (c .before .before .before .before .before .before .before .before .args .names)))
+names : (c : tie.After-known-told) → some (c .before .name-rows .given .0 .0) ≡ Option·map length (sectionRows nameFrame (now (start c .args .names)))
 names c = sym (ap toldRows (c .before .name-rows .given .1)) ∙ c .before .before .before .row-count .ensures
 
-metadata : (c : tie.After-known-told2) → let a = c .before .before .before .before .before .before .before .before .before .before .before .before .args in
+metadata : (c : tie.After-known-told2) → let a = start (c .before .before .before .before) .args in
     some (c .before .metadata-rows .given .0 .0) ≡ Option·map length (sectionRows (metadataFrame (a .version)) (now (a .metadata)))
 metadata c = sym (ap toldRows (c .before .metadata-rows .given .1)) ∙ c .before .before .before .row-count2 .ensures
 
-objects : (c : tie.After-known-told3) → let n = c .before .before .before .before .before .before .before .before in
-    some (c .before .object-rows .given .0 .0) ≡ Option·map length (sectionRows objectRow (now (n .before .before .before .before .before .before .before .before .args .objects)))
+objects : (c : tie.After-known-told3) → let n = after-known-told c in
+    some (c .before .object-rows .given .0 .0) ≡ Option·map length (sectionRows objectRow (now (start n .args .objects)))
 objects c = sym (ap toldRows (c .before .object-rows .given .1)) ∙ c .before .before .before .row-count3 .ensures
 
-timers : (c : tie.After-known-told4) → let n = c .before .before .before .before .before .before .before .before .before .before .before .before in
-    some (c .before .timer-rows .given .0 .0) ≡ Option·map length (sectionRows timerFrame (now (n .before .before .before .before .before .before .before .before .args .timers)))
+timers : (c : tie.After-known-told4) → let n = after-known-told (c .before .before .before .before) in
+    some (c .before .timer-rows .given .0 .0) ≡ Option·map length (sectionRows timerFrame (now (start n .args .timers)))
 timers c = sym (ap toldRows (c .before .timer-rows .given .1)) ∙ c .before .before .before .row-count4 .ensures
 
 row-count-requires : tie.Need-row-count-requires

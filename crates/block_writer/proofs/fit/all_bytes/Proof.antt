@@ -1,4 +1,4 @@
--- The invariant: all entries are bytes where those from i on are.
+-- The invariant: all entries are bytes where those from i on are. The measure: the number of entries from i on.
 use Prim.Native.Nat.{_-_, _≤_}
 use mathlib.Core.Path.{_≡_, refl, sym, _∙_}
 use native.Mathlib.Omega.{arith}

@@ -1,4 +1,5 @@
--- The invariant: the rows that are left, with those counted so far, are as many as asked.
+-- The invariant: the rows that are left, with those counted so far, are as many as asked. The measure: `left`, how many more rows a u16 can
+-- count.
 use borrow.Author.Needs.{needs}
 use Prim.Native.Nat.{_≤_}
 use mathlib.Core.Path.{_≡_, ap, sym, _∙_}

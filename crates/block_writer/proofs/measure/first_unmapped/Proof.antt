@@ -1,3 +1,4 @@
+-- The invariant: the first unmapped node from i on is the first of all. The measure: the number of nodes from i on.
 use Rattle.block_writer.proofs.measure.first_unmapped.Statement.{statement}
 use Rattle.block_writer.proofs.measure.first_unmapped.Tie as tie
 use native.Mathlib.Omega.{arith}
@@ -18,6 +19,10 @@ Inv-loop version param0 param2 ids i₀ i = firstFrom (unmarkedAmong version par
 abbrev μ-loop : tie.MeasureT-loop
 μ-loop version param0 param2 ids i₀ i = 4096 - i
 
+-- places in the function, each from the places behind it
+abbrev start : tie.After-content-id Inv-loop μ-loop → tie.Start Inv-loop μ-loop
+start c = c .before .before .before .before .before .before .before
+
 loop-holds : tie.Need-loop-holds Inv-loop μ-loop
 loop-holds c = refl
 
@@ -35,8 +40,8 @@ content-id-requires c κs = search needs
 
 element-copy-out-if1 : tie.Need-element-copy-out-if1 Inv-loop μ-loop
 element-copy-out-if1 c =
-    let a = c .before .before .before .before .before .before .before .args in
-    let pre = c .before .before .before .before .before .before .before .pre in
+    let a = start c .args in
+    let pre = start c .pre in
     let i = c .before .before .before .before .loop .i in
     let k = c .before .before .before .loop-test .taken in
     rw (c .content-id .ensures)
@@ -45,7 +50,7 @@ element-copy-out-if1 c =
 
 returns : tie.Need-returns Inv-loop μ-loop
 returns c =
-    let a = c .before .before .before .before .before .before .before .before .before .args in
+    let a = start (c .before .before) .args in
     let l = c .before .before .before .before .before .before .loop in
     let test = c .before .before .before .before .before .loop-test in
     sym (first-here (unmarkedAmong (a .version) (now (a .param0)) (now (a .param2)) (now (a .ids))) 4096 (l .i) (test .taken) (mark-bare (now (a .ids)) (c .before .before .content-id .ensures) (c .if1 .taken))) ∙ l .inv
@@ -58,7 +63,7 @@ loop-less c = search needs
 
 loop-again : tie.Need-loop-again Inv-loop μ-loop
 loop-again c =
-    let a = c .before .before .before .before .before .before .before .before .before .args in
+    let a = start (c .before .before) .args in
     let l = c .before .before .before .before .before .before .loop in
     let test = c .before .before .before .before .before .loop-test in
     sym (first-on (unmarkedAmong (a .version) (now (a .param0)) (now (a .param2)) (now (a .ids))) 4096 (l .i) (test .taken) (mark-there (now (a .ids)) (c .before .before .content-id .ensures) (c .if1 .left))) ∙ l .inv

@@ -16,17 +16,48 @@ use Rattle.block_writer.proofs.Fitting.{fits-plain, fits-headFits, fits
 use Rattle.block_writer.proofs.MadeBlock.{made-by}
 use Rattle.block_writer.proofs.Judged.{nodes-there, judged-front, judged-rest, judged-done, judged-firstUnmapped}
 
+-- places in the function, each from the places behind it
+abbrev start₁ : tie.After-shared-slice-known7 → tie.Start
+start₁ c = c .before .before .before .before .before .before .before
+
+abbrev start₂ : tie.After-enum-told2 → tie.Start
+start₂ c = start₁ (c .before .before .before .before .before .before .before .before .before)
+
+abbrev start₃ : tie.After-ids3 → tie.Start
+start₃ c = start₁ (c .before .before .before .before .before .before .before .before .before .before .before)
+
+abbrev after-slice7₁ : tie.After-enum-told2 → tie.After-shared-slice-known7
+after-slice7₁ c = c .before .before .before .before .before .before .before .before .before
+
+abbrev after-slice7₂ : tie.After-ids3 → tie.After-shared-slice-known7
+after-slice7₂ c = c .before .before .before .before .before .before .before .before .before .before .before
+
+abbrev after-judge-front₁ : tie.After-enum-told2 → tie.After-judge-front
+after-judge-front₁ c = c .before .before .before .before .before .before .before
+
+abbrev after-judge-front₂ : tie.After-ids3 → tie.After-judge-front
+after-judge-front₂ c = c .before .before .before .before .before .before .before .before .before
+
+abbrev after-front : tie.After-ids3 → tie.After-front
+after-front c = c .before .before .before .before .before .before .before
+
+abbrev after-judge-rest : tie.After-ids3 → tie.After-judge-rest
+after-judge-rest c = c .before .before .before .before
+
+abbrev after-rest : tie.After-ids3 → tie.After-rest
+after-rest c = c .before .before
+
 abbrev parts : tie.After-shared-slice-known7 → BlockParts
-parts c = blockParts (c .before .before .before .before .before .before .before .args .head) (now (c .before .before .before .before .before .before .before .args .param0)) (now (c .before .before .before .before .before .before .before .args .param1)) (now (c .before .before .before .before .before .before .before .args .param2)) (now (c .before .before .before .before .before .before .before .args .names)) (now (c .before .before .before .before .before .before .before .args .metadata)) (now (c .before .before .before .before .before .before .before .args .objects)) (now (c .before .before .before .before .before .before .before .args .timers))
+parts c = blockParts (start₁ c .args .head) (now (start₁ c .args .param0)) (now (start₁ c .args .param1)) (now (start₁ c .args .param2)) (now (start₁ c .args .names)) (now (start₁ c .args .metadata)) (now (start₁ c .args .objects)) (now (start₁ c .args .timers))
 
 -- the node that is found
-firstUnmapped-at : (c : tie.After-i) → width (c .before .before .before .before .before .before .before .before .before .before .before .before .before .before .before .before .before .before .before .before .before .args .head .version) * c .i .given .0 .0 < 8192
+firstUnmapped-at : (c : tie.After-i) → width (start₃ (c .before .before .before) .args .head .version) * c .i .given .0 .0 < 8192
 firstUnmapped-at c =
-    let a = c .before .before .before .before .before .before .before .before .before .before .before .before .before .before .before .before .before .before .before .before .before .args in
+    let a = start₃ (c .before .before .before) .args in
     width-place (a .head .version) (c .i .given .0 .0) (first-below _ 4096 0 (sym (ap toldUnmapped (c .i .given .1)) ∙ c .before .before .first-unmapped .ensures)) .0
 
 judge-front-requires : tie.Need-judge-front-requires
-judge-front-requires c κs = c .before .before .before .before .before .before .before .before .pre .small .0
+judge-front-requires c κs = start₁ (c .before) .pre .small .0
 
 enum-known-front : tie.Need-enum-known-front
 enum-known-front c = search needs
@@ -37,15 +68,15 @@ enum-told c = search needs
 returns : tie.Need-returns
 returns c =
     let p = parts (c .before .before .before .before) in
-    let version = c .before .before .before .before .before .before .before .before .before .before .before .pre .version in
-    let fit = c .before .before .before .before .before .before .before .before .before .before .before .pre .fit in
-    let held = c .before .before .before .before .before .before .before .before .before .before .before .pre .typed in
+    let version = start₁ (c .before .before .before .before) .pre .version in
+    let fit = start₁ (c .before .before .before .before) .pre .fit in
+    let held = start₁ (c .before .before .before .before) .pre .typed in
     λ l m o k w.
     let mk = made-by p fit l m o k w in
     judged-front p l m o k held version mk (clear-all 65536) (c .before .before .judge-front .ensures .0 l (made p l m o k .nodes) (w .names) version (fits-headFits p fit) (nodes-there p l m o k held version mk)) (ap toldReach (c .enum-told .given .1))
 
 judge-rest-requires : tie.Need-judge-rest-requires
-judge-rest-requires c κs = c .before .before .before .before .before .before .before .before .before .before .before .before .before .pre .small
+judge-rest-requires c κs = start₁ (c .before .before .before .before .before .before) .pre .small
 
 enum-known-rest : tie.Need-enum-known-rest
 enum-known-rest c = search needs
@@ -54,28 +85,28 @@ enum-told-2 : tie.Need-enum-told-2
 enum-told-2 c = search needs
 
 shift-requires : tie.Need-shift-requires
-shift-requires c κs = omega (arith, c .before .before .before .before .before .before .before .judge-front .ensures .1 .0, ap (λ r. reach (toldReach r)) (c .before .before .before .before .before .front .given .1), c .before .before .judge-rest .ensures .1, c .before .before .before .before .before .before .before .before .before .before .before .before .before .before .before .before .pre .small .0, c .before .before .before .before .before .before .before .before .before .before .before .before .before .before .before .before .pre .small .1 .0, c .before .before .before .before .before .before .before .before .before .before .before .before .before .before .before .before .pre .small .1 .1, c .before .before .before .before .before .before .before .before .before .before .before .before .before .before .before .before .good .1 .1 .1 .1 .1 .1 .0 .1)
+shift-requires c κs = omega (arith, after-judge-front₁ c .judge-front .ensures .1 .0, ap (λ r. reach (toldReach r)) (c .before .before .before .before .before .front .given .1), c .before .before .judge-rest .ensures .1, start₂ c .pre .small .0, start₂ c .pre .small .1 .0, start₂ c .pre .small .1 .1, start₂ c .good .1 .1 .1 .1 .1 .1 .0 .1)
 
 returns-2 : tie.Need-returns-2
 returns-2 c =
-    let p = parts (c .before .before .before .before .before .before .before .before .before .before) in
-    let version = c .before .before .before .before .before .before .before .before .before .before .before .before .before .before .before .before .before .pre .version in
-    let fit = c .before .before .before .before .before .before .before .before .before .before .before .before .before .before .before .before .before .pre .fit in
-    let held = c .before .before .before .before .before .before .before .before .before .before .before .before .before .before .before .before .before .pre .typed in
+    let p = parts (after-slice7₁ (c .before)) in
+    let version = start₂ (c .before) .pre .version in
+    let fit = start₂ (c .before) .pre .fit in
+    let held = start₂ (c .before) .pre .typed in
     λ l m o k w.
     let mk = made-by p fit l m o k w in
-    judged-rest p l m o k held version mk (clear-all 65536) (c .before .before .before .before .before .before .before .before .judge-front .ensures .0 l (made p l m o k .nodes) (w .names) version (fits-headFits p fit) (nodes-there p l m o k held version mk)) (ap toldReach (c .before .before .before .before .before .before .front .given .1)) (c .before .before .before .judge-rest .ensures .0 l m o k w (fits-headFits p fit) (fits-timed p fit)) (ap toldReach (c .before .enum-told2 .given .1)) (c .shift .ensures)
+    judged-rest p l m o k held version mk (clear-all 65536) (after-judge-front₁ (c .before) .judge-front .ensures .0 l (made p l m o k .nodes) (w .names) version (fits-headFits p fit) (nodes-there p l m o k held version mk)) (ap toldReach (c .before .before .before .before .before .before .front .given .1)) (c .before .before .before .judge-rest .ensures .0 l m o k w (fits-headFits p fit) (fits-timed p fit)) (ap toldReach (c .before .enum-told2 .given .1)) (c .shift .ensures)
 
 first-unmapped-requires : tie.Need-first-unmapped-requires
 first-unmapped-requires c κs =
-    let f = fits-plain (parts (c .before .before .before .before .before .before .before .before .before .before .before)) .0 (c .before .before .before .before .before .before .before .before .before .before .before .before .before .before .before .before .before .before .pre .fit) in
-    (f .size0, f .size2, fits-narrow (parts (c .before .before .before .before .before .before .before .before .before .before .before)) (c .before .before .before .before .before .before .before .before .before .before .before .before .before .before .before .before .before .before .pre .fit))
+    let f = fits-plain (parts (after-slice7₂ c)) .0 (start₃ c .pre .fit) in
+    (f .size0, f .size2, fits-narrow (parts (after-slice7₂ c)) (start₃ c .pre .fit))
 
 enum-told-3 : tie.Need-enum-told-3
 enum-told-3 c = search needs
 
 add-t22 : tie.Need-add-t22
-add-t22 c = omega (arith, c .before .before .before .before .before .before .before .before .before .before .before .before .judge-front .ensures .1 .0, ap (λ r. reach (toldReach r)) (c .before .before .before .before .before .before .before .before .before .before .front .given .1), c .before .before .before .before .before .before .before .judge-rest .ensures .1, ap (λ r. reach (toldReach r)) (c .before .before .before .before .before .rest .given .1), c .before .before .before .before .before .before .before .before .before .before .before .before .before .before .before .before .before .before .before .before .before .pre .small .0, c .before .before .before .before .before .before .before .before .before .before .before .before .before .before .before .before .before .before .before .before .before .pre .small .1 .0, c .before .before .before .before .before .before .before .before .before .before .before .before .before .before .before .before .before .before .before .before .before .pre .small .1 .1, c .before .before .before .before .before .before .before .before .before .before .before .before .before .before .before .before .before .before .before .before .before .good .1 .1 .1 .1 .1 .1 .0 .1)
+add-t22 c = omega (arith, after-judge-front₂ (c .before .before .before) .judge-front .ensures .1 .0, ap (λ r. reach (toldReach r)) (after-front (c .before .before .before) .front .given .1), after-judge-rest (c .before .before .before) .judge-rest .ensures .1, ap (λ r. reach (toldReach r)) (c .before .before .before .before .before .rest .given .1), start₃ (c .before .before .before) .pre .small .0, start₃ (c .before .before .before) .pre .small .1 .0, start₃ (c .before .before .before) .pre .small .1 .1, start₃ (c .before .before .before) .good .1 .1 .1 .1 .1 .1 .0 .1)
 
 enum-known-i : tie.Need-enum-known-i
 enum-known-i c = search needs
@@ -84,7 +115,7 @@ lists-length-requires : tie.Need-lists-length-requires
 lists-length-requires c κs = search needs
 
 sub-t25 : tie.Need-sub-t25
-sub-t25 c = omega (arith, c .lists-length .ensures, c .before .before .before .before .before .before .before .before .before .before .before .before .before .before .judge-front .ensures .1 .1 _ (ap toldReach (c .before .before .before .before .before .before .before .before .before .before .before .before .front .given .1)))
+sub-t25 c = omega (arith, c .lists-length .ensures, after-judge-front₂ (c .before .before .before .before .before) .judge-front .ensures .1 .1 _ (ap toldReach (after-front (c .before .before .before .before .before) .front .given .1)))
 
 width-requires : tie.Need-width-requires
 width-requires c κs = search needs
@@ -93,27 +124,27 @@ mul-t27 : tie.Need-mul-t27
 mul-t27 c = rw (c .width .ensures) (omega (arith, firstUnmapped-at (c .before .before .before)))
 
 add-t28 : tie.Need-add-t28
-add-t28 c = rw (c .width .ensures) (omega (arith, firstUnmapped-at (c .before .before .before), c .before .before .before .before .before .before .before .before .before .before .before .before .before .before .before .judge-front .ensures .1 .0, ap (λ r. reach (toldReach r)) (c .before .before .before .before .before .before .before .before .before .before .before .before .before .front .given .1), c .before .before .before .before .before .before .before .before .before .before .before .before .before .before .before .before .before .before .before .before .before .before .before .before .pre .small .0))
+add-t28 c = rw (c .width .ensures) (omega (arith, firstUnmapped-at (c .before .before .before), after-judge-front₂ (c .before .before .before .before .before .before) .judge-front .ensures .1 .0, ap (λ r. reach (toldReach r)) (after-front (c .before .before .before .before .before .before) .front .given .1), start₃ (c .before .before .before .before .before .before) .pre .small .0))
 
 returns-3 : tie.Need-returns-3
 returns-3 c =
-    let p = parts (c .before .before .before .before .before .before .before .before .before .before .before .before .before .before) in
-    let version = c .before .before .before .before .before .before .before .before .before .before .before .before .before .before .before .before .before .before .before .before .before .pre .version in
-    let fit = c .before .before .before .before .before .before .before .before .before .before .before .before .before .before .before .before .before .before .before .before .before .pre .fit in
-    let held = c .before .before .before .before .before .before .before .before .before .before .before .before .before .before .before .before .before .before .before .before .before .pre .typed in
+    let p = parts (after-slice7₂ (c .before .before .before)) in
+    let version = start₃ (c .before .before .before) .pre .version in
+    let fit = start₃ (c .before .before .before) .pre .fit in
+    let held = start₃ (c .before .before .before) .pre .typed in
     λ l m o k w.
     let mk = made-by p fit l m o k w in
-    judged-done p l m o k held version mk (clear-all 65536) (c .before .before .before .before .before .before .before .before .before .before .before .before .judge-front .ensures .0 l (made p l m o k .nodes) (w .names) version (fits-headFits p fit) (nodes-there p l m o k held version mk)) (ap toldReach (c .before .before .before .before .before .before .before .before .before .before .front .given .1)) (c .before .before .before .before .before .before .before .judge-rest .ensures .0 l m o k w (fits-headFits p fit) (fits-timed p fit)) (ap toldReach (c .before .before .before .before .before .rest .given .1)) (sym (ap toldUnmapped (c .enum-told3 .given .1)) ∙ c .before .before .first-unmapped .ensures)
+    judged-done p l m o k held version mk (clear-all 65536) (after-judge-front₂ (c .before .before .before) .judge-front .ensures .0 l (made p l m o k .nodes) (w .names) version (fits-headFits p fit) (nodes-there p l m o k held version mk)) (ap toldReach (after-front (c .before .before .before) .front .given .1)) (after-judge-rest (c .before .before .before) .judge-rest .ensures .0 l m o k w (fits-headFits p fit) (fits-timed p fit)) (ap toldReach (c .before .before .before .before .before .rest .given .1)) (sym (ap toldUnmapped (c .enum-told3 .given .1)) ∙ c .before .before .first-unmapped .ensures)
 
 returns-4 : tie.Need-returns-4
 returns-4 c =
-    let p = parts (c .before .before .before .before .before .before .before .before .before .before .before .before .before .before .before .before .before) in
-    let version = c .before .before .before .before .before .before .before .before .before .before .before .before .before .before .before .before .before .before .before .before .before .before .before .before .pre .version in
-    let fit = c .before .before .before .before .before .before .before .before .before .before .before .before .before .before .before .before .before .before .before .before .before .before .before .before .pre .fit in
-    let held = c .before .before .before .before .before .before .before .before .before .before .before .before .before .before .before .before .before .before .before .before .before .before .before .before .pre .typed in
+    let p = parts (after-slice7₂ (c .before .before .before .before .before .before)) in
+    let version = start₃ (c .before .before .before .before .before .before) .pre .version in
+    let fit = start₃ (c .before .before .before .before .before .before) .pre .fit in
+    let held = start₃ (c .before .before .before .before .before .before) .pre .typed in
     λ l m o k w.
     let mk = made-by p fit l m o k w in
-    rw (c .width .ensures, c .before .lists-length .ensures) (judged-firstUnmapped p l m o k held version mk (clear-all 65536) (c .before .before .before .before .before .before .before .before .before .before .before .before .before .before .before .judge-front .ensures .0 l (made p l m o k .nodes) (w .names) version (fits-headFits p fit) (nodes-there p l m o k held version mk)) (ap toldReach (c .before .before .before .before .before .before .before .before .before .before .before .before .before .front .given .1)) (c .before .before .before .before .before .before .before .before .before .before .judge-rest .ensures .0 l m o k w (fits-headFits p fit) (fits-timed p fit)) (ap toldReach (c .before .before .before .before .before .before .before .before .rest .given .1)) (sym (ap toldUnmapped (c .before .before .before .i .given .1)) ∙ c .before .before .before .before .before .first-unmapped .ensures))
+    rw (c .width .ensures, c .before .lists-length .ensures) (judged-firstUnmapped p l m o k held version mk (clear-all 65536) (after-judge-front₂ (c .before .before .before .before .before .before) .judge-front .ensures .0 l (made p l m o k .nodes) (w .names) version (fits-headFits p fit) (nodes-there p l m o k held version mk)) (ap toldReach (after-front (c .before .before .before .before .before .before) .front .given .1)) (after-judge-rest (c .before .before .before .before .before .before) .judge-rest .ensures .0 l m o k w (fits-headFits p fit) (fits-timed p fit)) (ap toldReach (after-rest (c .before .before .before .before .before .before) .rest .given .1)) (sym (ap toldUnmapped (c .before .before .before .i .given .1)) ∙ c .before .before .before .before .before .first-unmapped .ensures))
 
 pub judge-spec : {M : Type 1} → statement M
 judge-spec =

@@ -13,6 +13,13 @@ use Rattle.block_writer.specs.Judging.{mappingOn}
 use Rattle.block_writer.proofs.BlockJudging.{name-mapping-settled, ending-late, ending-refused, ending-on}
 use Rattle.block_writer.proofs.PiecesJudging.{shift-reach}
 
+-- places in the function, each from the places behind it
+abbrev start : tie.After-judge-name-mapping → tie.Start
+start c = c .before .before .before .before .before .before
+
+abbrev after-slice : tie.After-judge-name-mapping → tie.After-shared-slice-known
+after-slice c = c .before .before .before .before .before
+
 judge-late-timers-requires : tie.Need-judge-late-timers-requires
 judge-late-timers-requires c κs = search needs
 
@@ -30,11 +37,11 @@ enum-told c = search needs
 
 returns-2 : tie.Need-returns-2
 returns-2 c =
-    let b : Bytes (now (c .before .before .before .before .before .before .before .before .args .names)) = λ i. c .before .before .before .before .before .before .before .shared-slice-known .given i .fits in
-    let time : c .before .before .before .before .before .before .before .before .args .head .timestamp < 4294967296 = search needs in (
+    let b : Bytes (now (start (c .before .before) .args .names)) = λ i. after-slice (c .before .before) .shared-slice-known .given i .fits in
+    let time : start (c .before .before) .args .head .timestamp < 4294967296 = search needs in (
       (λ l k x y f.
-          let nameMapping = mappingOn (c .before .before .before .before .before .before .before .before .args .head) l in
-          ending-refused (c .before .before .before .before .before .before .before .before .args .head) l k (search needs) (name-mapping-settled (freeIn (now (c .before .before .before .before .before .before .before .before .args .ids))) nameMapping b time x) (c .before .before .judge-name-mapping .ensures .0 nameMapping time x) (ap toldReach (c .enum-told .given .1))),
+          let nameMapping = mappingOn (start (c .before .before) .args .head) l in
+          ending-refused (start (c .before .before) .args .head) l k (search needs) (name-mapping-settled (freeIn (now (start (c .before .before) .args .ids))) nameMapping b time x) (c .before .before .judge-name-mapping .ensures .0 nameMapping time x) (ap toldReach (c .enum-told .given .1))),
       omega (arith, c .before .before .judge-name-mapping .ensures .1),
     )
 
@@ -42,15 +49,15 @@ judge-late-timers-requires-2 : tie.Need-judge-late-timers-requires-2
 judge-late-timers-requires-2 c κs = search needs
 
 shift-requires : tie.Need-shift-requires
-shift-requires c κs = omega (arith, c .before .before .before .before .judge-name-mapping .ensures .1, ap (λ r. reach (toldReach r)) (c .before .before .mapping .given .1), c .judge-late-timers2 .ensures .1, c .before .before .before .before .before .before .before .before .before .before .pre .0, c .before .before .before .before .before .before .before .before .before .before .pre .1)
+shift-requires c κs = omega (arith, c .before .before .before .before .judge-name-mapping .ensures .1, ap (λ r. reach (toldReach r)) (c .before .before .mapping .given .1), c .judge-late-timers2 .ensures .1, start (c .before .before .before .before) .pre .0, start (c .before .before .before .before) .pre .1)
 
 returns-3 : tie.Need-returns-3
 returns-3 c =
-    let b : Bytes (now (c .before .before .before .before .before .before .before .before .before .before .before .args .names)) = λ i. c .before .before .before .before .before .before .before .before .before .before .shared-slice-known .given i .fits in
-    let time : c .before .before .before .before .before .before .before .before .before .before .before .args .head .timestamp < 4294967296 = search needs in (
+    let b : Bytes (now (start (c .before .before .before .before .before) .args .names)) = λ i. after-slice (c .before .before .before .before .before) .shared-slice-known .given i .fits in
+    let time : start (c .before .before .before .before .before) .args .head .timestamp < 4294967296 = search needs in (
       (λ l k x y f.
-          let nameMapping = mappingOn (c .before .before .before .before .before .before .before .before .before .before .before .args .head) l in
-          ending-on (c .before .before .before .before .before .before .before .before .before .before .before .args .head) l k (search needs) (name-mapping-settled (freeIn (now (c .before .before .before .before .before .before .before .before .before .before .before .args .ids))) nameMapping b time x) (c .before .before .before .before .before .judge-name-mapping .ensures .0 nameMapping time x) (ap toldReach (c .before .before .before .mapping .given .1))
+          let nameMapping = mappingOn (start (c .before .before .before .before .before) .args .head) l in
+          ending-on (start (c .before .before .before .before .before) .args .head) l k (search needs) (name-mapping-settled (freeIn (now (start (c .before .before .before .before .before) .args .ids))) nameMapping b time x) (c .before .before .before .before .before .judge-name-mapping .ensures .0 nameMapping time x) (ap toldReach (c .before .before .before .mapping .given .1))
           (c .before .judge-late-timers2 .ensures .0 k y f) (c .shift .ensures)),
       omega (arith, ap reach (c .shift .ensures), shift-reach (c .before .before .before .mapping .given .0 .0) (toldReach (c .before .judge-late-timers2 .result)), c .before .before .before .before .before .judge-name-mapping .ensures .1, ap (λ r. reach (toldReach r)) (c .before .before .before .mapping .given .1), c .before .judge-late-timers2 .ensures .1),
     )

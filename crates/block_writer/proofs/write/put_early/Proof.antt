@@ -11,6 +11,13 @@ use Rattle.block_writer.proofs.PutPieces.{early-timed, early-noTimers, 
 use Rattle.block_writer.proofs.write.put_early.Statement.{statement}
 use Rattle.block_writer.proofs.write.put_early.Tie as tie
 
+-- places in the function, each from the places behind it
+abbrev start₁ : tie.After-struct-known2 → tie.Start
+start₁ c = c .before .before .before .before .before
+
+abbrev start₂ : tie.After-slice-known4 → tie.Start
+start₂ c = c .before .before .before .before .before .before .before .before .before .before
+
 -- the bytes in each case
 abbrev bytes : tie.Start → List ℕ
 bytes s = let a = s .args in earlyBytes (a .head .version) (a .head .timer) (a .count) (now (a .rows))
@@ -25,7 +32,7 @@ of-23 : (c : tie.Then3) → bytes (c .before .before .before .before .before .be
 of-23 c = let a = c .before .before .before .before .before .before .args in early-23 (a .head .version) (a .head .timer) (a .count) (now (a .rows)) (c .if3 .taken)
 
 put-byte-and-list-requires : tie.Need-put-byte-and-list-requires
-put-byte-and-list-requires c κs = rw (timersFit (c .before)) at (c .before .before .before .before .before .before .before .pre)
+put-byte-and-list-requires c κs = rw (timersFit (c .before)) at (start₁ (c .before .before) .pre)
 
 same-length : tie.Need-same-length
 same-length c = search needs
@@ -37,14 +44,14 @@ put-u8-requires : tie.Need-put-u8-requires
 put-u8-requires c κs = search needs
 
 add-result : tie.Need-add-result
-add-result c = omega (arith, rw (noTimers (c .before .before .before .before)) at (c .before .before .before .before .before .before .before .before .before .before .pre))
+add-result c = omega (arith, rw (noTimers (c .before .before .before .before)) at (start₁ (c .before .before .before .before .before) .pre))
 
 same-length-2 : tie.Need-same-length-2
 same-length-2 c = search needs
 
 returns-2 : tie.Need-returns-2
 returns-2 c =
-    let s = c .before .before .before .before .before .before .before .before .before .before in
+    let s = start₁ (c .before .before .before .before .before) in
     let e = noTimers (c .before .before .before .before) in
     rw e (put-number (s .args .at) 1 (s .args .head .timer) (rw e at (s .pre)) (c .before .before .put-u8 .ensures))
 
@@ -52,14 +59,14 @@ put-u8-requires-2 : tie.Need-put-u8-requires-2
 put-u8-requires-2 c κs = search needs
 
 add-result-2 : tie.Need-add-result-2
-add-result-2 c = omega (arith, rw (of-23 (c .before .before .before .before)) at (c .before .before .before .before .before .before .before .before .before .before .pre))
+add-result-2 c = omega (arith, rw (of-23 (c .before .before .before .before)) at (start₂ c .pre))
 
 same-length-3 : tie.Need-same-length-3
 same-length-3 c = search needs
 
 returns-3 : tie.Need-returns-3
 returns-3 c =
-    let s = c .before .before .before .before .before .before .before .before .before .before in
+    let s = start₂ c in
     let e = of-23 (c .before .before .before .before) in
     rw e (put-number (s .args .at) 1 0 (rw e at (s .pre)) (c .before .before .put-u82 .ensures))
 

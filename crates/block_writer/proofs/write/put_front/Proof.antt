@@ -22,6 +22,9 @@ third s = let a = s .args in nodesBytes (a .head .version) (now (a .param0)) (no
 abbrev start₁ : tie.After-put-opening → tie.Start
 start₁ c = c .before .before .before .before .before .before .before
 
+abbrev after-put-opening : tie.After-put-nodes-arg → tie.After-put-opening
+after-put-opening c = c .before .before .before .before .before .before .before .before
+
 room₁ : (c : tie.After-put-opening) → c .put-opening .result + length (second (start₁ c) ++ third (start₁ c)) ≤ length (c .put-opening .last .0)
 room₁ c = let s = start₁ c in put-room (second s ++ third s) (rw zero-add (s .pre)) (c .put-opening .ensures)
 
@@ -32,14 +35,14 @@ put-name-mapping-if-requires : tie.Need-put-name-mapping-if-requires
 put-name-mapping-if-requires c κs = let one = c .before .before .before .before in front-room (one .put-opening .result) (second (start₁ one)) (third (start₁ one)) (room₁ one)
 
 put-nodes-requires : tie.Need-put-nodes-requires
-put-nodes-requires c κs = let one = c .before .before .before .before .before .before .before .before in put-room {u = second (start₁ one)} (third (start₁ one)) (room₁ one) (c .before .before .before .put-name-mapping-if .ensures)
+put-nodes-requires c κs = let one = after-put-opening c in put-room {u = second (start₁ one)} (third (start₁ one)) (room₁ one) (c .before .before .before .put-name-mapping-if .ensures)
 
 same-length : tie.Need-same-length
 same-length c = search needs
 
 returns : tie.Need-returns
 returns c =
-    let one = c .before .before .before .before .before .before .before .before .before .before .before in
+    let one = after-put-opening (c .before .before .before) in
     put-two (rw zero-add (start₁ one .pre)) (one .put-opening .ensures) (λ r. put-two {u = second (start₁ one)} r (c .before .before .before .before .before .before .put-name-mapping-if .ensures) (λ _. c .before .before .put-nodes .ensures))
 
 pub put-front-spec : {M : Type 1} → statement M

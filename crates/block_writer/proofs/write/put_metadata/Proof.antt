@@ -17,6 +17,13 @@ use Rattle.block_writer.proofs.PutPieces.{metadata-22, metadata-23}
 use Rattle.block_writer.proofs.write.put_metadata.Statement.{statement}
 use Rattle.block_writer.proofs.write.put_metadata.Tie as tie
 
+-- places in the function, each from the places behind it
+abbrev start : tie.After-put-list-arg → tie.Start
+start c = c .before .before .before .before .before .before .before .before
+
+abbrev then1 : tie.After-put-list-arg → tie.Then1
+then1 c = c .before .before .before .before .before
+
 abbrev list : tie.Start → List ℕ
 list s = listBytes (s .args .count) (now (s .args .rows))
 
@@ -44,13 +51,13 @@ add-put-list : tie.Need-add-put-list
 add-put-list c = search needs
 
 put-list-requires : tie.Need-put-list-requires
-put-list-requires c κs = put-room (list (c .before .before .before .before .before .before .before .before)) (room-22 (c .before .before .before .before .before)) (version-put (c .before .before .before))
+put-list-requires c κs = put-room (list (start c)) (room-22 (c .before .before .before .before .before)) (version-put (c .before .before .before))
 
 same-length : tie.Need-same-length
 same-length c = search needs
 
 returns : tie.Need-returns
-returns c = rw (of-22 (c .before .before .before .before .before .before .before .before)) (put-two (room-22 (c .before .before .before .before .before .before .before .before)) (version-put (c .before .before .before .before .before .before)) (λ _. c .before .before .put-list .ensures))
+returns c = rw (of-22 (then1 (c .before .before .before))) (put-two (room-22 (then1 (c .before .before .before))) (version-put (c .before .before .before .before .before .before)) (λ _. c .before .before .put-list .ensures))
 
 put-byte-and-list-requires : tie.Need-put-byte-and-list-requires
 put-byte-and-list-requires c κs = rw (of-23 (c .before .before)) at (c .before .before .before .before .before .pre)

@@ -27,6 +27,12 @@ start₁ c = c .before .before .before .before .before .before .before .before .
 abbrev start₂ : tie.After-put-param0 → tie.Start
 start₂ c = start₁ (c .before .before .before .before)
 
+abbrev start₃ : tie.After-put-run-arg2 → tie.Start
+start₃ c = start₂ (c .before .before .before .before .before .before .before)
+
+abbrev after-put-param0 : tie.After-put-run-arg2 → tie.After-put-param0
+after-put-param0 c = c .before .before .before .before .before .before .before
+
 widths : (c : tie.After-put-u82) → (let a = start₁ c .args in PutAt (a .at) (toBE 1 (width (a .version)) ++ toBE 1 2) (now (a .out)) (c .put-u82 .last .0) (a .at + 2))
 widths c =
     let s = start₁ c in
@@ -58,20 +64,20 @@ add-put-param0 : tie.Need-add-put-param0
 add-put-param0 c = search needs
 
 put-param0-requires : tie.Need-put-param0-requires
-put-param0-requires c κs = let s = c .before .before .before .before .before .before .before .before .before .before .before .before .before .before in front-room (s .args .at + 2) (entries s) (behind s) (room₁ (c .before .before .before))
+put-param0-requires c κs = let s = start₁ (c .before .before .before) in front-room (s .args .at + 2) (entries s) (behind s) (room₁ (c .before .before .before))
 
 put-run-requires : tie.Need-put-run-requires
-put-run-requires c κs = let a = c .before .before .before .before .before .before .before .before .before .before .before .before .before .before .before .before .before .before .args in front-room (c .before .before .before .put-param0 .result) (now (a .param1)) (now (a .param2)) (room₂ (c .before .before .before))
+put-run-requires c κs = let a = start₂ (c .before .before .before) .args in front-room (c .before .before .before .put-param0 .result) (now (a .param1)) (now (a .param2)) (room₂ (c .before .before .before))
 
 put-run-requires-2 : tie.Need-put-run-requires-2
-put-run-requires-2 c κs = put-room (now (c .before .before .before .before .before .before .before .before .before .before .before .before .before .before .before .before .before .before .before .before .before .before .args .param2)) (room₂ (c .before .before .before .before .before .before .before)) (c .before .before .before .put-run .ensures)
+put-run-requires-2 c κs = put-room (now (start₃ c .args .param2)) (room₂ (after-put-param0 c)) (c .before .before .before .put-run .ensures)
 
 same-length : tie.Need-same-length
 same-length c = search needs
 
 returns : tie.Need-returns
 returns c =
-    let two = c .before .before .before .before .before .before .before .before .before .before in
+    let two = after-put-param0 (c .before .before .before) in
     let one = two .before .before .before .before in
     put-two (start₁ one .pre) (widths one) (λ r. put-two r (two .put-param0 .ensures) (λ s. put-two s (c .before .before .before .before .before .before .put-run .ensures) (λ _. c .before .before .put-run2 .ensures)))
 

@@ -1,4 +1,5 @@
--- The invariant: the room that is left, with the lines that were passed, makes the room.
+-- The invariant: the room that is left, with the lines that were passed, makes the room. The measure: the number of bytes of rows
+-- that are left.
 use borrow.Author.Needs.{needs}
 use Prim.Native.Nat.{_+_, _≤_}
 use native.Mathlib.Omega.{arith}
@@ -19,6 +20,13 @@ Inv-loop rows room rest₀ left₀ rest left = Measuring rows rest room left
 
 abbrev μ-loop : tie.MeasureT-loop
 μ-loop rows room rest₀ left₀ rest left = length rest
+
+-- places in the function, each from the places behind it
+abbrev start : tie.After-decimal-length Inv-loop μ-loop → tie.Start Inv-loop μ-loop
+start c = c .before .before .before .before .before .before .before
+
+abbrev at-loop : tie.After-decimal-length Inv-loop μ-loop → tie.At-loop Inv-loop μ-loop
+at-loop c = c .before .before .before .before .before
 
 -- the front row
 front : (c : tie.After-known-told Inv-loop μ-loop) → Front (now (c .before .before .before .before .loop .rest)) (rows.Row (c .before .n .given .0 .0) (c .before .n .given .0 .1 .0))
@@ -46,16 +54,16 @@ decimal-length-requires : tie.Need-decimal-length-requires Inv-loop μ-loop
 decimal-length-requires c κs = search needs
 
 add-size : tie.Need-add-size Inv-loop μ-loop
-add-size c = omega (arith, decimal-short (c .before .before .n .given .0 .1 .0), c .decimal-length .ensures, inside (c .before), c .before .before .before .before .before .loop .inv .short, c .before .before .before .before .before .before .before .good)
+add-size c = omega (arith, decimal-short (c .before .before .n .given .0 .1 .0), c .decimal-length .ensures, inside (c .before), c .before .before .before .before .before .loop .inv .short, start c .good)
 
 add-size-2 : tie.Need-add-size-2 Inv-loop μ-loop
-add-size-2 c = omega (arith, decimal-short (c .before .before .n .given .0 .1 .0), c .decimal-length .ensures, inside (c .before), c .before .before .before .before .before .loop .inv .short, c .before .before .before .before .before .before .before .good)
+add-size-2 c = omega (arith, decimal-short (c .before .before .n .given .0 .1 .0), c .decimal-length .ensures, inside (c .before), c .before .before .before .before .before .loop .inv .short, start c .good)
 
 returns-2 : tie.Need-returns-2 Inv-loop μ-loop
 returns-2 c = measuring-full (c .before .before .before .before .before .before .loop .inv) _ _ _ (front (c .before .before)) (c .before .decimal-length .ensures) (c .if1 .taken)
 
 add-rest : tie.Need-add-rest Inv-loop μ-loop
-add-rest c = omega (arith, inside (c .before .before), c .before .before .before .before .before .before .loop .inv .short, c .before .before .before .before .before .before .before .before .good)
+add-rest c = omega (arith, inside (c .before .before), c .before .before .before .before .before .before .loop .inv .short, start (c .before) .good)
 
 sub-rest : tie.Need-sub-rest Inv-loop μ-loop
 sub-rest c = inside (c .before .before)
@@ -70,7 +78,7 @@ loop-less : tie.Need-loop-less Inv-loop μ-loop
 loop-less c = behind-short _ _ _ (front (c .before .before .before))
 
 loop-again : tie.Need-loop-again Inv-loop μ-loop
-loop-again c = measuring-on (c .before .before .before .before .before .before .before .loop .inv) _ _ _ (front (c .before .before .before)) (c .before .before .decimal-length .ensures) (c .before .if1 .left)
+loop-again c = measuring-on (at-loop (c .before .before) .loop .inv) _ _ _ (front (c .before .before .before)) (c .before .before .decimal-length .ensures) (c .before .if1 .left)
 
 pub lines-fit-spec : {M : Type 1} → statement M
 lines-fit-spec =

@@ -8,6 +8,22 @@ use Rattle.report.proofs.Texts.{line-size, line-put}
 use Rattle.report.proofs.lines.put_line.Statement.{statement}
 use Rattle.report.proofs.lines.put_line.Tie as tie
 
+-- places in the function, each from the places behind it
+abbrev start : tie.After-slice-known4 → tie.Start
+start c = c .before .before .before .before .before .before .before .before .before .before .before .before .before .before .before
+
+abbrev after-put-decimal₁ : tie.After-put-bytes-arg3 → tie.After-put-decimal
+after-put-decimal₁ c = c .before .before .before .before .before .before .before .before
+
+abbrev after-put-decimal₂ : tie.After-slice-known4 → tie.After-put-decimal
+after-put-decimal₂ c = after-put-decimal₁ (c .before .before .before)
+
+abbrev after-put-bytes : tie.After-slice-known4 → tie.After-put-bytes
+after-put-bytes c = c .before .before .before .before .before .before
+
+abbrev after-put-bytes2 : tie.After-slice-known4 → tie.After-put-bytes2
+after-put-bytes2 c = c .before .before
+
 -- the row whose line is asked for, and that it fits
 abbrev asked : tie.Start → Row ℕ
 asked s = record { name = now (s .args .name); count = s .args .count }
@@ -28,16 +44,16 @@ put-bytes-requires : tie.Need-put-bytes-requires
 put-bytes-requires c κs = search needs
 
 add-put-bytes : tie.Need-add-put-bytes
-add-put-bytes c = omega (arith, room (c .before .before .before .before .before .before .before .before))
+add-put-bytes c = omega (arith, room (after-put-decimal₁ c))
 
 put-bytes-requires-2 : tie.Need-put-bytes-requires-2
 put-bytes-requires-2 c κs = search needs
 
 add-end : tie.Need-add-end
-add-end c = omega (arith, room (c .before .before .before .before .before .before .before .before .before .before .before))
+add-end c = omega (arith, room (after-put-decimal₂ c))
 
 add-end-2 : tie.Need-add-end-2
-add-end-2 c = omega (arith, room (c .before .before .before .before .before .before .before .before .before .before .before))
+add-end-2 c = omega (arith, room (after-put-decimal₂ c))
 
 slice-aggregate-put-bytes-2 : tie.Need-slice-aggregate-put-bytes-2
 slice-aggregate-put-bytes-2 c = search needs
@@ -46,15 +62,15 @@ put-bytes-requires-3 : tie.Need-put-bytes-requires-3
 put-bytes-requires-3 c κs = search needs
 
 add-result : tie.Need-add-result
-add-result c = omega (arith, room (c .before .before .before .before .before .before .before .before .before .before .before .before .before .before .before .before))
+add-result c = omega (arith, room (after-put-decimal₂ (c .before .before .before .before .before)))
 
 same-length : tie.Need-same-length
 same-length c = search needs
 
 returns : tie.Need-returns
 returns c =
-    let s = c .before .before .before .before .before .before .before .before .before .before .before .before .before .before .before .before .before .before .before .before in
-    line-put (c .before .before .before .before .before .before .before .before .before .before .before .before .before .before .before .before .put-decimal .result) (asked s) (c .before .before .before .before .before .before .before .before .before .before .before .before .before .before .before .before .put-decimal .ensures .0) (s .args .at) (s .pre) (c .before .before .before .before .before .before .before .before .before .before .before .before .before .before .before .before .put-decimal .ensures .1) (c .before .before .before .before .before .before .before .before .before .before .before .put-bytes .ensures) (c .before .before .before .before .before .before .before .put-bytes2 .ensures) (c .before .before .put-bytes3 .ensures)
+    let s = start (c .before .before .before .before .before) in
+    line-put (after-put-decimal₂ (c .before .before .before .before .before) .put-decimal .result) (asked s) (after-put-decimal₂ (c .before .before .before .before .before) .put-decimal .ensures .0) (s .args .at) (s .pre) (after-put-decimal₂ (c .before .before .before .before .before) .put-decimal .ensures .1) (after-put-bytes (c .before .before .before .before .before) .put-bytes .ensures) (after-put-bytes2 (c .before .before .before .before .before) .put-bytes2 .ensures) (c .before .before .put-bytes3 .ensures)
 
 pub put-line-spec : {M : Type 1} → statement M
 put-line-spec =

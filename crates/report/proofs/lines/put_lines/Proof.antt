@@ -1,4 +1,5 @@
--- The invariant: the lines that are written, with those of the rows that are left, make the lines.
+-- The invariant: the lines that are written, with those of the rows that are left, make the lines. The measure: the number of bytes of rows
+-- that are left.
 use borrow.Author.Needs.{needs}
 use Prim.Native.Nat.{_+_, _≤_}
 use native.Mathlib.Omega.{arith}
@@ -18,6 +19,13 @@ Inv-loop out₀ from rows rest₀ at₀ out rest at = Writing from rows rest out
 
 abbrev μ-loop : tie.MeasureT-loop
 μ-loop out₀ from rows rest₀ at₀ out rest at = length rest
+
+-- places in the function, each from the places behind it
+abbrev start : tie.After-put-line-arg Inv-loop μ-loop → tie.Start Inv-loop μ-loop
+start c = c .before .before .before .before .before .before .before .before
+
+abbrev at-loop : tie.After-put-line-arg Inv-loop μ-loop → tie.At-loop Inv-loop μ-loop
+at-loop c = c .before .before .before .before .before
 
 -- the front row
 front : (c : tie.After-known-told Inv-loop μ-loop) → Front (now (c .before .before .before .before .loop .rest)) (rows.Row (c .before .n .given .0 .0) (c .before .n .given .0 .1 .0))
@@ -45,7 +53,7 @@ returns : tie.Need-returns Inv-loop μ-loop
 returns c = writing-end (c .before .before .before .loop .inv) (told-as (toldRow _) (c .before .before .front-row .ensures) (c .enum-told .given .1))
 
 add-put-line : tie.Need-add-put-line Inv-loop μ-loop
-add-put-line c = omega (arith, inside (c .before), c .before .before .before .before .before .loop .inv .short, c .before .before .before .before .before .before .before .before .good)
+add-put-line c = omega (arith, inside (c .before), c .before .before .before .before .before .loop .inv .short, start c .good)
 
 sub-put-line : tie.Need-sub-put-line Inv-loop μ-loop
 sub-put-line c = search needs
@@ -57,10 +65,10 @@ part-put-line-end : tie.Need-part-put-line-end Inv-loop μ-loop
 part-put-line-end c = omega (arith, inside (c .before))
 
 put-line-requires : tie.Need-put-line-requires Inv-loop μ-loop
-put-line-requires c κs = writing-room (c .before .before .before .before .before .before .loop .inv) (c .before .before .before .n .given .0 .0) (c .before .before .before .n .given .0 .1 .0) (front (c .before .before)) (c .before .before .before .before .before .before .before .before .before .pre)
+put-line-requires c κs = writing-room (c .before .before .before .before .before .before .loop .inv) (c .before .before .before .n .given .0 .0) (c .before .before .before .n .given .0 .1 .0) (front (c .before .before)) (start (c .before) .pre)
 
 add-rest : tie.Need-add-rest Inv-loop μ-loop
-add-rest c = omega (arith, inside (c .before .before .before .before .before), c .before .before .before .before .before .before .before .before .before .loop .inv .short, c .before .before .before .before .before .before .before .before .before .before .before .before .good)
+add-rest c = omega (arith, inside (c .before .before .before .before .before), at-loop (c .before .before .before .before) .loop .inv .short, start (c .before .before .before .before) .good)
 
 sub-rest : tie.Need-sub-rest Inv-loop μ-loop
 sub-rest c = inside (c .before .before .before .before .before)
@@ -75,7 +83,7 @@ loop-less : tie.Need-loop-less Inv-loop μ-loop
 loop-less c = behind-short _ _ _ (front (c .before .before .before .before .before .before))
 
 loop-again : tie.Need-loop-again Inv-loop μ-loop
-loop-again c = writing-on (c .before .before .before .before .before .before .before .before .before .before .loop .inv) _ _ (front (c .before .before .before .before .before .before)) (c .before .before .before .put-line .ensures) (omega arith)
+loop-again c = writing-on (at-loop (c .before .before .before .before .before) .loop .inv) _ _ (front (c .before .before .before .before .before .before)) (c .before .before .before .put-line .ensures) (omega arith)
 
 pub put-lines-spec : {M : Type 1} → statement M
 put-lines-spec =

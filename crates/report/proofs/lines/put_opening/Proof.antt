@@ -5,6 +5,16 @@ use Rattle.report.proofs.Texts.{opening-put}
 use Rattle.report.proofs.lines.put_opening.Statement.{statement}
 use Rattle.report.proofs.lines.put_opening.Tie as tie
 
+-- places in the function, each from the places behind it
+abbrev start : tie.After-slice-known3 → tie.Start
+start c = c .before .before .before .before .before .before .before .before .before .before
+
+abbrev after-put-bytes : tie.After-slice-known3 → tie.After-put-bytes
+after-put-bytes c = c .before .before .before .before .before .before
+
+abbrev after-put-decimal : tie.After-slice-known3 → tie.After-put-decimal
+after-put-decimal c = c .before .before
+
 slice-aggregate-put-bytes : tie.Need-slice-aggregate-put-bytes
 slice-aggregate-put-bytes c = search needs
 
@@ -15,7 +25,7 @@ put-decimal-requires : tie.Need-put-decimal-requires
 put-decimal-requires c κs = search needs
 
 add-end : tie.Need-add-end
-add-end c = omega (arith, decimal-short (c .before .before .before .before .before .before .before .before .before .before .args .rows), c .before .before .put-decimal .ensures .0)
+add-end c = omega (arith, decimal-short (start c .args .rows), c .before .before .put-decimal .ensures .0)
 
 slice-aggregate-put-bytes-2 : tie.Need-slice-aggregate-put-bytes-2
 slice-aggregate-put-bytes-2 c = search needs
@@ -24,13 +34,13 @@ put-bytes-requires-2 : tie.Need-put-bytes-requires-2
 put-bytes-requires-2 c κs = search needs
 
 add-result : tie.Need-add-result
-add-result c = omega (arith, decimal-short (c .before .before .before .before .before .before .before .before .before .before .before .before .before .before .before .args .rows), c .before .before .before .before .before .before .before .put-decimal .ensures .0)
+add-result c = omega (arith, decimal-short (start (c .before .before .before .before .before) .args .rows), after-put-decimal (c .before .before .before .before .before) .put-decimal .ensures .0)
 
 same-length : tie.Need-same-length
 same-length c = search needs
 
 returns : tie.Need-returns
-returns c = opening-put (c .before .before .before .before .before .before .before .before .before .before .before .before .before .before .before .args .rows) (c .before .before .before .before .before .before .before .put-decimal .result) (c .before .before .before .before .before .before .before .put-decimal .ensures .0) (c .before .before .before .before .before .before .before .before .before .before .before .before .before .before .before .pre) (c .before .before .before .before .before .before .before .before .before .before .before .put-bytes .ensures) (c .before .before .before .before .before .before .before .put-decimal .ensures .1) (c .before .before .put-bytes2 .ensures)
+returns c = opening-put (start (c .before .before .before .before .before) .args .rows) (after-put-decimal (c .before .before .before .before .before) .put-decimal .result) (after-put-decimal (c .before .before .before .before .before) .put-decimal .ensures .0) (start (c .before .before .before .before .before) .pre) (after-put-bytes (c .before .before .before .before .before) .put-bytes .ensures) (after-put-decimal (c .before .before .before .before .before) .put-decimal .ensures .1) (c .before .before .put-bytes2 .ensures)
 
 pub put-opening-spec : {M : Type 1} → statement M
 put-opening-spec =

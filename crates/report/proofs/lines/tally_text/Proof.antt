@@ -24,6 +24,24 @@ out s = now (s .args .out)
 abbrev start : tie.After-known-told → tie.Start
 start k = k .before .before .before .before .before .before
 
+abbrev after-known-told : tie.After-put-lines-arg → tie.After-known-told
+after-known-told c = c .before .before .before .before .before .before .before .before .before .before
+
+abbrev after-decimal-length : tie.After-put-lines-arg → tie.After-decimal-length
+after-decimal-length c = c .before .before .before .before .before .before .before .before .before
+
+abbrev else1 : tie.After-put-lines-arg → tie.Else1
+else1 c = c .before .before .before .before .before .before .before .before
+
+abbrev after-lines-fit : tie.After-put-lines-arg → tie.After-lines-fit
+after-lines-fit c = c .before .before .before .before .before .before
+
+abbrev else2 : tie.After-put-lines-arg → tie.Else2
+else2 c = c .before .before .before .before .before
+
+abbrev after-put-opening : tie.After-put-lines-arg → tie.After-put-opening
+after-put-opening c = c .before .before .before
+
 counted : (k : tie.After-known-told) → Checked one (t (start k)) (k .before .rows .given .0 .0)
 counted k = checked one (t (start k)) (ap toldCheck (sym (k .before .rows .given .1)) ∙ k .before .before .before .check .ensures)
 
@@ -85,26 +103,26 @@ put-opening-requires c κs =
     head-room (t (start k)) (out (start k)) (counted k) (tallied k) (c .before .before .before .before .before .decimal-length .ensures) (c .before .before .before .before .if1 .left)
 
 sub-put-lines : tie.Need-sub-put-lines
-sub-put-lines c = tallied (c .before .before .before .before .before .before .before .before .before .before) .long
+sub-put-lines c = tallied (after-known-told c) .long
 
 part-put-lines-start : tie.Need-part-put-lines-start
-part-put-lines-start c = tallied (c .before .before .before .before .before .before .before .before .before .before) .long
+part-put-lines-start c = tallied (after-known-told c) .long
 
 part-put-lines-end : tie.Need-part-put-lines-end
 part-put-lines-end c = search needs
 
 put-lines-requires : tie.Need-put-lines-requires
 put-lines-requires c κs =
-    let k = c .before .before .before .before .before .before .before .before .before .before .before in
-    lines-room (t (start k)) (out (start k)) (counted k) (tallied k) (c .before .before .before .before .before .before .before .before .before .before .decimal-length .ensures) (c .before .before .before .before .before .before .before .before .before .if1 .left) (c .before .before .before .before .before .before .before .lines-fit .ensures) (not-false _ (c .before .before .before .before .before .before .if2 .left)) (c .before .before .before .before .put-opening .ensures)
+    let k = after-known-told (c .before) in
+    lines-room (t (start k)) (out (start k)) (counted k) (tallied k) (after-decimal-length (c .before) .decimal-length .ensures) (else1 (c .before) .if1 .left) (after-lines-fit (c .before) .lines-fit .ensures) (not-false _ (c .before .before .before .before .before .before .if2 .left)) (c .before .before .before .before .put-opening .ensures)
 
 same-length : tie.Need-same-length
 same-length c = search needs
 
 returns-4 : tie.Need-returns-4
 returns-4 c =
-    let k = c .before .before .before .before .before .before .before .before .before .before .before .before .before .before in
-    tally-all (t (start k)) (out (start k)) (counted k) (tallied k) (c .before .before .before .before .before .before .before .before .before .before .before .before .before .decimal-length .ensures) (c .before .before .before .before .before .before .before .before .before .before .before .before .if1 .left) (c .before .before .before .before .before .before .before .before .before .before .lines-fit .ensures) (not-false _ (c .before .before .before .before .before .before .before .before .before .if2 .left)) (c .before .before .before .before .before .before .before .put-opening .ensures) (c .before .before .put-lines .ensures)
+    let k = after-known-told (c .before .before .before .before) in
+    tally-all (t (start k)) (out (start k)) (counted k) (tallied k) (after-decimal-length (c .before .before .before .before) .decimal-length .ensures) (else1 (c .before .before .before .before) .if1 .left) (after-lines-fit (c .before .before .before .before) .lines-fit .ensures) (not-false _ (else2 (c .before .before .before .before) .if2 .left)) (after-put-opening (c .before .before .before .before) .put-opening .ensures) (c .before .before .put-lines .ensures)
 
 pub tally-text-spec : {M : Type 1} → statement M
 tally-text-spec =

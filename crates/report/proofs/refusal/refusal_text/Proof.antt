@@ -5,6 +5,28 @@ use Rattle.report.proofs.Texts.{refusal-short, refusal-all}
 use Rattle.report.proofs.refusal.refusal_text.Statement.{statement}
 use Rattle.report.proofs.refusal.refusal_text.Tie as tie
 
+-- places in the function, each from the places behind it
+abbrev after-decimal-length : tie.After-slice-known6 → tie.After-decimal-length
+after-decimal-length c = c .before .before .before .before .before .before .before .before .before .before .before .before .before .before .before .before .before .before .before .before .before .before .before .before .before
+
+abbrev after-decimal-length2 : tie.After-slice-known6 → tie.After-decimal-length2
+after-decimal-length2 c = c .before .before .before .before .before .before .before .before .before .before .before .before .before .before .before .before .before .before .before .before .before .before .before .before
+
+abbrev else1 : tie.After-slice-known6 → tie.Else1
+else1 c = c .before .before .before .before .before .before .before .before .before .before .before .before .before .before .before .before .before .before .before .before .before .before .before
+
+abbrev after-put-bytes : tie.After-slice-known6 → tie.After-put-bytes
+after-put-bytes c = c .before .before .before .before .before .before .before .before .before .before .before .before .before .before .before .before .before .before .before .before
+
+abbrev after-put-decimal : tie.After-slice-known6 → tie.After-put-decimal
+after-put-decimal c = c .before .before .before .before .before .before .before .before .before .before .before .before .before .before .before .before
+
+abbrev after-put-bytes2 : tie.After-slice-known6 → tie.After-put-bytes2
+after-put-bytes2 c = c .before .before .before .before .before .before .before .before .before .before .before
+
+abbrev after-put-decimal2 : tie.After-slice-known6 → tie.After-put-decimal2
+after-put-decimal2 c = c .before .before .before .before .before .before .before
+
 decimal-length-requires : tie.Need-decimal-length-requires
 decimal-length-requires c κs = search needs
 
@@ -58,8 +80,8 @@ same-length c = search needs
 
 returns-2 : tie.Need-returns-2
 returns-2 c =
-    refusal-all _ _ _ _ (c .before .before .before .before .before .before .before .before .before .before .before .before .before .before .before .before .before .before .before .before .before .before .before .before .before .decimal-length .ensures) (c .before .before .before .before .before .before .before .before .before .before .before .before .before .before .before .before .before .before .before .before .before .before .before .before .decimal-length2 .ensures) _ (c .before .before .before .before .before .before .before .before .before .before .before .before .before .before .before .before .before .before .before .before .before .before .before .if1 .left)
-    (c .before .before .before .before .before .before .before .before .before .before .before .before .before .before .before .before .before .before .before .before .put-bytes .ensures) (c .before .before .before .before .before .before .before .before .before .before .before .before .before .before .before .before .put-decimal .ensures .1) (c .before .before .before .before .before .before .before .before .before .before .before .put-bytes2 .ensures) (c .before .before .before .before .before .before .before .put-decimal2 .ensures .1) (c .before .before .put-bytes3 .ensures)
+    refusal-all _ _ _ _ (after-decimal-length c .decimal-length .ensures) (after-decimal-length2 c .decimal-length2 .ensures) _ (else1 c .if1 .left)
+    (after-put-bytes c .put-bytes .ensures) (after-put-decimal c .put-decimal .ensures .1) (after-put-bytes2 c .put-bytes2 .ensures) (after-put-decimal2 c .put-decimal2 .ensures .1) (c .before .before .put-bytes3 .ensures)
 
 pub refusal-text-spec : {M : Type 1} → statement M
 refusal-text-spec =
