@@ -26,7 +26,7 @@ ghost use Rattle.mapblock.specs.Layout.{variable, metadataRow, position}
 ghost use Rattle.mapblock.specs.Rows.{metadataFields};
 ghost use Rattle.mapblock.specs.Told.{toldReach, ended, toldMetadata};
 
-// A row's numbers, and where its runs stand in the part it was read from. Type and content are version 22's, the others stand from 23 on.
+// A row's numbers, and where its runs stand in the bytes it was read from. Type and content are version 22's, the others stand from 23 on.
 pub struct MetadataFields {
     pub position: u16,
     pub kind: u16,
@@ -67,7 +67,7 @@ pub fn key_and_value(s: &[u8]) -> Reach
     }
 }
 
-// One variable at the front of a part; from version 28 on the private byte follows its value.
+// Reads one variable at the front of the bytes; from version 28 on the private byte follows its value.
 fn variable(version: u8, s: &[u8]) -> Reach
     ensures { λ r. ⌜ toldReach r ≡ ended (variable version .read (now (s .entry))) ⌝ }
 {
@@ -96,7 +96,7 @@ fn variable(version: u8, s: &[u8]) -> Reach
     }
 }
 
-// So many variables. A count that the bytes cannot hold costs no more than the bytes that are there.
+// Reads so many variables. A count that the bytes cannot hold costs no more than the bytes that are there.
 fn variables(version: u8, s: &[u8], count: u32) -> Reach
     ensures { λ r. ⌜ toldReach r ≡ ended (items (λ _. variable version) count .read (now (s .entry))) ⌝ }
 {
@@ -216,7 +216,7 @@ fn new_row(version: u8, at: u16, s: &[u8]) -> MetadataRead
     }
 }
 
-// The row at the front of a part, judged alone.
+// Reads the row at the front of the bytes, judged alone.
 pub(crate) fn metadata_row(version: u8, s: &[u8]) -> MetadataRead
     ensures { λ r. ⌜ toldMetadata r
         ≡ mapRead (metadataFields version) (metadataRow version [] .read (now (s .entry))) ⌝ }
