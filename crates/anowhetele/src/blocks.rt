@@ -17,11 +17,8 @@ use mapblock::read::sections;
 use wire::ranges::NO_RANGE;
 use wire::ranges::Range;
 ghost use mathlib.Core.Path.{_≡_};
-ghost use lib.ListN.{length};
-ghost use Rattle.wire.specs.Answer.{lent, mapAnswer};
-ghost use Rattle.mapblock.specs.Data.{Block};
-ghost use Rattle.mapblock.specs.Questions.{shown, readOf, sectionsOf, nodeNameOf};
-ghost use Rattle.anowhetele.specs.Blocks.{noBlock, noNode, handedBlock, handedNode};
+ghost use Rattle.mapblock.specs.Questions.{lists, sectionsOf, nodeNameOf};
+ghost use Rattle.anowhetele.specs.Blocks.{noBlock, noNode, handedBlock, HandedRead, handedNode};
 
 // The sections lie as four parts, one after the other.
 #[repr(C)]
@@ -56,22 +53,9 @@ pub extern "C" fn anow_read(
     param1: &mut [u8],
     param2: &mut [u8],
 ) -> AnowBlock
-    ensures told { λ r. ⌜ r
-        ≡ handedBlock (mapAnswer shown
-        (readOf (now (block .entry)) (length (now (param0 .entry))) (length (now (param1 .entry)))
-        (length (now (param2 .entry))))) ⌝ }
-    ensures param0 { λ _. ⌜ now (param0 .exit)
-        ≡ lent (mapAnswer (λ (b : Block). b .nodes .param0)
-        (readOf (now (block .entry)) (length (now (param0 .entry))) (length (now (param1 .entry)))
-        (length (now (param2 .entry))))) (now (param0 .entry)) ⌝ }
-    ensures param1 { λ _. ⌜ now (param1 .exit)
-        ≡ lent (mapAnswer (λ (b : Block). b .nodes .param1)
-        (readOf (now (block .entry)) (length (now (param0 .entry))) (length (now (param1 .entry)))
-        (length (now (param2 .entry))))) (now (param1 .entry)) ⌝ }
-    ensures param2 { λ _. ⌜ now (param2 .exit)
-        ≡ lent (mapAnswer (λ (b : Block). b .nodes .param2)
-        (readOf (now (block .entry)) (length (now (param0 .entry))) (length (now (param1 .entry)))
-        (length (now (param2 .entry))))) (now (param2 .entry)) ⌝ }
+    ensures { λ r. ⌜ HandedRead (now (block .entry)) r
+        (lists (now (param0 .entry)) (now (param1 .entry)) (now (param2 .entry)))
+        (lists (now (param0 .exit)) (now (param1 .exit)) (now (param2 .exit))) ⌝ }
 {
     match read(block, param0, param1, param2) {
         ReadAnswer::Block { head, sections } => AnowBlock {

@@ -19,7 +19,7 @@ use Rattle.mapblock.specs.Params.{listsOf}
 use Rattle.mapblock.specs.Sections.{scannedOf}
 use Rattle.mapblock.specs.Table.{freeIn}
 use Rattle.mapblock.specs.Numbers.{refusalNumber}
-use Rattle.mapblock.specs.Questions.{areWhole, blockAnswer, blockOf, shown, sectionsOf, readOf, partsOf}
+use Rattle.mapblock.specs.Questions.{areWhole, blockAnswer, blockOf, shown, sectionsOf, readOf, lists, ListsHold, partsOf}
 use Rattle.mapblock.specs.declared.fault.Fault.{Fault}
 use Rattle.wire.specs.declared.ranges.Range.{Range}
 use Rattle.mapblock.specs.declared.head.Sections.{Sections}
@@ -112,8 +112,8 @@ module _ (s : List ℕ) (a b c : ℕ) where
 
 -- a refusal leaves the lists as they were
 pub lists-kept : (x y z : List ℕ) {r : Answer Block} {n o p : ℕ} → r ≡ refusal n o p
-    → (refusal n o p ≡ mapAnswer shown r) × ((x ≡ lent (mapAnswer (λ (b : Block). b .nodes .param0) r) x) × ((y ≡ lent (mapAnswer (λ (b : Block). b .nodes .param1) r) y) × (z ≡ lent (mapAnswer (λ (b : Block). b .nodes .param2) r) z)))
-lists-kept x y z h = rw h (refl, (refl, (refl, refl)))
+    → (refusal n o p ≡ mapAnswer shown r) × ListsHold r (lists x y z) (lists x y z)
+lists-kept x y z h = rw h (refl, (refl, refl, refl))
 
 module _ {s : List ℕ} {w : Scanned} (k : TakenAs s w) {r : Answer Block} (h : r ≡ good (k .b)) where
   pub read-told : good (w .head, w .sections) ≡ mapAnswer shown r

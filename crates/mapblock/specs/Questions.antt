@@ -7,8 +7,8 @@ use lib.Dec.{leb, eqb}
 use lib.ListN.{length}
 use Rattle.wire.specs.Read.{Read, done, refused}
 use Rattle.wire.specs.Format.{encodeItems}
-use Rattle.wire.specs.Answer.{Answer, good, refusal, plain, mapAnswer, thenAnswer, partsMisfit, noSuch}
-use Rattle.mapblock.specs.Data.{NameRow, Block}
+use Rattle.wire.specs.Answer.{Answer, good, refusal, plain, mapAnswer, thenAnswer, lent, partsMisfit, noSuch}
+use Rattle.mapblock.specs.Data.{NameRow, Nodes, Block}
 use Rattle.mapblock.specs.Layout.{all, nameRow}
 use Rattle.mapblock.specs.Block.{idAt, verdict}
 use Rattle.mapblock.specs.Numbers.{refusalNumber}
@@ -45,9 +45,27 @@ sectionsOf s = mapAnswer shown (blockOf s)
 abbrev pub areWhole : ℕ → ℕ → ℕ → Bool
 areWhole a b c = eqb a 4096 && (eqb b 4096 && eqb c 4096)
 
--- The reader: 12 where a list lent is not of 4,096, and then the block. The lists hold what `lent` says of its param0, param1 and param2.
+-- The reader: 12 where a list lent is not of 4,096, and then the block. The numbers are the lengths of the lists.
 abbrev pub readOf : List ℕ → ℕ → ℕ → ℕ → Answer Block
 readOf s a b c = cond (areWhole a b c) (blockOf s) (plain partsMisfit)
+
+-- three lists lent for param0, param1 and param2
+abbrev pub lists : List ℕ → List ℕ → List ℕ → Nodes
+lists a b c = record { param0 = a; param1 = b; param2 = c }
+
+abbrev pub readInto : List ℕ → Nodes → Answer Block
+readInto s before = readOf s (length (before .param0)) (length (before .param1)) (length (before .param2))
+
+-- The lists hold the params of the block, or what they held where it is refused.
+abbrev pub ListsHold : Answer Block → Nodes → Nodes → Type 0
+ListsHold x before after =
+    (after .param0 ≡ lent (mapAnswer (λ (b : Block). b .nodes .param0) x) (before .param0))
+    × (after .param1 ≡ lent (mapAnswer (λ (b : Block). b .nodes .param1) x) (before .param1))
+    × (after .param2 ≡ lent (mapAnswer (λ (b : Block). b .nodes .param2) x) (before .param2))
+
+-- what the reader tells, and what the lists lent hold before and after
+abbrev pub ReadInto : List ℕ → Answer (Head × Sections) → Nodes → Nodes → Type 0
+ReadInto s told before after = (told ≡ mapAnswer shown (readInto s before)) × ListsHold (readInto s before) before after
 
 -- where the sections are; nowhere when refused
 abbrev pub partsOf : Answer (Head × Sections) → Sections

@@ -5,13 +5,14 @@ ghost use Prim.Native.Nat.{_+_, _≤_, _<_};
 ghost use lib.ListN.{length};
 ghost use Rattle.mapblock.specs.Bounds.{NoneAbove, Raised, Reached, IdsWithin};
 
+// Gives the greater of two bytes.
 fn greater(a: u8, b: u8) -> u8
     ensures { λ r. ⌜ (a ≤ r) × (b ≤ r) ⌝ }
 {
     if a < b { b } else { a }
 }
 
-// So many bytes are looked at side by side: a compiler turns a row of them into a few wide instructions.
+// So many bytes are compared side by side: a compiler turns a row of them into a few wide instructions.
 const COLUMNS: usize = 128;
 
 // Raises each column to the byte that stands in it, in the row of bytes at a place.
@@ -38,7 +39,7 @@ fn raise_all(columns: &mut [u8; COLUMNS], s: &[u8])
     }
 }
 
-// The greatest of every second column, the first one or the second on.
+// Finds the greatest byte of every second column, from the first one or from the second on.
 fn greatest_of(columns: &[u8; COLUMNS], first: usize) -> u8
     requires { ⌜ first < 2 ⌝ }
     ensures { λ r. ⌜ NoneAbove 64 (now (columns .entry)) first r ⌝ }
@@ -52,7 +53,7 @@ fn greatest_of(columns: &[u8; COLUMNS], first: usize) -> u8
     most
 }
 
-// No id is above it, where the bytes hold 4,096 of them.
+// Gives a number that no id is above, where the bytes hold 4,096 ids.
 pub(crate) fn id_bound(s: &[u8]) -> usize
     ensures bounded { λ r. ⌜ r < 65536 ⌝ }
     ensures told { λ r. ⌜ (8192 ≤ length (now (s .entry)) → IdsWithin (now (s .entry)) r) ⌝ }

@@ -26,7 +26,7 @@ pub enum Fault {
     IdUnmapped,
 }
 
-// Document 01's number of a fault, as specs/Numbers.antt gives it.
+// Gives document 01's number of a fault, as specs/Numbers.antt has it.
 pub fn refusal_number(fault: Fault) -> u32
     ensures { λ r. ⌜ r ≡ refusalNumber fault ⌝ }
 {

@@ -7,6 +7,7 @@ ghost use Rattle.mapblock.specs.Layout.{isVersion};
 // The lighting of a version that carries none.
 pub const NO_LIGHTING: u16 = 65535;
 
+// What a block says of itself beside its lists.
 #[repr(C)]
 pub struct Head {
     pub version: u8,
@@ -18,7 +19,7 @@ pub struct Head {
     pub timer: u8,
 }
 
-// The rows of each list, without its count.
+// Where the rows of each list stand, without its count.
 #[repr(C)]
 pub struct Sections {
     pub names: Range,
@@ -27,7 +28,7 @@ pub struct Sections {
     pub timers: Range,
 }
 
-// Of a block that is refused.
+// The sections of a block that is refused: nowhere.
 pub const NO_SECTIONS: Sections = Sections {
     names: NO_RANGE,
     metadata: NO_RANGE,
@@ -35,7 +36,7 @@ pub const NO_SECTIONS: Sections = Sections {
     timers: NO_RANGE,
 };
 
-// Whether a version is one of 22 to 29.
+// Tells whether a version is one of 22 to 29.
 pub fn is_version(version: u8) -> bool
     ensures { λ r. ⌜ r ≡ isVersion version ⌝ }
 {

@@ -2,7 +2,7 @@
 ghost use mathlib.Core.Path.{_≡_};
 ghost use Rattle.mapblock.specs.Light.{lightCount};
 
-// How many of the low twelve bits are zero: the ones among them, taken from twelve.
+// Counts how many of the low twelve bits are zero: twelve less the ones among them.
 pub fn light_count(lighting: u16) -> u32
     ensures { λ r. ⌜ r ≡ lightCount lighting ⌝ }
 {

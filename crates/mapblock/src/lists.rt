@@ -24,7 +24,7 @@ const OLD_LIST_VERSION_LENGTH: usize = 2;
 
 pub const OLD_METADATA_HEAD_LENGTH: usize = 4;
 
-// Behind a byte that is fixed, a count and so many rows.
+// Reads a list behind a byte that is fixed: a count and so many rows.
 fn fixed_list(kind: ListKind, version: u8, s: &[u8], value: u8, fault: Fault) -> Reach
     ensures { λ r. ⌜ toldReach r
         ≡ ended (fixed 1 value fault (listed 2 (rowAfter kind version)) .read (now (s .entry))) ⌝ }
@@ -47,7 +47,7 @@ fn fixed_list(kind: ListKind, version: u8, s: &[u8], value: u8, fault: Fault) ->
     }
 }
 
-// Version 22's list version is a u16.
+// Reads version 22's list of metadata, whose list version is a u16.
 fn old_metadata(version: u8, s: &[u8]) -> Reach
     requires { ⌜ version < 23 ⌝ }
     ensures { λ r. ⌜ toldReach r ≡ ended (metadata version .read (now (s .entry))) ⌝ }
@@ -73,7 +73,7 @@ fn old_metadata(version: u8, s: &[u8]) -> Reach
     }
 }
 
-// Step 5 of the layout, where it ends.
+// Reads the metadata, step 5 of the layout, and tells where it ends.
 pub(crate) fn metadata_list(version: u8, s: &[u8]) -> Reach
     ensures { λ r. ⌜ toldReach r ≡ ended (metadata version .read (now (s .entry))) ⌝ }
 {
@@ -90,7 +90,7 @@ pub(crate) fn metadata_list(version: u8, s: &[u8]) -> Reach
     )
 }
 
-// Step 6.
+// Reads the static objects, step 6, and tells where they end.
 pub(crate) fn object_list(version: u8, s: &[u8]) -> Reach
     ensures { λ r. ⌜ toldReach r ≡ ended (objects .read (now (s .entry))) ⌝ }
 {
@@ -103,7 +103,7 @@ pub enum EarlyRead {
     Refused { fault: Fault, offset: usize },
 }
 
-// Version 24's timer byte, 0 or 1, and with 1 a list of timers.
+// Reads version 24's timer byte, 0 or 1, and with 1 a list of timers.
 fn timers_of_24(s: &[u8]) -> EarlyRead
     ensures { λ r. ⌜ toldEarly r ≡ mapRead timerByte (earlyTimers 24 .read (now (s .entry))) ⌝ }
 {
@@ -134,7 +134,7 @@ fn timers_of_24(s: &[u8]) -> EarlyRead
     }
 }
 
-// Version 23's byte.
+// Reads version 23's byte behind the metadata, which is 0.
 fn byte_of_23(s: &[u8]) -> EarlyRead
     ensures { λ r. ⌜ toldEarly r ≡ mapRead timerByte (earlyTimers 23 .read (now (s .entry))) ⌝ }
 {
@@ -156,7 +156,7 @@ fn byte_of_23(s: &[u8]) -> EarlyRead
     }
 }
 
-// What follows the metadata.
+// Reads what follows the metadata: it depends on the version, and from 25 on it is nothing.
 pub(crate) fn early_timers(version: u8, s: &[u8]) -> EarlyRead
     ensures { λ r. ⌜ toldEarly r ≡ mapRead timerByte (earlyTimers version .read (now (s .entry))) ⌝ }
 {
@@ -169,7 +169,7 @@ pub(crate) fn early_timers(version: u8, s: &[u8]) -> EarlyRead
     EarlyRead::Timers { byte: 0, length: 0 }
 }
 
-// The timers at the end, from version 25.
+// Reads the timers at the end, step 8, which stand there from version 25 on.
 pub(crate) fn late_timers(version: u8, s: &[u8]) -> Reach
     ensures { λ r. ⌜ toldReach r ≡ ended (lateTimers version .read (now (s .entry))) ⌝ }
 {

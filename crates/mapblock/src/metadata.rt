@@ -28,7 +28,7 @@ ghost use Rattle.mapblock.specs.MetadataChecks.{positionFor, variableFor
 ghost use Rattle.mapblock.specs.Rows.{metadataFields};
 ghost use Rattle.mapblock.specs.Told.{toldReach, ended, toldPosition, toldMetadata};
 
-// A row's numbers, and where its runs stand in the part it was read from. Type and content are version 22's, the others stand from 23 on.
+// A row's numbers, and where its runs stand in the bytes it was read from. Type and content are version 22's, the others stand from 23 on.
 pub struct MetadataFields {
     pub position: u16,
     pub kind: u16,
@@ -69,7 +69,7 @@ fn key_and_value(s: &[u8]) -> Reach
     }
 }
 
-// One variable at the front of a part; from version 28 on the private byte follows its value.
+// Reads one variable at the front of the bytes; from version 28 on the private byte follows its value.
 fn variable(values: bool, version: u8, s: &[u8]) -> Reach
     ensures { λ r. ⌜ toldReach r ≡ ended (variableFor values version .read (now (s .entry))) ⌝ }
 {
@@ -99,7 +99,7 @@ fn variable(values: bool, version: u8, s: &[u8]) -> Reach
     }
 }
 
-// So many variables. A count that the bytes cannot hold costs no more than the bytes that are there.
+// Reads so many variables. A count that the bytes cannot hold costs no more than the bytes that are there.
 fn variables(values: bool, version: u8, s: &[u8], count: u32) -> Reach
     ensures { λ r. ⌜ toldReach r ≡ ended (items (λ _. variableFor values version) count .read (now (s .entry))) ⌝ }
 {
@@ -219,7 +219,7 @@ fn new_row(values: bool, version: u8, at: u16, s: &[u8]) -> MetadataRead
     }
 }
 
-// The position at the front of a row.
+// Reads the position at the front of a row.
 fn row_position(values: bool, s: &[u8]) -> PositionRead
     ensures { λ r. ⌜ toldPosition r ≡ positionFor values .read (now (s .entry)) ⌝ }
 {
@@ -232,7 +232,7 @@ fn row_position(values: bool, s: &[u8]) -> PositionRead
     }
 }
 
-// The row at the front of a part, alone.
+// Reads the row at the front of the bytes, alone.
 fn row(values: bool, version: u8, s: &[u8]) -> MetadataRead
     ensures { λ r. ⌜ toldMetadata r
         ≡ mapRead (metadataFields version) (metadataRowFor values version .read (now (s .entry))) ⌝ }
@@ -252,7 +252,7 @@ fn row(values: bool, version: u8, s: &[u8]) -> MetadataRead
     }
 }
 
-// The row at the front of a part, judged alone.
+// Reads the row at the front of the bytes, judged alone.
 pub(crate) fn metadata_row(version: u8, s: &[u8]) -> MetadataRead
     ensures { λ r. ⌜ toldMetadata r
         ≡ mapRead (metadataFields version) (metadataRow version [] .read (now (s .entry))) ⌝ }
@@ -260,7 +260,7 @@ pub(crate) fn metadata_row(version: u8, s: &[u8]) -> MetadataRead
     row(true, version, s)
 }
 
-// The same by its framing alone: whether the row is whole, and how long it is.
+// Reads it by its framing alone: this tells whether the row is whole, and how long it is.
 pub fn metadata_frame(version: u8, s: &[u8]) -> MetadataRead
     ensures { λ r. ⌜ toldMetadata r
         ≡ mapRead (metadataFields version) (metadataRowFor false version .read (now (s .entry))) ⌝ }

@@ -24,7 +24,7 @@ ghost use Rattle.mapblock.specs.Table.{freeIn, Tabled, unmarked, frontRo
 ghost use Rattle.mapblock.specs.Rows.{nameFields};
 ghost use Rattle.mapblock.specs.Told.{toldReach, ended, toldName, toldMapping, shownMapping};
 
-// A row's numbers, and where its runs stand in the part it was read from.
+// A row's id, and where its name stands in the bytes it was read from.
 pub struct NameFields {
     pub id: u16,
     pub name: Range,
@@ -69,7 +69,7 @@ pub fn name_row(s: &[u8]) -> NameRead
     }
 }
 
-// The row at the front of a part, after rows whose ids are marked.
+// Reads the row at the front of the bytes, after rows whose ids are marked.
 fn new_name_row(s: &[u8], ids: &[u8; IDS]) -> NameRead
     ensures { λ r. ⌜ ((free : ℕ → Bool) (seen : List NameRow) → Tabled 65536 (unmapped free seen) (now (ids .entry))
         → toldName r ≡ mapRead nameFields (nameRow free seen .read (now (s .entry)))) ⌝ }
@@ -115,14 +115,14 @@ pub(crate) fn unmark(s: &[u8], count: u16, ids: &mut [u8; IDS])
     }
 }
 
-// A table has the length that its type says; this says so to proofs, and does nothing.
+// Does nothing: its contract tells proofs that a table has the length that its type says.
 pub(crate) fn sized(ids: &[u8; IDS])
     ensures { λ _. ⌜ length (now (ids .entry)) ≡ 65536 ⌝ }
 {
     let _whole: &[u8] = ids;
 }
 
-// So many rows, whose ids are marked; on a refusal the table is as it was. That the table has the length that its type says is for callers' proofs.
+// Reads so many rows and marks their ids; on a refusal the table is as it was. That the table has the length that its type says is for callers' proofs.
 pub fn name_rows(s: &[u8], count: u16, ids: &mut [u8; IDS]) -> Reach
     ensures told { λ r. ⌜ toldReach r
         ≡ ended (items (nameRow (freeIn (now (ids .entry)))) count .read (now (s .entry))) ⌝ }
@@ -174,7 +174,7 @@ pub enum NameMappingRead {
     },
 }
 
-// Timestamp and names; the ids are marked, and on a refusal the table is as it was.
+// Reads timestamp and names and marks the ids; on a refusal the table is as it was.
 pub(crate) fn name_mapping(s: &[u8], ids: &mut [u8; IDS]) -> NameMappingRead
     ensures told { λ r. ⌜ toldMapping r
         ≡ mapRead shownMapping (nameMapping (freeIn (now (ids .entry))) .read (now (s .entry))) ⌝ }

@@ -15,7 +15,7 @@ ghost use Rattle.wire.specs.Ranges.{rangeTold, InReach, IsSlice};
 ghost use Rattle.mapblock.specs.Table.{allRows};
 ghost use Rattle.mapblock.specs.Questions.{nameRangeOf, nodeNameOf, toldNodeName};
 
-// Where the name of an id stands in the block; `names` are its rows of names, and `start` is their place.
+// Finds where the name of an id stands in the block; `names` are its rows of names, and `start` is their place.
 fn find(names: &[u8], start: usize, id: usize) -> Range
     requires { ⌜ InReach (start + length (now names)) ⌝ }
     ensures { λ r. ⌜ r ≡ nameRangeOf (allRows (now (names .entry))) start id ⌝ }
@@ -52,6 +52,7 @@ fn find(names: &[u8], start: usize, id: usize) -> Range
     }
 }
 
+// What is answered when the name of a node is asked.
 pub enum NodeNameAnswer {
     // Where the node's name stands in the block.
     Name(Range),
@@ -60,7 +61,7 @@ pub enum NodeNameAnswer {
     Refused { fault: Fault, offset: usize },
 }
 
-// Where the name of the node at an index stands in the block.
+// Finds where the name of the node at an index stands in the block.
 pub fn locate_node_name(block: &[u8], index: usize) -> NodeNameAnswer
     ensures { λ r. ⌜ toldNodeName r ≡ nodeNameOf (now (block .entry)) index ⌝ }
 {
@@ -80,7 +81,7 @@ pub fn locate_node_name(block: &[u8], index: usize) -> NodeNameAnswer
     }
 }
 
-// The name itself, as a part of the block; empty when refused.
+// Gives the name itself, as a slice of the block; an empty one when refused.
 pub fn node_name(block: &[u8], index: usize) -> &[u8]
     ensures { λ r. ⌜ IsSlice (block .entry) (rangeTold (λ p. p) (nodeNameOf (now (block .entry)) index)) r ⌝ }
 {

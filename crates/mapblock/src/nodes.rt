@@ -28,14 +28,14 @@ const PARAMS_WIDTH: u8 = 2;
 
 const PARAMS_WIDTH_AT: usize = 1;
 
-// The bytes of a param0.
+// Gives how many bytes a param0 has.
 pub fn width(version: u8) -> usize
     ensures { λ r. ⌜ r ≡ width version ⌝ }
 {
     if version < 24 { 1 } else { 2 }
 }
 
-// The three lists: their bounds are tested once. In a list that is cut short the place is the first entry that is not whole.
+// Reads the three lists, whose bounds are tested once. In a list that is cut short the place is the first entry that is not whole.
 fn params(version: u8, s: &[u8]) -> Reach
     ensures { λ r. ⌜ toldReach r ≡ ended (params version .read (now (s .entry))) ⌝ }
 {
@@ -55,7 +55,7 @@ fn params(version: u8, s: &[u8]) -> Reach
     Reach::End(NODES * w + 2 * NODES)
 }
 
-// The two widths, and the lists behind them.
+// Reads the two widths, and the lists behind them.
 pub(crate) fn node_data(version: u8, s: &[u8]) -> Reach
     ensures { λ r. ⌜ toldReach r ≡ ended (nodes version .read (now (s .entry))) ⌝ }
 {
@@ -92,7 +92,7 @@ pub(crate) fn node_data(version: u8, s: &[u8]) -> Reach
     }
 }
 
-// The content id of a node.
+// Computes the content id of a node from its params.
 pub fn content_id(version: u8, param0: u16, param2: u8) -> usize
     ensures { λ r. ⌜ r ≡ contentId version param0 param2 ⌝ }
 {
@@ -105,7 +105,7 @@ pub fn content_id(version: u8, param0: u16, param2: u8) -> usize
     16 * param0 as usize + param2 as usize / 16
 }
 
-// Of the node at an index, from the lists' bytes. From version 24 on its param2 has no part in it.
+// Computes the content id of the node at an index from the lists' bytes. From version 24 on its param2 has no part in it.
 fn id_in(version: u8, s: &[u8], i: usize) -> usize
     requires { ⌜ (i < 4096) × (4096 * width version + 8192 ≤ length (now s)) ⌝ }
     ensures told { λ r. ⌜ r ≡ idIn version (now (s .entry)) i ⌝ }
@@ -117,12 +117,13 @@ fn id_in(version: u8, s: &[u8], i: usize) -> usize
     content_id(version, s[i] as u16, s[2 * NODES + i])
 }
 
+// The first node whose content id is not mapped.
 pub enum FirstUnmapped {
     None,
     At(usize),
 }
 
-// The first node whose content id is not marked as mapped, in bytes that hold the lists.
+// Finds the first node whose content id is not marked as mapped, in bytes that hold the lists.
 fn first_unmapped_in(version: u8, s: &[u8], ids: &[u8; IDS]) -> FirstUnmapped
     requires { ⌜ 4096 * width version + 8192 ≤ length (now s) ⌝ }
     ensures { λ r. ⌜ toldUnmapped r ≡ firstUnmappedIn version (now (s .entry)) (now (ids .entry)) ⌝ }
@@ -137,7 +138,7 @@ fn first_unmapped_in(version: u8, s: &[u8], ids: &[u8; IDS]) -> FirstUnmapped
     FirstUnmapped::None
 }
 
-// Whether every id up to a bound is marked as mapped.
+// Tells whether every id up to a bound is marked as mapped.
 fn marked_upto(ids: &[u8; IDS], bound: usize) -> bool
     requires { ⌜ bound < 65536 ⌝ }
     ensures { λ r. ⌜ (r ≡ true → MarkedUpto (now (ids .entry)) bound) ⌝ }
@@ -152,8 +153,8 @@ fn marked_upto(ids: &[u8; IDS], bound: usize) -> bool
     true
 }
 
-// Servers number a block's ids from 0 on, with no gap: where every id up to a bound is mapped there is no stray, and no node is looked up.
-// False says nothing.
+// Tells whether all ids are mapped, as far as a bound on them shows: servers number a block's ids from 0 on, with no gap, and where every id
+// up to a bound is mapped no node need be looked up. False says nothing.
 fn all_mapped(version: u8, s: &[u8], ids: &[u8; IDS]) -> bool
     requires { ⌜ 4096 * width version + 8192 ≤ length (now s) ⌝ }
     ensures { λ r. ⌜ (r ≡ true → firstUnmappedIn version (now (s .entry)) (now (ids .entry)) ≡ none) ⌝ }
@@ -164,14 +165,14 @@ fn all_mapped(version: u8, s: &[u8], ids: &[u8; IDS]) -> bool
     marked_upto(ids, id_bound(s))
 }
 
-// Whether bytes hold the three lists.
+// Tells whether bytes hold the three lists.
 fn holds_lists(version: u8, s: &[u8]) -> bool
     ensures { λ r. ⌜ r ≡ holdsLists version (now (s .entry)) ⌝ }
 {
     NODES * width(version) + 2 * NODES <= s.len()
 }
 
-// The first node whose content id is not marked as mapped, in any bytes: none where they do not hold the lists.
+// Finds the first node whose content id is not marked as mapped, in any bytes: none where they do not hold the lists.
 pub(crate) fn first_unmapped(version: u8, s: &[u8], ids: &[u8; IDS]) -> FirstUnmapped
     ensures { λ r. ⌜ toldUnmapped r ≡ firstUnmappedOf version (now (s .entry)) (now (ids .entry)) ⌝ }
 {
@@ -185,7 +186,7 @@ pub(crate) fn first_unmapped(version: u8, s: &[u8], ids: &[u8; IDS]) -> FirstUnm
     }
 }
 
-// The content id of the node at an index, 0 where there is none.
+// Gives the content id of the node at an index, and 0 where there is none.
 pub(crate) fn id_of(version: u8, s: &[u8], i: usize) -> usize
     ensures { λ r. ⌜ r ≡ idOf version (now (s .entry)) i ⌝ }
 {

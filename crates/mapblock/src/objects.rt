@@ -13,7 +13,7 @@ ghost use Rattle.mapblock.specs.Layout.{objectRow};
 ghost use Rattle.mapblock.specs.Rows.{objectFields};
 ghost use Rattle.mapblock.specs.Told.{toldObject};
 
-// A row's numbers, and where its content stands in the part it was read from.
+// A row's numbers, and where its content stands in the bytes it was read from.
 pub struct ObjectFields {
     pub kind: u8,
     pub x: i32,

@@ -13,13 +13,13 @@ pub const POSITION_LENGTH: usize = 2;
 // The position of a block's last node.
 const LAST_POSITION: u16 = 4095;
 
-// A position is refused at its own place, the row's first byte.
+// A position that was read, or its fault: it is refused at its own place, the row's first byte.
 pub enum PositionRead {
     At(u16),
     Refused(Fault),
 }
 
-// The position at the front of a row.
+// Reads the position at the front of a row.
 pub(crate) fn position(s: &[u8]) -> PositionRead
     ensures { λ r. ⌜ toldPosition r ≡ position .read (now (s .entry)) ⌝ }
 {
@@ -35,7 +35,7 @@ pub(crate) fn position(s: &[u8]) -> PositionRead
     }
 }
 
-// The same after rows whose positions are marked; this one is marked too.
+// Reads the position at the front of a row, after rows whose positions are marked, and marks it too.
 pub(crate) fn new_position(s: &[u8], marks: &mut [u8; NODES]) -> PositionRead
     ensures { λ r. ⌜ PositionMarked (now (s .entry)) (now (marks .entry)) (now (marks .exit)) r ⌝ }
 {

@@ -14,15 +14,13 @@ ghost use mathlib.Core.Path.{_≡_};
 ghost use Prim.Native.Nat.{_+_, _*_, _≤_};
 ghost use lib.ListN.{length, drop};
 ghost use Rattle.wire.specs.Read.{mapRead};
-ghost use Rattle.wire.specs.Answer.{lent, mapAnswer};
-ghost use Rattle.mapblock.specs.Data.{Block};
 ghost use Rattle.mapblock.specs.Layout.{all, width};
 ghost use Rattle.mapblock.specs.Block.{verdict};
 ghost use Rattle.mapblock.specs.Params.{entries};
 ghost use Rattle.mapblock.specs.Sections.{scannedOf};
 ghost use Rattle.wire.specs.Ranges.{IsSlice};
 ghost use Rattle.mapblock.specs.Scan.{toldScan};
-ghost use Rattle.mapblock.specs.Questions.{shown, areWhole, sectionsOf, readOf, partsOf, toldRead, toldSections};
+ghost use Rattle.mapblock.specs.Questions.{areWhole, lists, ReadInto, sectionsOf, partsOf, toldRead, toldSections};
 
 // Judges a block by itself: all ids are free.
 pub(crate) fn judge(block: &[u8]) -> ScanRead
@@ -33,6 +31,7 @@ pub(crate) fn judge(block: &[u8]) -> ScanRead
 }
 
 // ---- the reader
+// What the reader answers.
 pub enum ReadAnswer {
     Block { head: Head, sections: Sections },
     // A lent list is not of 4,096.
@@ -40,7 +39,7 @@ pub enum ReadAnswer {
     Refused { fault: Fault, offset: usize },
 }
 
-// Whether each of three lists has an entry for every node.
+// Tells whether each of three lists has an entry for every node.
 pub fn are_whole(a: usize, b: usize, c: usize) -> bool
     ensures { λ r. ⌜ r ≡ areWhole a b c ⌝ }
 {
@@ -53,7 +52,7 @@ pub fn are_whole(a: usize, b: usize, c: usize) -> bool
     c == NODES
 }
 
-// The entries of two bytes at the front, into a lent list.
+// Puts the entries of two bytes at the front into a lent list.
 fn fill16(s: &[u8], out: &mut [u16])
     requires { ⌜ 2 * length (now out) ≤ length (now s) ⌝ }
     ensures { λ _. ⌜ now (out .exit) ≡ entries 2 (length (now (out .entry))) (now (s .entry)) ⌝ }
@@ -65,7 +64,7 @@ fn fill16(s: &[u8], out: &mut [u16])
     }
 }
 
-// The same of one byte.
+// Puts the entries of one byte at the front into a lent list.
 fn fill8(s: &[u8], out: &mut [u16])
     requires { ⌜ length (now out) ≤ length (now s) ⌝ }
     ensures { λ _. ⌜ now (out .exit) ≡ entries 1 (length (now (out .entry))) (now (s .entry)) ⌝ }
@@ -77,7 +76,7 @@ fn fill8(s: &[u8], out: &mut [u16])
     }
 }
 
-// The lists' bytes into three lent lists.
+// Puts the entries of the three lists into three lent ones.
 fn fill(version: u8, s: &[u8], param0: &mut [u16], param1: &mut [u8], param2: &mut [u8])
     requires { ⌜ 4096 * width version + 8192 ≤ length (now s) ⌝ }
     requires { ⌜ (length (now param0) ≡ 4096) × (length (now param1) ≡ 4096) × (length (now param2) ≡ 4096) ⌝ }
@@ -98,21 +97,9 @@ fn fill(version: u8, s: &[u8], param0: &mut [u16], param1: &mut [u8], param2: &m
 
 // Fills the three lent lists of a block that is taken, and tells its head and where its sections are. A refusal leaves the lists as they were.
 pub fn read(block: &[u8], param0: &mut [u16], param1: &mut [u8], param2: &mut [u8]) -> ReadAnswer
-    ensures told { λ r. ⌜ toldRead r
-        ≡ mapAnswer shown (readOf (now (block .entry)) (length (now (param0 .entry))) (length (now (param1 .entry)))
-        (length (now (param2 .entry)))) ⌝ }
-    ensures param0 { λ _. ⌜ now (param0 .exit)
-        ≡ lent (mapAnswer (λ (b : Block). b .nodes .param0)
-        (readOf (now (block .entry)) (length (now (param0 .entry))) (length (now (param1 .entry)))
-        (length (now (param2 .entry))))) (now (param0 .entry)) ⌝ }
-    ensures param1 { λ _. ⌜ now (param1 .exit)
-        ≡ lent (mapAnswer (λ (b : Block). b .nodes .param1)
-        (readOf (now (block .entry)) (length (now (param0 .entry))) (length (now (param1 .entry)))
-        (length (now (param2 .entry))))) (now (param1 .entry)) ⌝ }
-    ensures param2 { λ _. ⌜ now (param2 .exit)
-        ≡ lent (mapAnswer (λ (b : Block). b .nodes .param2)
-        (readOf (now (block .entry)) (length (now (param0 .entry))) (length (now (param1 .entry)))
-        (length (now (param2 .entry))))) (now (param2 .entry)) ⌝ }
+    ensures { λ r. ⌜ ReadInto (now (block .entry)) (toldRead r)
+        (lists (now (param0 .entry)) (now (param1 .entry)) (now (param2 .entry)))
+        (lists (now (param0 .exit)) (now (param1 .exit)) (now (param2 .exit))) ⌝ }
 {
     if !are_whole(param0.len(), param1.len(), param2.len()) {
         return ReadAnswer::Misfit;
@@ -130,12 +117,13 @@ pub fn read(block: &[u8], param0: &mut [u16], param1: &mut [u8], param2: &mut [u
 }
 
 // ---- the sections
+// What is answered when the sections of a block are asked.
 pub enum SectionsAnswer {
     Block { head: Head, sections: Sections },
     Refused { fault: Fault, offset: usize },
 }
 
-// The head of a block, and where its sections are.
+// Tells the head of a block, and where its sections are.
 pub fn sections(block: &[u8]) -> SectionsAnswer
     ensures { λ r. ⌜ toldSections r ≡ sectionsOf (now (block .entry)) ⌝ }
 {
@@ -149,7 +137,7 @@ pub fn sections(block: &[u8]) -> SectionsAnswer
     }
 }
 
-// Where the sections are; nowhere in a block that is refused.
+// Tells where the sections are: nowhere in a block that is refused.
 fn parts(block: &[u8]) -> Sections
     ensures { λ r. ⌜ r ≡ partsOf (sectionsOf (now (block .entry))) ⌝ }
 {
@@ -165,7 +153,7 @@ fn parts(block: &[u8]) -> Sections
     }
 }
 
-// Each section as a part of the block, empty when refused.
+// Gives the rows of names as a slice of the block, empty when it is refused.
 pub fn names_section(block: &[u8]) -> &[u8]
     ensures { λ r. ⌜ IsSlice (block .entry) (partsOf (sectionsOf (now (block .entry))) .names) r ⌝ }
 {
@@ -174,6 +162,7 @@ pub fn names_section(block: &[u8]) -> &[u8]
     slice_of(block, names)
 }
 
+// Gives the rows of metadata in the same way.
 pub fn metadata_section(block: &[u8]) -> &[u8]
     ensures { λ r. ⌜ IsSlice (block .entry) (partsOf (sectionsOf (now (block .entry))) .metadata) r ⌝ }
 {
@@ -182,6 +171,7 @@ pub fn metadata_section(block: &[u8]) -> &[u8]
     slice_of(block, metadata)
 }
 
+// Gives the rows of static objects in the same way.
 pub fn objects_section(block: &[u8]) -> &[u8]
     ensures { λ r. ⌜ IsSlice (block .entry) (partsOf (sectionsOf (now (block .entry))) .objects) r ⌝ }
 {
@@ -190,6 +180,7 @@ pub fn objects_section(block: &[u8]) -> &[u8]
     slice_of(block, objects)
 }
 
+// Gives the rows of timers in the same way.
 pub fn timers_section(block: &[u8]) -> &[u8]
     ensures { λ r. ⌜ IsSlice (block .entry) (partsOf (sectionsOf (now (block .entry))) .timers) r ⌝ }
 {

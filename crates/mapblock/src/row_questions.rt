@@ -1,5 +1,5 @@
-// Rows from the front of a section: the numbers of the front row and where its runs stand, each run as a part of what was given, and the
-// rows behind it handed on as what remains. A call that hands back a part hands back an empty one when refused; its number and offset are
+// Rows from the front of a section: the numbers of the front row and where its runs stand, each run as a slice of the rows given, and the
+// rows behind it handed on as what remains. A call that hands back a slice hands back an empty one when refused; its number and offset are
 // asked by the row's own question.
 use crate::fault::Fault;
 use crate::head::is_version;
@@ -27,6 +27,7 @@ ghost use Rattle.mapblock.specs.RowQuestions.{nameRowOf, metadataRowOf, 
 ghost use Rattle.mapblock.specs.AskedRows.{toldNameRow, toldMetadataRow, toldObjectRow, toldTimerRow};
 
 // ---- names
+// What is answered when a row of names is asked.
 pub enum NameRowAnswer {
     // The row and its length.
     Row { row: NameFields, length: usize },
@@ -34,7 +35,7 @@ pub enum NameRowAnswer {
     Refused { fault: Fault, offset: usize },
 }
 
-// The front row of a part of names, judged alone.
+// Reads the front row of rows of names, judged alone.
 pub fn name_row_of(rows: &[u8]) -> NameRowAnswer
     ensures { λ r. ⌜ toldNameRow r ≡ nameRowOf (now (rows .entry)) ⌝ }
 {
@@ -47,7 +48,7 @@ pub fn name_row_of(rows: &[u8]) -> NameRowAnswer
     }
 }
 
-// The name in the front row.
+// Gives the name in the front row.
 pub fn name_of(rows: &[u8]) -> &[u8]
     ensures { λ r. ⌜ IsSlice (rows .entry)
         (rangeTold (λ (x : NameFields × ℕ). x .0 .name) (nameRowOf (now (rows .entry)))) r ⌝ }
@@ -58,7 +59,7 @@ pub fn name_of(rows: &[u8]) -> &[u8]
     }
 }
 
-// What remains behind it.
+// Gives the rows behind the front row.
 pub fn behind_name_row(rows: &[u8]) -> &[u8]
     ensures told { λ r. ⌜ now r ≡ rowsBehind (now (rows .entry)) (nameRowOf (now (rows .entry))) ⌝ }
     ensures place { λ r. ⌜ ptr r ≡ placeIn (rows .entry) (startTold (λ x. x .1) (nameRowOf (now (rows .entry)))) ⌝ }
@@ -70,13 +71,14 @@ pub fn behind_name_row(rows: &[u8]) -> &[u8]
 }
 
 // ---- metadata
+// What is answered when a row of metadata is asked.
 pub enum MetadataRowAnswer {
     Row { row: MetadataFields, length: usize },
     NoSuchRow,
     Refused { fault: Fault, offset: usize },
 }
 
-// The front row of a part of metadata, judged alone; how a row is laid out depends on the version.
+// Reads the front row of rows of metadata, judged alone; how a row is laid out depends on the version.
 pub fn metadata_row_of(version: u8, rows: &[u8]) -> MetadataRowAnswer
     ensures { λ r. ⌜ toldMetadataRow r ≡ metadataRowOf version (now (rows .entry)) ⌝ }
 {
@@ -95,7 +97,7 @@ pub fn metadata_row_of(version: u8, rows: &[u8]) -> MetadataRowAnswer
     }
 }
 
-// The content in the front row; from version 23 on it is empty.
+// Gives the content in the front row; from version 23 on it is empty.
 pub fn metadata_content_of(version: u8, rows: &[u8]) -> &[u8]
     ensures { λ r. ⌜ IsSlice (rows .entry)
         (rangeTold (λ (x : MetadataFields × ℕ). x .0 .content) (metadataRowOf version (now (rows .entry)))) r ⌝ }
@@ -106,7 +108,7 @@ pub fn metadata_content_of(version: u8, rows: &[u8]) -> &[u8]
     }
 }
 
-// The variables in the front row; in version 22 they are empty.
+// Gives the variables in the front row; in version 22 they are empty.
 pub fn metadata_variables_of(version: u8, rows: &[u8]) -> &[u8]
     ensures { λ r. ⌜ IsSlice (rows .entry)
         (rangeTold (λ (x : MetadataFields × ℕ). x .0 .rows) (metadataRowOf version (now (rows .entry)))) r ⌝ }
@@ -117,7 +119,7 @@ pub fn metadata_variables_of(version: u8, rows: &[u8]) -> &[u8]
     }
 }
 
-// The inventory in the front row; in version 22 it is empty.
+// Gives the inventory in the front row; in version 22 it is empty.
 pub fn metadata_inventory_of(version: u8, rows: &[u8]) -> &[u8]
     ensures { λ r. ⌜ IsSlice (rows .entry)
         (rangeTold (λ (x : MetadataFields × ℕ). x .0 .inventory) (metadataRowOf version (now (rows .entry)))) r ⌝ }
@@ -128,7 +130,7 @@ pub fn metadata_inventory_of(version: u8, rows: &[u8]) -> &[u8]
     }
 }
 
-// What remains behind it.
+// Gives the rows behind the front row.
 pub fn behind_metadata_row(version: u8, rows: &[u8]) -> &[u8]
     ensures told { λ r. ⌜ now r ≡ rowsBehind (now (rows .entry)) (metadataRowOf version (now (rows .entry))) ⌝ }
     ensures place { λ r. ⌜ ptr r
@@ -141,13 +143,14 @@ pub fn behind_metadata_row(version: u8, rows: &[u8]) -> &[u8]
 }
 
 // ---- static objects
+// What is answered when a row of static objects is asked.
 pub enum ObjectRowAnswer {
     Row { row: ObjectFields, length: usize },
     NoSuchRow,
     Refused { fault: Fault, offset: usize },
 }
 
-// The front row of a part of static objects, judged alone.
+// Reads the front row of rows of static objects, judged alone.
 pub fn object_row_of(rows: &[u8]) -> ObjectRowAnswer
     ensures { λ r. ⌜ toldObjectRow r ≡ objectRowOf (now (rows .entry)) ⌝ }
 {
@@ -160,7 +163,7 @@ pub fn object_row_of(rows: &[u8]) -> ObjectRowAnswer
     }
 }
 
-// The content in the front row.
+// Gives the content in the front row.
 pub fn object_content_of(rows: &[u8]) -> &[u8]
     ensures { λ r. ⌜ IsSlice (rows .entry)
         (rangeTold (λ (x : ObjectFields × ℕ). x .0 .content) (objectRowOf (now (rows .entry)))) r ⌝ }
@@ -171,7 +174,7 @@ pub fn object_content_of(rows: &[u8]) -> &[u8]
     }
 }
 
-// What remains behind it.
+// Gives the rows behind the front row.
 pub fn behind_object_row(rows: &[u8]) -> &[u8]
     ensures told { λ r. ⌜ now r ≡ rowsBehind (now (rows .entry)) (objectRowOf (now (rows .entry))) ⌝ }
     ensures place { λ r. ⌜ ptr r ≡ placeIn (rows .entry) (startTold (λ x. x .1) (objectRowOf (now (rows .entry)))) ⌝ }
@@ -183,13 +186,14 @@ pub fn behind_object_row(rows: &[u8]) -> &[u8]
 }
 
 // ---- timers
+// What is answered when a row of timers is asked.
 pub enum TimerRowAnswer {
     Row { row: TimerFields, length: usize },
     NoSuchRow,
     Refused { fault: Fault, offset: usize },
 }
 
-// The front row of a part of timers, judged alone.
+// Reads the front row of rows of timers, judged alone.
 pub fn timer_row_of(rows: &[u8]) -> TimerRowAnswer
     ensures { λ r. ⌜ toldTimerRow r ≡ timerRowOf (now (rows .entry)) ⌝ }
 {
@@ -205,7 +209,7 @@ pub fn timer_row_of(rows: &[u8]) -> TimerRowAnswer
     }
 }
 
-// What remains behind it.
+// Gives the rows behind the front row.
 pub fn behind_timer_row(rows: &[u8]) -> &[u8]
     ensures told { λ r. ⌜ now r ≡ rowsBehind (now (rows .entry)) (timerRowOf (now (rows .entry))) ⌝ }
     ensures place { λ r. ⌜ ptr r ≡ placeIn (rows .entry) (startTold (λ x. x .1) (timerRowOf (now (rows .entry)))) ⌝ }

@@ -20,13 +20,14 @@ ghost use Rattle.wire.specs.Formats.{listed};
 ghost use Rattle.mapblock.specs.ListKinds.{rowAfter, RowMarked};
 ghost use Rattle.mapblock.specs.Told.{toldReach, ended};
 
+// The lists that are read by one loop.
 pub enum ListKind {
     Metadata,
     Objects,
     Timers,
 }
 
-// The length of the front row, judged alone.
+// Reads the front row, judged alone, and tells its length.
 fn row_alone(kind: ListKind, version: u8, s: &[u8]) -> Reach
     ensures { λ r. ⌜ toldReach r ≡ ended (rowAfter kind version [] .read (now (s .entry))) ⌝ }
 {
@@ -46,7 +47,7 @@ fn row_alone(kind: ListKind, version: u8, s: &[u8]) -> Reach
     }
 }
 
-// The same after rows whose positions are marked; its own position is marked too.
+// Reads the front row after rows whose positions are marked, and marks its own position too.
 fn row_after(kind: ListKind, version: u8, s: &[u8], marks: &mut [u8; NODES]) -> Reach
     ensures { λ r. ⌜ RowMarked kind version (now (s .entry)) (now (marks .entry)) (now (marks .exit)) r ⌝ }
 {
@@ -62,7 +63,7 @@ fn row_after(kind: ListKind, version: u8, s: &[u8], marks: &mut [u8; NODES]) -> 
     }
 }
 
-// So many rows.
+// Reads so many rows and tells where they end.
 pub fn rows(kind: ListKind, version: u8, s: &[u8], count: u16) -> Reach
     ensures { λ r. ⌜ toldReach r ≡ ended (items (rowAfter kind version) count .read (now (s .entry))) ⌝ }
 {

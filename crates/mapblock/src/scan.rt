@@ -55,6 +55,7 @@ const BESIDE_NAMES_LENGTH: usize = OPENING_LENGTH + WIDTHS_LENGTH;
 
 const NAME_ROWS_AT: usize = OPENING_LENGTH + NAMES_HEAD_LENGTH;
 
+// The fields of step 1.
 pub struct OpeningFields {
     pub version: u8,
     pub flags: u8,
@@ -73,6 +74,7 @@ pub enum OpeningRead {
     },
 }
 
+// Makes the answer of step 1 from its fields and its end.
 fn opened(version: u8, flags: u8, lighting: u16, end: usize) -> OpeningRead
     ensures { λ r. ⌜ toldOpening r ≡ done (openingOn version flags lighting) end ⌝ }
 {
@@ -87,6 +89,7 @@ fn opened(version: u8, flags: u8, lighting: u16, end: usize) -> OpeningRead
     }
 }
 
+// Reads step 1: version, flags, and from version 27 on the lighting.
 fn opening(s: &[u8]) -> OpeningRead
     ensures { λ r. ⌜ toldOpening r ≡ opening .read (now (s .entry)) ⌝ }
 {
@@ -120,7 +123,7 @@ fn opening(s: &[u8]) -> OpeningRead
     }
 }
 
-// Version 29's names stand in front, with their timestamp and number; `lists` is where the param lists start.
+// What is read up to the end of the node data. Version 29's names stand in front, with their timestamp and number; `lists` is where the param lists start.
 pub struct FrontFields {
     pub version: u8,
     pub flags: u8,
@@ -131,12 +134,13 @@ pub struct FrontFields {
     pub end: usize,
 }
 
+// The front, or the fault and its place.
 pub enum FrontRead {
     Fields(FrontFields),
     Refused { fault: Fault, offset: usize },
 }
 
-// Before version 29: the node data at once.
+// Reads the front before version 29, where the node data stands at once behind step 1.
 fn plain_front(s: &[u8], fields: OpeningFields, at: usize, ids: &[u8; IDS]) -> FrontRead
     requires { ⌜ (fields .version < 29) × (opening .read (now s) ≡ done (openingIs fields) at) ⌝ }
     ensures { λ r. ⌜ FrontTold (now (ids .entry)) (now (ids .entry)) (now (s .entry)) r ⌝ }
@@ -159,7 +163,7 @@ fn plain_front(s: &[u8], fields: OpeningFields, at: usize, ids: &[u8; IDS]) -> F
     }
 }
 
-// In version 29: timestamp and names, then the node data. The names' ids stay marked, unless the front is refused.
+// Reads the front in version 29, where timestamp and names stand before the node data. The names' ids stay marked, unless the front is refused.
 fn named_front(s: &[u8], fields: OpeningFields, at: usize, ids: &mut [u8; IDS]) -> FrontRead
     requires { ⌜ (29 ≤ fields .version) × (opening .read (now s) ≡ done (openingIs fields) at) ⌝ }
     ensures { λ r. ⌜ FrontTold (now (ids .entry)) (now (ids .exit)) (now (s .entry)) r ⌝ }
@@ -194,6 +198,7 @@ fn named_front(s: &[u8], fields: OpeningFields, at: usize, ids: &mut [u8; IDS]) 
     }
 }
 
+// Reads the front, steps 1 to 4.
 fn front(s: &[u8], ids: &mut [u8; IDS]) -> FrontRead
     ensures { λ r. ⌜ FrontTold (now (ids .entry)) (now (ids .exit)) (now (s .entry)) r ⌝ }
 {
@@ -218,11 +223,13 @@ pub struct MiddleFields {
     pub timer: u8,
 }
 
+// Those lists, or the fault and its place.
 pub enum MiddleRead {
     Lists(MiddleFields),
     Refused { fault: Fault, offset: usize },
 }
 
+// Reads the lists up to the static objects, steps 5 and 6.
 fn middle(version: u8, s: &[u8]) -> MiddleRead
     ensures { λ r. ⌜ MiddleTold version (now (s .entry)) r ⌝ }
 {
@@ -265,7 +272,7 @@ pub enum ScanRead {
     Refused { fault: Fault, offset: usize },
 }
 
-// The rows of a list: they stand behind its head.
+// Gives where the rows of a list stand, behind its head; `size` is the length of the list.
 fn rows_of(at: usize, head: usize, size: usize) -> Range
     requires { ⌜ (head ≤ size) × InReach (at + size) ⌝ }
     ensures { λ r. ⌜ r ≡ rangeAt (at + head) (size - head) ⌝ }
@@ -276,7 +283,7 @@ fn rows_of(at: usize, head: usize, size: usize) -> Range
     }
 }
 
-// A metadata list's version and count.
+// Gives the length of what stands before the rows of metadata: list version and count.
 pub fn metadata_head(version: u8) -> usize
     ensures { λ r. ⌜ r ≡ metadataHead version ⌝ }
 {
@@ -287,7 +294,7 @@ pub fn metadata_head(version: u8) -> usize
     }
 }
 
-// What stands before version 24's timers: all of it where there are none.
+// Gives the length of what stands before version 24's timers: of all of it where there are none.
 fn early_head(middle: MiddleFields) -> usize
     ensures { λ r. ⌜ r ≡ earlyHead middle ⌝ }
 {
@@ -298,7 +305,7 @@ fn early_head(middle: MiddleFields) -> usize
     }
 }
 
-// What is found before the late timers.
+// Puts together what is found before the late timers.
 fn without_late_timers(
     front: FrontFields,
     middle: MiddleFields,
@@ -327,7 +334,7 @@ fn without_late_timers(
     }
 }
 
-// The same with the late timers, which are the n bytes from a place on.
+// Adds the late timers to what was found; they are the n bytes from a place on.
 fn with_late_timers(scanned: Scanned, at: usize, n: usize) -> Scanned
     requires { ⌜ (25 ≤ scanned .head .version → 3 ≤ n) × InReach (at + n) ⌝ }
     ensures { λ r. ⌜ r ≡ withLateTimersAt scanned at n ⌝ }
@@ -353,7 +360,7 @@ fn with_late_timers(scanned: Scanned, at: usize, n: usize) -> Scanned
     }
 }
 
-// The late timers, the end of the bytes, and that every id is mapped.
+// Judges the end: the late timers, that no bytes follow, and that every id is mapped.
 fn ending(s: &[u8], scanned: Scanned, at: usize, ids: &[u8; IDS]) -> ScanRead
     requires { ⌜ ((free : ℕ → Bool) × ReadUpTo free (now s) scanned at (now ids)) ⌝ }
     ensures { λ r. ⌜ ((free : ℕ → Bool) → ReadUpTo free (now (s .entry)) scanned at (now (ids .entry)) → toldScan r
@@ -388,7 +395,7 @@ fn ending(s: &[u8], scanned: Scanned, at: usize, ids: &[u8; IDS]) -> ScanRead
     }
 }
 
-// Before version 29: timestamp and names behind the static objects, then the end.
+// Judges what follows the static objects before version 29: timestamp and names, then the end.
 fn names_behind(s: &[u8], front: FrontFields, middle: MiddleFields, ids: &mut [u8; IDS]) -> ScanRead
     requires { ⌜ (front .version < 29) × ((t : List ℕ) × FrontIs t (now ids) (now s) front)
         × MiddleIs (front .version) (drop (front .end) (now s)) middle ⌝ }
@@ -421,7 +428,7 @@ fn names_behind(s: &[u8], front: FrontFields, middle: MiddleFields, ids: &mut [u
     }
 }
 
-// What follows the node data.
+// Judges what follows the node data.
 fn behind_front(s: &[u8], front: FrontFields, ids: &mut [u8; IDS]) -> ScanRead
     requires { ⌜ ((t : List ℕ) × FrontIs t (now ids) (now s) front) ⌝ }
     ensures told { λ r. ⌜

@@ -12,6 +12,7 @@ ghost use Rattle.mapblock.specs.Layout.{timerRow};
 ghost use Rattle.mapblock.specs.Rows.{timerFields};
 ghost use Rattle.mapblock.specs.Told.{toldTimer};
 
+// A row's numbers.
 pub struct TimerFields {
     pub position: u16,
     pub timeout: i32,

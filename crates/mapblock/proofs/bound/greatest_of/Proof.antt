@@ -1,4 +1,4 @@
--- The invariant: no column of the pairs before i is above what was found.
+-- The invariant: of the first i columns that are looked at, none is above `most`. The measure: the columns that are left.
 use Prim.Native.Nat.{_+_, _-_, _*_, _≤_}
 use native.Mathlib.Omega.{arith}
 use borrow.Author.Needs.{needs}

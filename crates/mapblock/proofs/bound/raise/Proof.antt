@@ -1,4 +1,4 @@
--- The invariant: the columns before j are raised.
+-- The invariant: the first j columns are raised to the row of bytes, and no column has become less. The measure: the columns that are left.
 use Prim.Native.Nat.{_-_, _≤_}
 use mathlib.Core.Path.{_≡_}
 use native.Mathlib.Omega.{arith}

@@ -1,4 +1,4 @@
--- The invariant: no byte before `at` is above its column.
+-- The invariant: no byte before the place is above its column, and the place starts a row of bytes. The measure: the bytes that are left.
 use Prim.Native.Nat.{_-_, _%_, _≤_}
 use mathlib.Core.Path.{_≡_}
 use native.Mathlib.Omega.{arith}

@@ -1,4 +1,5 @@
--- The invariant: the bytes from p on end the inventory where it ends.
+-- The invariant: the end line looked for from the place on, at the start of a line or not, is the one looked for from the front. The measure: the
+-- bytes that are left.
 use borrow.Author.Needs.{needs}
 use Prim.Native.Nat.{_-_}
 use mathlib.Core.Path.{_≡_, refl, sym, _∙_}

@@ -1,4 +1,4 @@
--- The invariant: what is left to read, after the variables read so far, is the answer asked. The measure: the number of variables left.
+-- The invariant: the variables so far were read, and those that are left give the answer asked. The measure: `left`, the variables that are left.
 use borrow.Author.Needs.{needs}
 use mathlib.Core.Path.{_≡_, ap, sym, _∙_}
 use native.Mathlib.Omega.{arith}

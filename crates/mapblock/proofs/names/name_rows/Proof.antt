@@ -1,3 +1,5 @@
+-- The invariant: the rows so far were read and their ids are marked, and the rows that are left give the answer asked. The measure: `left`, the
+-- rows that are left.
 use Rattle.mapblock.proofs.names.name_rows.Statement.{statement}
 use Rattle.mapblock.proofs.NameLoop.{Named, named-start, named-inside, named-place, named-front, named-end, named-refused, named-on}
 use Rattle.mapblock.proofs.NamesMarked.{told-marked}

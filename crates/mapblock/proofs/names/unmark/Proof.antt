@@ -1,3 +1,4 @@
+-- The invariant: taking off the marks of the rows that are left gives the answer. The measure: `left`, the rows that are left.
 use Rattle.mapblock.proofs.names.unmark.Statement.{statement}
 use mathlib.Core.List.{[]}
 use borrow.Author.Needs.{needs}
@@ -16,11 +17,8 @@ use mathlib.Core.Path.{_≡_, refl, ap, sym, _∙_}
 use Prim.Native.Nat.{_≤_}
 use Rattle.mapblock.proofs.names.unmark.Tie as tie
 
--- The invariant: taking off the marks of the rows that are left gives the answer.
 abbrev Inv-loop : tie.InvT-loop
 Inv-loop s count ids₀ rest₀ left₀ ids rest left = (unmarked ids (frontRows left rest) ≡ unmarked ids₀ (frontRows count s)) × (length rest ≤ length s)
-
--- The invariant: taking off the marks of the rows that are left gives the answer.
 
 abbrev μ-loop : tie.MeasureT-loop
 μ-loop s count ids₀ rest₀ left₀ ids rest left = left

@@ -1,4 +1,5 @@
--- The invariant: the name stands in the rows that are left where it stands in all of them.
+-- The invariant: the id's name looked for from the place on, among the rows that are left, is where it is from the front. The measure: the bytes
+-- that are left.
 use borrow.Author.Needs.{needs}
 use mathlib.Core.Path.{_≡_, ap, sym, _∙_}
 use mathlib.Core.List.{[]}

@@ -1,4 +1,4 @@
--- The invariant: the first stray from index i on is the answer asked.
+-- The invariant: the first unmapped node from index i on is the first of all. The measure: the nodes that are left.
 use Prim.Native.Nat.{_-_}
 use mathlib.Core.Path.{_≡_, refl, sym, _∙_}
 use native.Mathlib.Omega.{arith}

@@ -1,4 +1,4 @@
--- The invariant: the ids before this one are marked.
+-- The invariant: every id before this one is marked. The measure: the ids that are left up to the bound.
 use Prim.Native.Nat.{ℕ, _+_, _-_, _<_, _≤_}
 use mathlib.Core.Path.{_≡_}
 use native.Mathlib.Omega.{arith}

@@ -1,4 +1,4 @@
--- The invariant: the first i entries are stored.
+-- The invariant: the first i entries of the list are those of the bytes, and it is as long as before. The measure: the entries that are left.
 use Prim.Native.Nat.{_+_, _-_, _*_}
 use mathlib.Core.Path.{refl, sym}
 use native.Mathlib.Omega.{arith}

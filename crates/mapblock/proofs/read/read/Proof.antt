@@ -83,10 +83,8 @@ returns-3 c =
       read-told (block-is k) h,
       (
         list-filled (block-is k) h (λ (n : Nodes). n .param0) (now (a .param0)) _ (f .0) (search needs),
-        (
-          list-filled (block-is k) h (λ (n : Nodes). n .param1) (now (a .param1)) _ (f .1 .0) (search needs),
-          list-filled (block-is k) h (λ (n : Nodes). n .param2) (now (a .param2)) _ (f .1 .1) (search needs),
-        ),
+        list-filled (block-is k) h (λ (n : Nodes). n .param1) (now (a .param1)) _ (f .1 .0) (search needs),
+        list-filled (block-is k) h (λ (n : Nodes). n .param2) (now (a .param2)) _ (f .1 .1) (search needs),
       ),
     )
 

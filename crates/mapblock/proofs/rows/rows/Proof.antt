@@ -1,4 +1,5 @@
--- The invariant: what is left to read, after the rows read so far, is the answer asked, and the table marks their positions.
+-- The invariant: the rows so far were read and their positions are marked, and the rows that are left give the answer asked. The measure: `left`,
+-- the rows that are left.
 use borrow.Author.Needs.{needs}
 use mathlib.Core.Path.{_≡_}
 use native.Mathlib.Omega.{arith}
