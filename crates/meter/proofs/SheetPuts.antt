@@ -10,7 +10,7 @@ use lib.ListN.{length, drop}
 use borrow.Author.Tests.{leb-true}
 use Rattle.wire.specs.Bytes.{Bytes, bytes-drop}
 use Rattle.wire.specs.Read.{done, Misread, at-place}
-use Rattle.wire.specs.Answer.{Answer, good, refusal, plain, badPart, partsMisfit, thenAnswer, Answered, Matches}
+use Rattle.wire.specs.Answer.{Answer, good, plain, badPart, partsMisfit, thenAnswer, Answered, Matches}
 use Rattle.wire.proofs.Answers.{no-good}
 use Rattle.position.specs.declared.part.Part.{Part}
 use Rattle.position.specs.Parts.{goodPart}
@@ -18,13 +18,12 @@ use Rattle.meter.specs.Standing.{nodesIn}
 use Rattle.meter.specs.Counting.{tallyOf, byOne}
 use Rattle.sheet.specs.Sheet.{sheetHead, recordsFrom, sheetOf}
 use Rattle.meter.specs.SheetTally.{fittedSheet, tallySheetOf}
-use Rattle.meter.specs.Streaming.{State, noRecords, startOf, finishOf}
-use Rattle.meter.specs.Progress.{Carries, toldFinish}
+use Rattle.meter.specs.Streaming.{noRecords, startOf}
+use Rattle.meter.specs.Progress.{Carries}
 use Rattle.meter.specs.SheetTold.{answerFrom, Numbered, toldSheet, SheetPut}
 use Rattle.meter.specs.declared.stream.Progress.{Progress}
-use Rattle.meter.specs.declared.stream.FinishAnswer.{FinishAnswer}
-use Rattle.meter.specs.declared.sheet_tally.SheetAnswer.{SheetAnswer}
-use Rattle.meter.specs.declared.sheet_tally.SheetAnswer.the-variants as sheets
+use Rattle.meter.specs.declared.answer.SheetAnswer.{SheetAnswer}
+use Rattle.meter.specs.declared.answer.SheetAnswer.the-variants as sheets
 use Rattle.sheet.proofs.RecordSteps.{sheet-misframed, sheet-on}
 use Rattle.sheet.proofs.SheetTaken.{head-ok, records-valid}
 use Rattle.meter.proofs.Streaming.{then-same, finishing, finishing-first}
@@ -49,14 +48,8 @@ module _ (p : Part) (s : List ℕ) (d : List ℕ) where
         (then-same (recordsFrom n 0 none (drop k s)) (λ l. fittedSheet byOne room (tallyOf byOne (nodesIn p l)) (length l)) (finishing byOne p room (noRecords byOne))
         (λ l g. sym (finishing-first byOne p room l (records-valid n 0 none (drop k s) l (bytes-drop k s b) g))))
 
-    -- a record was refused
-    pub put-refused : {a i c : ℕ} → ((room : ℕ) → answerFrom p room (noRecords byOne) n (drop k s) ≡ refusal a i c) → Answered (refusal a i c) d d (blocksTally p s (length d))
-    put-refused f = rw (from-head (length d), f (length d)) (refl, refl)
-
-    -- all were taken, and finished
-    pub put-finished : {e : List ℕ} (v : State byOne) (r : SheetAnswer) (a : FinishAnswer) → ((room : ℕ) → answerFrom p room (noRecords byOne) n (drop k s) ≡ finishOf byOne room v)
-        → Answered (toldFinish a) d e (finishOf byOne (length d) v) → toldSheet r ≡ toldFinish a → SheetPut p s d e r
-    put-finished v r a f g t = rw (from-head (length d), f (length d), t) g
+    pub put-records : {e : List ℕ} (r : SheetAnswer) → Answered (toldSheet r) d e (answerFrom p (length d) (noRecords byOne) n (drop k s)) → SheetPut p s d e r
+    put-records r g = rw (from-head (length d)) g
 
 -- ---- the part and the buffers
 module _ (p : Part) (s d : List ℕ) (spare : ℕ) where

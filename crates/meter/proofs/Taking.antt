@@ -8,7 +8,7 @@ use lib.ListN.{length, take, drop}
 use Rattle.wire.specs.Bytes.{Bytes}
 use Rattle.wire.specs.Read.{Read, done, refused, toOption, toOption-done, toOption-none, Misread, at-place}
 use Rattle.wire.specs.Format.{ends-in}
-use Rattle.wire.specs.Answer.{Answer, good, refusal, sheetMalformed, thenAnswer, Matches}
+use Rattle.wire.specs.Answer.{Answer, good, refusal, sheetMalformed, thenAnswer, Answered, Matches}
 use Rattle.wire.proofs.Answers.{no-good}
 use Rattle.tally.specs.Rows.{Canonical}
 use Rattle.tally.specs.Tally.{ones}
@@ -18,22 +18,31 @@ use Rattle.meter.specs.Counting.{byOne}
 use Rattle.sheet.specs.Sheet.{Misframed, SheetRecord, frame, judgeRecord}
 use Rattle.meter.specs.Streaming.{State, taking, stepOf, takeOf}
 use Rattle.mapblock.specs.Table.{clearTable}
-use Rattle.sheet.specs.Records.{recordOf, toldFrame}
-use Rattle.meter.specs.Progress.{Carries, CarriesTo, Steps, toldStep, toldTake}
+use Rattle.sheet.specs.Records.{recordOf, toldFrame, faulty}
+use Rattle.meter.specs.Progress.{Carries, Steps, Refuses, StepMatches}
 use Rattle.meter.specs.SheetTold.{answerFrom}
 use Rattle.sheet.specs.declared.records.FrameRead.the-variants as frames
 use Rattle.sheet.specs.declared.records.RecordFault.{RecordFault}
 use Rattle.meter.specs.declared.stream.Progress.{Progress}
-use Rattle.meter.specs.declared.stream.StepAnswer.{StepAnswer}
-use Rattle.meter.specs.declared.stream.StepAnswer.the-variants as steps
-use Rattle.meter.specs.declared.stream.TakeAnswer.{TakeAnswer}
-use Rattle.meter.specs.declared.stream.TakeAnswer.the-variants as takes
+use Rattle.meter.specs.declared.stream.Step.{Step}
+use Rattle.meter.specs.declared.stream.Step.the-variants as steps
+use Rattle.meter.specs.declared.answer.SheetAnswer.the-variants as sheets
 use Rattle.sheet.proofs.RecordSteps.{records-misframed, records-refused}
 use Rattle.meter.proofs.Streaming.{finishing, step-refused, step-good, record-on}
 
 -- a refusal is the same whatever was asked
 pub refusal-as : {A B : Type 0} {a i c x y z : ℕ} → _≡_ {A = Answer A} (refusal a i c) (refusal x y z) → _≡_ {A = Answer B} (refusal a i c) (refusal x y z)
 refusal-as {a = a} {i = i} {c = c} {x = x} {y = y} {z = z} h = let p : a ≡ x = cc in let q : i ≡ y = cc in let r : c ≡ z = cc in rw (p, q, r)
+
+-- and leaves a lent buffer as it was
+pub refuses-lent : (d : List ℕ) (a : Answer ℕ) (x : Answer (List ℕ)) → Refuses a x → Answered a d d x
+refuses-lent d (good n) x h = absurd h
+refuses-lent d (refusal n r o) x h = rw h (refl, refl)
+
+-- where every refusal of x is one of y, so is this
+pub refuses-on : {A B : Type 0} (a : Answer ℕ) (x : Answer A) (y : Answer B) → ((n r o : ℕ) → x ≡ refusal n r o → y ≡ refusal n r o) → Refuses a x → Refuses a y
+refuses-on (good n) x y f h = absurd h
+refuses-on (refusal n r o) x y f h = f n r o h
 
 -- ---- a step, taken apart
 module _ (p : Part) (w : State byOne) (r : SheetRecord) where
@@ -127,27 +136,22 @@ module _ (p : Part) (w : State byOne) (s : List ℕ) where
         let x = took h in
         record-on byOne p room k s b (x .reads) w c (x .judged) ∙ ap (λ (u : State byOne). answerFrom p room u k (drop n s)) (x .state)
 
--- ---- what a step told of it is told of the record
-abbrev pub TakeTold : List ℕ → List ℕ → TakeAnswer → Answer (State byOne × ℕ) → Type 0
-TakeTold counts t r a = Matches (CarriesTo t) (toldTake r) a × (counts ≡ clearTable)
-
--- the state after a record that is taken
-pub taken-to : {t : List ℕ} {q : Progress} {n : ℕ} {a : Answer (State byOne × ℕ)} → Matches (CarriesTo t) (good (q, n)) a → (v : State byOne) × (a ≡ good (v, n)) × Carries t q v
-taken-to (x, e, c) = (x .0, e ∙ ap (λ (m : ℕ). good (x .0, m)) (sym (c .1)), c .0)
+-- ---- what is told of it
+abbrev pub StepTold : List ℕ → List ℕ → Step → Answer (State byOne × ℕ) → Type 0
+StepTold counts t r a = StepMatches t r a × (counts ≡ clearTable)
 
 module _ (p : Part) (w : State byOne) (s : List ℕ) where
-  pub told-misframed : {ids counts t : List ℕ} {q : Progress} → toldFrame s frames.Misframed ≡ toOption (frame .read s) → Steps ids counts t q w → TakeTold counts t (takes.Misframed (q .records)) (takeOf byOne p w s)
+  pub told-misframed : {ids counts t : List ℕ} {q : Progress} → toldFrame s frames.Misframed ≡ toOption (frame .read s) → Steps ids counts t q w
+      → StepTold counts t (steps.Stop (sheets.Malformed (q .records))) (takeOf byOne p w s)
   told-misframed {q = q} f k = (go (toOption-none (frame .read s) f) ∙ ap (λ (i : ℕ). refusal sheetMalformed i 0) (sym (k .carries .records)), k .counts-clear)
     where
       go : Misread (frame .read s) → takeOf byOne p w s ≡ refusal sheetMalformed (w .records) 0
       go (at-place x e) = take-misframed p w s e
 
-  module _ {r : SheetRecord} {n : ℕ} (f : frame .read s ≡ done r n) (counts t : List ℕ) (a : StepAnswer) (h : Matches (Carries t) (toldStep a) (stepOf byOne p w r) × (counts ≡ clearTable)) where
-    stepped : {b : StepAnswer} → a ≡ b → Matches (Carries t) (toldStep b) (stepOf byOne p w r)
-    stepped j = subst (λ (b : StepAnswer). Matches (Carries t) (toldStep b) (stepOf byOne p w r)) j (h .0)
+  module _ {r : SheetRecord} {n : ℕ} (f : frame .read s ≡ done r n) where
+    pub told-refused : {ids counts t : List ℕ} {q : Progress} (e : RecordFault) → stepOf byOne p w r ≡ faulty e (q .records) → Steps ids counts t q w
+        → StepTold counts t (steps.Stop (sheets.Record e (q .records))) (takeOf byOne p w s)
+    told-refused e h k = (take-refused p w s f h, k .counts-clear)
 
-    pub told-refused : {e : RecordFault} {i : ℕ} → a ≡ steps.Refused e i → TakeTold counts t (takes.Refused e i) (takeOf byOne p w s)
-    told-refused j = (take-refused p w s f (stepped j), h .1)
-
-    pub told-taken : {q : Progress} → a ≡ steps.Taken q → TakeTold counts t (takes.Taken q n) (takeOf byOne p w s)
-    told-taken j = let x = stepped j in (((x .0, n), take-good p w s f (x .1), (x .2, refl)), h .1)
+    pub told-taken : {counts t : List ℕ} {q : Progress} → Matches (Carries t) (good q) (stepOf byOne p w r) × (counts ≡ clearTable) → StepTold counts t (steps.On q n) (takeOf byOne p w s)
+    told-taken h = ((h .0 .0, take-good p w s f (h .0 .1), h .0 .2), h .1)

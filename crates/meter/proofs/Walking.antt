@@ -8,7 +8,7 @@ use native.Mathlib.Omega.{arith}
 use lib.ListN.{length, take, drop, length-drop}
 use Rattle.wire.proofs.Lists.{rest-is}
 use Rattle.wire.specs.Bytes.{Bytes, bytes-drop}
-use Rattle.wire.specs.Answer.{good, refusal, sheetMalformed, thenAnswer}
+use Rattle.wire.specs.Answer.{good, refusal, sheetMalformed, thenAnswer, Answered}
 use Rattle.tally.specs.Rows.{Canonical}
 use Rattle.tally.specs.Tally.{ones}
 use Rattle.position.specs.declared.part.Part.{Part}
@@ -16,16 +16,15 @@ use Rattle.meter.specs.Counting.{byOne}
 use Rattle.meter.specs.Streaming.{State, takeOf, finishOf}
 use Rattle.mapblock.specs.Table.{clearTable}
 use Rattle.meter.specs.Progress.{Carries, Steps}
-use Rattle.meter.specs.SheetTold.{answerFrom, Numbered, toldRecords, AnswersFrom}
-use Rattle.sheet.specs.declared.records.RecordFault.{RecordFault}
-use Rattle.meter.specs.declared.sheet_tally.Records.{Records}
-use Rattle.meter.specs.declared.sheet_tally.Records.the-variants as records
+use Rattle.meter.specs.SheetTold.{answerFrom, Numbered, toldSheet}
+use Rattle.meter.specs.declared.answer.SheetAnswer.{SheetAnswer}
+use Rattle.meter.specs.declared.answer.SheetAnswer.the-variants as sheets
 use Rattle.meter.specs.declared.stream.Progress.{Progress}
-use Rattle.meter.specs.declared.stream.TakeAnswer.{TakeAnswer}
-use Rattle.meter.specs.declared.stream.TakeAnswer.the-variants as takes
+use Rattle.meter.specs.declared.stream.Step.{Step}
+use Rattle.meter.specs.declared.stream.Step.the-variants as steps
 use Rattle.sheet.proofs.RecordSteps.{records-end, records-more}
 use Rattle.meter.proofs.Streaming.{finishing, finishing-none}
-use Rattle.meter.proofs.Taking.{take-number, from-refused, from-good, TakeTold, taken-to}
+use Rattle.meter.proofs.Taking.{refuses-lent, refuses-on, take-number, from-refused, from-good, StepTold}
 
 -- ---- the walk
 -- a state from which it may begin: the spare carries it, its records can be numbered, and the tables are clear
@@ -58,36 +57,41 @@ walking-start p s count t q ids counts b = record {
   follows = λ w g. record { v = w; carries = g .carries; ids-clear = g .ids-clear; counts-clear = g .counts-clear; number = refl; same = λ room. refl };
 }
 
--- what is told at the end, of every state that the walk may have begun with
-abbrev pub ToldAll : Part → List ℕ → ℕ → List ℕ → Progress → List ℕ → List ℕ → List ℕ → Records → Type 0
-ToldAll p s count t₀ q₀ ids₀ counts₀ t r = (w : State byOne) → Begins t₀ q₀ ids₀ counts₀ count w → AnswersFrom p t w count s (toldRecords r)
+-- what is answered at the end, and put into the output, of every state that the walk may have begun with
+abbrev pub AnsweredAll : Part → List ℕ → ℕ → List ℕ → Progress → List ℕ → List ℕ → List ℕ → List ℕ → SheetAnswer → Type 0
+AnsweredAll p s count t₀ q₀ ids₀ counts₀ d e r =
+    (w : State byOne) → Begins t₀ q₀ ids₀ counts₀ count w → length d ≤ length t₀ → Answered (toldSheet r) d e (answerFrom p (length d) w count s)
 
 module _ {p : Part} {s : List ℕ} {count : ℕ} {t₀ : List ℕ} {q₀ : Progress} {ids₀ counts₀ t ids counts rest : List ℕ} {left : ℕ} {q : Progress} (k : Walking p s count t₀ q₀ ids₀ counts₀ t ids counts rest left q) where
-  pub walking-more : left ≤ 0 → 0 < length rest → ToldAll p s count t₀ q₀ ids₀ counts₀ t (records.Malformed (q .records))
-  walking-more h l w g room =
+  -- no record is left, and a byte follows
+  pub walking-more : left ≤ 0 → 0 < length rest → (d : List ℕ) → AnsweredAll p s count t₀ q₀ ids₀ counts₀ d d (sheets.Malformed (q .records))
+  walking-more h l d w g f =
       let x = k .follows w g in
-      sym (x .same room) ∙ go left h (x .v) ∙ ap (λ (i : ℕ). refusal sheetMalformed i 0) (sym (x .carries .records))
+      refuses-lent d (refusal sheetMalformed (q .records) 0) _ (sym (x .same (length d)) ∙ go left h (x .v) ∙ ap (λ (i : ℕ). refusal sheetMalformed i 0) (sym (x .carries .records)))
     where
-      go : (n : ℕ) → n ≤ 0 → (v : State byOne) → answerFrom p room v n rest ≡ refusal sheetMalformed (v .records) 0
-      go zero z v = ap (λ a. thenAnswer a (finishing byOne p room v)) (records-more (v .records) (v .last) rest l)
+      go : (n : ℕ) → n ≤ 0 → (v : State byOne) → answerFrom p (length d) v n rest ≡ refusal sheetMalformed (v .records) 0
+      go zero z v = ap (λ a. thenAnswer a (finishing byOne p (length d) v)) (records-more (v .records) (v .last) rest l)
       go (suc n) z v = absurd (omega arith)
 
-  pub walking-end : left ≤ 0 → length rest ≤ 0 → ToldAll p s count t₀ q₀ ids₀ counts₀ t (records.Taken q)
-  walking-end h l w g =
+  -- no record is left and no byte follows, and it is finished
+  pub walking-end : left ≤ 0 → length rest ≤ 0 → (d e : List ℕ) (r : SheetAnswer) → ((v : State byOne) → Carries t q v → length d ≤ length t → Answered (toldSheet r) d e (finishOf byOne (length d) v))
+      → AnsweredAll p s count t₀ q₀ ids₀ counts₀ d e r
+  walking-end h l d e r f w g z =
       let x = k .follows w g in
-      (x .v, x .carries, λ room. sym (x .same room) ∙ go left h room (x .v))
+      let same : finishOf byOne (length d) (x .v) ≡ answerFrom p (length d) w count s = sym (go left h (x .v)) ∙ x .same (length d) in
+      subst (Answered (toldSheet r) d e) same (f (x .v) (x .carries) (omega (arith, k .size)))
     where
-      go : (n : ℕ) → n ≤ 0 → (room : ℕ) (v : State byOne) → answerFrom p room v n rest ≡ finishOf byOne room v
-      go zero z room v = ap (λ a. thenAnswer a (finishing byOne p room v)) (records-end (v .records) (v .last) rest (omega arith)) ∙ finishing-none byOne p room v
-      go (suc n) z room v = absurd (omega arith)
+      go : (n : ℕ) → n ≤ 0 → (v : State byOne) → answerFrom p (length d) v n rest ≡ finishOf byOne (length d) v
+      go zero z v = ap (λ a. thenAnswer a (finishing byOne p (length d) v)) (records-end (v .records) (v .last) rest (omega arith)) ∙ finishing-none byOne p (length d) v
+      go (suc n) z v = absurd (omega arith)
 
   -- one record more is asked for, and what was told of it
-  module _ (h : 0 < left) (counts′ t′ : List ℕ) (a : TakeAnswer) (y : (v : State byOne) → Steps ids counts t q v → TakeTold counts′ t′ a (takeOf byOne p v rest)) where
+  module _ (h : 0 < left) (counts′ t′ : List ℕ) (a : Step) (y : (v : State byOne) → Steps ids counts t q v → StepTold counts′ t′ a (takeOf byOne p v rest)) where
     may-go : (w : State byOne) (g : Begins t₀ q₀ ids₀ counts₀ count w) → Steps ids counts t q (k .follows w g .v)
     may-go w g = let x = k .follows w g in record { ids-clear = x .ids-clear; counts-clear = x .counts-clear; carries = x .carries; number = omega (arith, x .number, g .numbered) }
 
-    told : (w : State byOne) (g : Begins t₀ q₀ ids₀ counts₀ count w) {b : TakeAnswer} → a ≡ b → TakeTold counts′ t′ b (takeOf byOne p (k .follows w g .v) rest)
-    told w g e = subst (λ (b : TakeAnswer). TakeTold counts′ t′ b (takeOf byOne p (k .follows w g .v) rest)) e (y (k .follows w g .v) (may-go w g))
+    told : (w : State byOne) (g : Begins t₀ q₀ ids₀ counts₀ count w) {b : Step} → a ≡ b → StepTold counts′ t′ b (takeOf byOne p (k .follows w g .v) rest)
+    told w g e = subst (λ (b : Step). StepTold counts′ t′ b (takeOf byOne p (k .follows w g .v) rest)) e (y (k .follows w g .v) (may-go w g))
 
     -- its refusal is that of the whole
     refused-here : (w : State byOne) (g : Begins t₀ q₀ ids₀ counts₀ count w) (room : ℕ) {x i c : ℕ} → takeOf byOne p (k .follows w g .v) rest ≡ refusal x i c → answerFrom p room w count s ≡ refusal x i c
@@ -97,13 +101,10 @@ module _ {p : Part} {s : List ℕ} {count : ℕ} {t₀ : List ℕ} {q₀ : Progr
         go zero z v r = absurd (omega arith)
         go (suc l) z v r = from-refused p v rest room l r
 
-    pub walking-misframed : {i : ℕ} → a ≡ takes.Misframed i → ToldAll p s count t₀ q₀ ids₀ counts₀ t′ (records.Malformed i)
-    walking-misframed j w g room = refused-here w g room (told w g j .0)
+    pub walking-stop : {r : SheetAnswer} → a ≡ steps.Stop r → (d : List ℕ) → AnsweredAll p s count t₀ q₀ ids₀ counts₀ d d r
+    walking-stop {r} j d w g f = refuses-lent d (toldSheet r) _ (refuses-on (toldSheet r) _ _ (λ x i c. refused-here w g (length d)) (told w g j .0))
 
-    pub walking-refused : {e : RecordFault} {i : ℕ} → a ≡ takes.Refused e i → ToldAll p s count t₀ q₀ ids₀ counts₀ t′ (records.Refused e i)
-    walking-refused j w g room = refused-here w g room (told w g j .0)
-
-    pub walking-on : {o : Progress} {n : ℕ} {ids′ : List ℕ} → ids′ ≡ ids → length t′ ≡ length t → a ≡ takes.Taken o n
+    pub walking-on : {o : Progress} {n : ℕ} {ids′ : List ℕ} → ids′ ≡ ids → length t′ ≡ length t → a ≡ steps.On o n
         → Walking p s count t₀ q₀ ids₀ counts₀ t′ ids′ counts′ (take (length rest - n) (drop n rest)) (left - 1) o
     walking-on {o} {n} z l j = rw (rest-is n rest) record {
       bytes = bytes-drop n rest (k .bytes);
@@ -111,7 +112,7 @@ module _ {p : Part} {s : List ℕ} {count : ℕ} {t₀ : List ℕ} {q₀ : Progr
       size = l ∙ k .size;
       follows = λ w g.
           let x = k .follows w g in
-          let u = taken-to (told w g j .0) in
+          let u = told w g j .0 in
           record {
             v = u .0;
             carries = u .2;

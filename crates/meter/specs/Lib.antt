@@ -8,8 +8,8 @@ pub mod Streaming
 -- What the functions of this crate promise each other.
 pub mod Adding
 pub mod Told
-pub mod Progress
 pub mod SheetTold
+pub mod Progress
 -- What holds of them.
 pub mod Cuts
 pub mod Theorems

@@ -3,23 +3,20 @@ use Prim.Native.Nat.{ℕ, _*_, _≤_, _<_}
 use mathlib.Core.Path.{_≡_}
 use mathlib.Core.List.{List}
 use lib.ListN.{length}
-use Rattle.wire.specs.Answer.{Answer, good, refusal, plain, badPart, partsMisfit, sheetMalformed, noRoom, tooMany}
+use Rattle.wire.specs.Answer.{Answer, good, refusal, plain, badPart, partsMisfit}
 use Rattle.census.specs.UsedNames.{totalCount}
 use Rattle.running_tally.specs.RunningTally.{Runs, none}
 use Rattle.meter.specs.Counting.{byOne}
 use Rattle.meter.specs.Streaming.{State}
+use Rattle.meter.specs.SheetTold.{toldSheet}
 use Rattle.mapblock.specs.Table.{clearTable}
-use Rattle.sheet.specs.Records.{lastOf, faulty}
+use Rattle.sheet.specs.Records.{lastOf}
 use Rattle.sheet.specs.declared.records.LastKey.the-variants as lasts
 use Rattle.meter.specs.declared.stream.Progress.{Progress}
 use Rattle.meter.specs.declared.stream.StartAnswer.{StartAnswer}
 use Rattle.meter.specs.declared.stream.StartAnswer.the-variants as starts
-use Rattle.meter.specs.declared.stream.StepAnswer.{StepAnswer}
-use Rattle.meter.specs.declared.stream.StepAnswer.the-variants as steps
-use Rattle.meter.specs.declared.stream.TakeAnswer.{TakeAnswer}
-use Rattle.meter.specs.declared.stream.TakeAnswer.the-variants as takes
-use Rattle.meter.specs.declared.stream.FinishAnswer.{FinishAnswer}
-use Rattle.meter.specs.declared.stream.FinishAnswer.the-variants as finishes
+use Rattle.meter.specs.declared.stream.Step.{Step}
+use Rattle.meter.specs.declared.stream.Step.the-variants as steps
 
 -- ---- between records
 -- The spare t carries the state: its rows are the running tally, and few and light enough for one record more.
@@ -29,10 +26,6 @@ pub record Carries (t : List ℕ) (p : Progress) (w : State byOne) : Type 0 wher
   pub runs : Runs t (p .tally) (w .rows)
   pub totalFits : totalCount (w .rows) ≤ 4096 * w .records
   pub rowsFit : length (w .rows) ≤ 4096 * w .records
-
--- the same with where a record ends
-abbrev pub CarriesTo : List ℕ → Progress × ℕ → State byOne × ℕ → Type 0
-CarriesTo t p w = Carries t (p .0) (w .0) × (p .1 ≡ w .1)
 
 -- before any record; every spare carries it
 abbrev pub begun : Progress
@@ -51,25 +44,20 @@ toldStart (starts.Started p) = good p
 toldStart starts.BadPart = plain badPart
 toldStart starts.Misfit = plain partsMisfit
 
-abbrev pub toldStep : StepAnswer → Answer Progress
-toldStep (steps.Taken p) = good p
-toldStep (steps.Refused f i) = faulty f i
+-- the first answer is a refusal, and the second is the same
+abbrev pub Refuses : {A : Type 0} → Answer ℕ → Answer A → Type 0
+Refuses (good n) a = ⊥
+Refuses (refusal n r o) a = a ≡ refusal n r o
 
--- with where the record ends
-abbrev pub toldTake : TakeAnswer → Answer (Progress × ℕ)
-toldTake (takes.Taken p n) = good (p, n)
-toldTake (takes.Misframed i) = refusal sheetMalformed i 0
-toldTake (takes.Refused f i) = faulty f i
+-- what came of a record, and what the definitions answer: the spare t carries the state after it, with where it ends; or it is refused
+abbrev pub StepMatches : List ℕ → Step → Answer (State byOne × ℕ) → Type 0
+StepMatches t (steps.On q n) a = (v : State byOne) × (a ≡ good (v, n)) × Carries t q v
+StepMatches t (steps.Stop r) a = Refuses (toldSheet r) a
 
 -- a record that is taken lies within the bytes that it is taken from
-abbrev pub TakenInside : List ℕ → Answer (Progress × ℕ) → Type 0
-TakenInside s (good x) = x .1 ≤ length s
-TakenInside s (refusal n r o) = Unit {0}
-
-abbrev pub toldFinish : FinishAnswer → Answer ℕ
-toldFinish (finishes.Tallied n) = good n
-toldFinish (finishes.NoRoom i) = refusal noRoom i 0
-toldFinish (finishes.TooMany i) = refusal tooMany i 0
+abbrev pub TakenInside : List ℕ → Step → Type 0
+TakenInside s (steps.On q n) = n ≤ length s
+TakenInside s (steps.Stop r) = Unit {0}
 
 -- on a refusal a lent buffer is as it was
 abbrev pub Untouched : {A : Type 0} → Answer A → List ℕ → List ℕ → Type 0

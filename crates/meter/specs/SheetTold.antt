@@ -1,6 +1,5 @@
 -- What the answers of tallying a sheet say: document 01, 'The numbers a call comes back with'.
 use Prim.Native.Nat.{ℕ, _+_, _<_}
-use mathlib.Core.Path.{_≡_}
 use mathlib.Core.List.{List}
 use lib.ListN.{length}
 use Rattle.wire.specs.Answer.{Answer, good, refusal, plain, badPart, partsMisfit, sheetMalformed, noRoom, tooMany, thenAnswer, Answered}
@@ -11,14 +10,10 @@ use Rattle.meter.specs.Standing.{nodesIn}
 use Rattle.meter.specs.Counting.{tallyOf, byOne}
 use Rattle.sheet.specs.Sheet.{recordsFrom, sheetOf}
 use Rattle.meter.specs.SheetTally.{fittedSheet}
-use Rattle.meter.specs.Streaming.{State, finishOf}
+use Rattle.meter.specs.Streaming.{State}
 use Rattle.sheet.specs.Records.{faulty}
-use Rattle.meter.specs.Progress.{Carries}
-use Rattle.meter.specs.declared.stream.Progress.{Progress}
-use Rattle.meter.specs.declared.sheet_tally.Records.{Records}
-use Rattle.meter.specs.declared.sheet_tally.Records.the-variants as records
-use Rattle.meter.specs.declared.sheet_tally.SheetAnswer.{SheetAnswer}
-use Rattle.meter.specs.declared.sheet_tally.SheetAnswer.the-variants as sheets
+use Rattle.meter.specs.declared.answer.SheetAnswer.{SheetAnswer}
+use Rattle.meter.specs.declared.answer.SheetAnswer.the-variants as sheets
 
 -- ---- from one record to the next
 -- what a sheet's tally answers from a state on, with so many records to come in these bytes
@@ -29,16 +24,6 @@ answerFrom p room w k s =
 -- a u32 holds the number of all records
 abbrev pub Numbered : State byOne → ℕ → Type 0
 Numbered w k = w .records + k < 4294967296
-
-abbrev pub toldRecords : Records → Answer Progress
-toldRecords (records.Taken q) = good q
-toldRecords (records.Malformed i) = refusal sheetMalformed i 0
-toldRecords (records.Refused f i) = faulty f i
-
--- From the state w on the sheet's tally answers what it answers from the state that the spare t carries then, or the refusal.
-abbrev pub AnswersFrom : Part → List ℕ → State byOne → ℕ → List ℕ → Answer Progress → Type 0
-AnswersFrom p t w k s (good q) = (v : State byOne) × Carries t q v × ((room : ℕ) → answerFrom p room w k s ≡ finishOf byOne room v)
-AnswersFrom p t w k s (refusal n i o) = (room : ℕ) → answerFrom p room w k s ≡ refusal n i o
 
 -- ---- the whole
 abbrev pub toldSheet : SheetAnswer → Answer ℕ

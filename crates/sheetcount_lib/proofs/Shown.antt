@@ -19,9 +19,9 @@ use Rattle.meter.specs.Counting.{byOne}
 use Rattle.meter.specs.SheetTold.{toldSheet}
 use Rattle.meter.specs.Theorems.{whole-sheet}
 use Rattle.sheetcount_lib.specs.Program.{everything, maxTallyLength, sheetcountOf}
-use Rattle.meter.specs.declared.sheet_tally.SheetAnswer.{SheetAnswer}
-use Rattle.meter.specs.declared.sheet_tally.SheetAnswer.the-variants as sheets
-use Rattle.meter.proofs.sheet_tally.SheetAnswer as answers
+use Rattle.meter.specs.declared.answer.SheetAnswer.{SheetAnswer}
+use Rattle.meter.specs.declared.answer.SheetAnswer.the-variants as sheets
+use Rattle.meter.proofs.answer.SheetAnswer as answers
 use Rattle.meter.proofs.Exactness.{told-tallied, is-tally}
 use Rattle.sheetcount_lib.proofs.Sheetcount.{sheetcount}
 use Rattle.sheetcount_lib.specs.Reading.{CountedAs}

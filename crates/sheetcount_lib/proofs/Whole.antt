@@ -1,6 +1,6 @@
 -- The start, the head, the records and the end, put together.
 use Prim.Native.Nat.{ℕ, _<_, _^_}
-use mathlib.Core.Path.{_≡_, refl, ap, sym, subst, _∙_}
+use mathlib.Core.Path.{_≡_, refl, ap, subst, subst⁻¹, _∙_}
 use mathlib.Core.List.{List, _++_}
 use mathlib.Core.Option.{none}
 use Rattle.wire.specs.Bytes.{Bytes, bytes-append}
@@ -14,16 +14,14 @@ use Rattle.meter.specs.Streaming.{State, noRecords, startOf}
 use Rattle.sheet.specs.Sheet.{sheetHead}
 use Rattle.meter.specs.Progress.{Carries, begun}
 use Rattle.meter.specs.SheetTold.{toldSheet}
-use Rattle.sheetcount_lib.specs.Program.{everything, maxTallyLength, countedFrom, sheetcountOf, nextFaulty}
-use Rattle.meter.specs.declared.sheet_tally.SheetAnswer.{SheetAnswer}
-use Rattle.meter.specs.declared.sheet_tally.SheetAnswer.the-variants as sheets
+use Rattle.sheetcount_lib.specs.Program.{everything, maxTallyLength, countedFrom, sheetcountOf}
+use Rattle.meter.specs.declared.answer.SheetAnswer.{SheetAnswer}
+use Rattle.meter.specs.declared.answer.SheetAnswer.the-variants as sheets
 use Rattle.meter.specs.declared.stream.Progress.{Progress}
-use Rattle.sheetcount_lib.specs.declared.program.NextFault.{NextFault}
 use Rattle.sheet.proofs.SheetTaken.{ok-head}
 use Rattle.meter.proofs.Carried.{begun-carried}
-use Rattle.sheetcount_lib.proofs.Nexts.{stopped-lent}
 use Rattle.sheetcount_lib.proofs.Sheetcount.{behind-head, headless}
-use Rattle.sheetcount_lib.specs.Reading.{Stopped, Reached, Ended, CountedInto, IfRead}
+use Rattle.sheetcount_lib.specs.Reading.{Counted, IfRead}
 use Rattle.sheetcount_lib.specs.declared.reading.SheetRead.{SheetRead}
 use Rattle.sheetcount_lib.specs.declared.reading.SheetRead.the-variants as sheetReads
 
@@ -45,35 +43,19 @@ module _ (room spare : ℕ) (r : room ≡ maxTallyLength) (p : spare ≡ maxTall
 
 -- ---- the head, the records and the end
 -- the head is none
-pub counted-headless : (s d : List ℕ) → Bytes s → none ≡ toOption (sheetHead .read s) → CountedInto d d (sheets.Malformed 0)
+pub counted-headless : (s d : List ℕ) → Bytes s → none ≡ toOption (sheetHead .read s) → Counted sheetcountOf d d (sheets.Malformed 0)
 counted-headless s d b e = go (toOption-none (sheetHead .read s) e)
   where
-    go : Misread (sheetHead .read s) → CountedInto d d (sheets.Malformed 0)
+    go : Misread (sheetHead .read s) → Counted sheetcountOf d d (sheets.Malformed 0)
     go (at-place p h) = record { s = s; bytes = b; answered = rw (headless s h) (refl, refl) }
 
-module _ (n : ℕ) (h : n < 256 ^ 4) where
-  -- the bytes of a sheet that states n records
-  abbrev whole : List ℕ → List ℕ
-  whole t = sheetHead .encode n ++ t
-
-  whole-bytes : (t : List ℕ) → Bytes t → Bytes (whole t)
-  whole-bytes t b = bytes-append (sheetHead .encode n) t (sheetHead .bytes n (ok-head n h)) b
-
-  -- a record is refused
-  pub counted-stopped : (d : List ℕ) (f : NextFault) (r : SheetAnswer) → toldSheet r ≡ nextFaulty f → Stopped n f → CountedInto d d r
-  counted-stopped d f r t x =
-      let e : sheetcountOf (whole (x .s)) ≡ nextFaulty f = behind-head n (x .s) h ∙ x .refuses in
-      record { s = whole (x .s); bytes = whole-bytes (x .s) (x .bytes); answered = rw (e, t) (stopped-lent d f) }
-
-  -- all are taken, and some bytes follow
-  pub counted-ended : {t : List ℕ} {q : Progress} (d e : List ℕ) → Reached n 0 t q → (r : SheetAnswer) → Ended t q d e r → CountedInto d e r
-  counted-ended d e x r y =
-      let same : countedFrom 0 (x .v) (y .s) ≡ sheetcountOf (whole (x .s ++ y .s)) = sym (behind-head n (x .s ++ y .s) h ∙ x .same (y .s)) in
-      record {
-        s = whole (x .s ++ y .s);
-        bytes = whole-bytes (x .s ++ y .s) (bytes-append (x .s) (y .s) (x .bytes) (y .bytes));
-        answered = subst (λ (a : Answer (List ℕ)). Answered (toldSheet r) d e a) same (y .answered (x .v) (x .carries));
-      }
+-- what is counted behind the head of a sheet that states n records is what the program makes of the sheet
+pub counted-behind : (n : ℕ) → n < 256 ^ 4 → {d e : List ℕ} (r : SheetAnswer) → Counted (countedFrom n (noRecords byOne)) d e r → Counted sheetcountOf d e r
+counted-behind n h {d} {e} r x = record {
+  s = sheetHead .encode n ++ x .s;
+  bytes = bytes-append (sheetHead .encode n) (x .s) (sheetHead .bytes n (ok-head n h)) (x .bytes);
+  answered = subst⁻¹ (Answered (toldSheet r) d e) (behind-head n (x .s) h) (x .answered);
+}
 
 -- ---- unless a read failed
 pub if-read : {P Q : SheetAnswer → Type 0} → ((r : SheetAnswer) → P r → Q r) → (a : SheetRead) → IfRead P a → IfRead Q a

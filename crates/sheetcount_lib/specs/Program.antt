@@ -18,13 +18,6 @@ use Rattle.sheet.specs.Sheet.{SheetForm, SheetRecord, frame, sheetHead, framed}
 use Rattle.meter.specs.SheetTally.{tallySheetOf}
 use Rattle.meter.specs.Streaming.{State, noRecords, stepsOf, takeOf, finishOf}
 use Rattle.sheet.specs.Theorems.{sheetBytes, Framed}
-use Rattle.sheet.specs.Records.{faulty}
-use Rattle.meter.specs.Progress.{Carries}
-use Rattle.sheetcount_lib.specs.declared.program.Step.{Step}
-use Rattle.sheetcount_lib.specs.declared.program.Step.the-variants as nexts
-use Rattle.sheetcount_lib.specs.declared.program.NextFault.{NextFault}
-use Rattle.sheetcount_lib.specs.declared.program.NextFault.the-variants as faults
-use Rattle.meter.specs.declared.stream.Progress.{Progress}
 use Rattle.sheetcount_lib.specs.declared.program.LengthRead.{LengthRead}
 use Rattle.sheetcount_lib.specs.declared.program.LengthRead.the-variants as lengths
 
@@ -66,20 +59,6 @@ abbrev pub toldLength : ℕ → LengthRead → Answer ℕ
 toldLength i (lengths.Block n) = good n
 toldLength i lengths.Misframed = refusal sheetMalformed i 0
 toldLength i lengths.TooLong = refusal noRoom i 0
-
--- why the next record is refused
-abbrev pub nextFaulty : {A : Type 0} → NextFault → Answer A
-nextFaulty (faults.Misframed i) = refusal sheetMalformed i 0
-nextFaulty (faults.TooLong i) = refusal noRoom i 0
-nextFaulty (faults.Record f i) = faulty f i
-
-abbrev pub toldNext : Step → Answer Progress
-toldNext (nexts.On q) = good q
-toldNext (nexts.Stop f) = nextFaulty f
-
--- the spare t carries the state after a record; how many bytes the record takes is not told
-abbrev pub CarriesFirst : List ℕ → Progress → State byOne × ℕ → Type 0
-CarriesFirst t q x = Carries t q (x .0)
 
 -- ---- what holds of it
 -- of so many records in these bytes none states a longer block

@@ -2,23 +2,20 @@
 -- they are true, unless a read failed.
 use Prim.Native.Nat.{ℕ, _+_, _≤_}
 use mathlib.Core.Path.{_≡_}
-use mathlib.Core.List.{List, _++_}
+use mathlib.Core.List.{List}
 use lib.ListN.{length, take}
 use Rattle.wire.specs.Bytes.{Bytes}
 use Rattle.wire.specs.Answer.{Answer, good, refusal, Answered}
 use Rattle.meter.specs.Counting.{byOne}
-use Rattle.meter.specs.Streaming.{State, noRecords}
+use Rattle.meter.specs.Streaming.{State}
 use Rattle.mapblock.specs.Table.{clearTable}
 use Rattle.meter.specs.Progress.{Carries}
 use Rattle.meter.specs.SheetTold.{toldSheet}
-use Rattle.sheetcount_lib.specs.Program.{maxBlockLength, maxTallyLength, blockLengthOf, countedFrom, sheetcountOf, nextFaulty}
-use Rattle.meter.specs.declared.sheet_tally.SheetAnswer.{SheetAnswer}
+use Rattle.sheetcount_lib.specs.Program.{maxBlockLength, maxTallyLength, blockLengthOf, countedFrom, sheetcountOf}
+use Rattle.meter.specs.declared.answer.SheetAnswer.{SheetAnswer}
 use Rattle.meter.specs.declared.stream.Progress.{Progress}
-use Rattle.sheetcount_lib.specs.declared.program.NextFault.{NextFault}
 use Rattle.sheetcount_lib.specs.declared.reading.BytesRead.{BytesRead}
 use Rattle.sheetcount_lib.specs.declared.reading.BytesRead.the-variants as bytesReads
-use Rattle.sheetcount_lib.specs.declared.reading.RecordsRead.{RecordsRead}
-use Rattle.sheetcount_lib.specs.declared.reading.RecordsRead.the-variants as recordsReads
 use Rattle.sheetcount_lib.specs.declared.reading.SheetRead.{SheetRead}
 use Rattle.sheetcount_lib.specs.declared.reading.SheetRead.the-variants as sheetReads
 
@@ -44,33 +41,6 @@ abbrev pub RecordWithin : List ℕ → BytesRead → Type 0
 RecordWithin bytes (bytesReads.Bytes n) = n ≤ recordLength (take 12 bytes)
 RecordWithin bytes bytesReads.Failed = Unit {0}
 
--- ---- so many records, one behind the other
--- before the first: the spare carries the state, and the tables are clear
-pub record Begins (t : List ℕ) (q : Progress) (ids counts : List ℕ) : Type 0 where
-  pub carries : Carries t q (noRecords byOne)
-  pub ids-clear : ids ≡ clearTable
-  pub counts-clear : counts ≡ clearTable
-
--- behind some of them, in the bytes s: the state from which the others are counted, in whatever follows
-pub record Reached (count left : ℕ) (t : List ℕ) (q : Progress) : Type 0 where
-  pub s : List ℕ
-  pub bytes : Bytes s
-  pub v : State byOne
-  pub carries : Carries t q v
-  pub number : v .records + left ≡ count
-  pub same : (rest : List ℕ) → countedFrom count (noRecords byOne) (s ++ rest) ≡ countedFrom left v rest
-
--- one is refused, in the bytes s
-pub record Stopped (count : ℕ) (f : NextFault) : Type 0 where
-  pub s : List ℕ
-  pub bytes : Bytes s
-  pub refuses : countedFrom count (noRecords byOne) s ≡ nextFaulty f
-
-abbrev pub AllTold : ℕ → List ℕ → RecordsRead → Type 0
-AllTold count t (recordsReads.Taken q) = Reached count 0 t q
-AllTold count t (recordsReads.Refused f) = Stopped count f
-AllTold count t recordsReads.Failed = Unit {0}
-
 -- ---- the whole
 -- what holds of a sheet's answer, unless a read failed
 abbrev pub IfRead : (SheetAnswer → Type 0) → SheetRead → Type 0
@@ -91,13 +61,13 @@ pub record Ready (bytes out spare ids counts : List ℕ) : Type 0 where
   pub ids-clear : ids ≡ clearTable
   pub counts-clear : counts ≡ clearTable
 
--- there are bytes s of which the answer, and what the output then holds, are the program's
-pub record CountedInto (before after : List ℕ) (r : SheetAnswer) : Type 0 where
+-- there are bytes s of which the answer, and what the output then holds, are what f makes of them
+pub record Counted (f : List ℕ → Answer (List ℕ)) (before after : List ℕ) (r : SheetAnswer) : Type 0 where
   pub s : List ℕ
   pub bytes : Bytes s
-  pub answered : Answered (toldSheet r) before after (sheetcountOf s)
+  pub answered : Answered (toldSheet r) before after (f s)
 
--- the same, whatever the output held before
+-- they are the program's, whatever the output held before
 pub record CountedAs (out : List ℕ) (r : SheetAnswer) : Type 0 where
   pub before : List ℕ
-  pub into : CountedInto before out r
+  pub into : Counted sheetcountOf before out r

@@ -5,7 +5,7 @@ mod program;
 mod reading;
 
 use anowhetele::metering::sheet_answer;
-use meter::sheet_tally::SheetAnswer;
+use meter::answer::SheetAnswer;
 use reading::SheetRead;
 use reading::count_sheet;
 use report::lines::tally_text;

@@ -1,15 +1,13 @@
 // What the program sheetcount decides, over the bytes that it reads.
 use mapblock::nodes::IDS;
 use mapblock::nodes::NODES;
-use meter::sheet_tally::SheetAnswer;
-use meter::sheet_tally::finished;
+use meter::answer::SheetAnswer;
 use meter::stream::Progress;
-use meter::stream::TakeAnswer;
+use meter::stream::Step;
 use meter::stream::finish;
 use meter::stream::take_record;
 use position::part::Part;
 use sheet::records::LENGTH_AT;
-use sheet::records::RecordFault;
 use wire::fields::S64;
 use wire::fields::U32;
 use wire::fields::s64_at;
@@ -17,13 +15,13 @@ use wire::fields::u32_at;
 ghost use mathlib.Core.Path.{_≡_};
 ghost use Prim.Native.Nat.{ℕ, _≤_};
 ghost use lib.ListN.{length};
-ghost use Rattle.wire.specs.Answer.{Answered, Matches};
+ghost use Rattle.wire.specs.Answer.{Answered};
 ghost use Rattle.meter.specs.Counting.{byOne};
 ghost use Rattle.mapblock.specs.Table.{clearTable};
 ghost use Rattle.meter.specs.Streaming.{State};
-ghost use Rattle.meter.specs.Progress.{Carries, Steps, Untouched};
+ghost use Rattle.meter.specs.Progress.{Carries, Steps, StepMatches, Untouched};
 ghost use Rattle.meter.specs.SheetTold.{toldSheet};
-ghost use Rattle.sheetcount_lib.specs.Program.{maxTallyLength, blockLengthOf, nextOf, countedFrom, toldLength, nextFaulty, toldNext, CarriesFirst};
+ghost use Rattle.sheetcount_lib.specs.Program.{maxTallyLength, blockLengthOf, nextOf, countedFrom, toldLength};
 
 // The longest block of a record, and the longest tally.
 pub(crate) const MAX_BLOCK_LENGTH: usize = 49152;
@@ -54,26 +52,12 @@ pub(crate) fn block_length(s: &[u8]) -> LengthRead
     LengthRead::Block(size)
 }
 
-// Why the next record is refused, with its number.
-pub(crate) enum NextFault {
-    Misframed(u32),
-    // Its block is longer than the program holds.
-    TooLong(u32),
-    Record { fault: RecordFault, index: u32 },
-}
-
-// What came of a record: how far the sheet was tallied then, or the refusal.
-pub(crate) enum Step {
-    On(Progress),
-    Stop(NextFault),
-}
-
 // Takes the record at the front of some bytes, unless its block is too long. It is an inner function of the program, and so is end_sheet: the
-// buffers carry a state between records. What it answers is promised where `ids` and `counts` are clear, the spare carries the state that `p`
-// tells, and a u32 holds the number of the record (`Steps`); the counters are then clear again. Of every state: the spare keeps its length, and
-// `ids` comes back as it was. The spare, `places` and `scratch` are as after a step.
+// buffers carry a state between records. What it answers is promised where `ids` and `counts` are clear, the spare carries the state that
+// `progress` tells, and a u32 holds the number of the record (`Steps`); the counters are then clear again. Of every state: the spare keeps its
+// length, and `ids` comes back as it was. The spare, `places` and `scratch` are as take_record leaves them.
 pub(crate) fn take_next(
-    p: Progress,
+    progress: Progress,
     s: &[u8],
     spare: &mut [u8],
     ids: &mut [u8; IDS],
@@ -84,15 +68,15 @@ pub(crate) fn take_next(
     ensures spare { λ _. ⌜ length (now (spare .exit)) ≡ length (now (spare .entry)) ⌝ }
     ensures ids { λ _. ⌜ now (ids .exit) ≡ now (ids .entry) ⌝ }
     ensures told { λ r. ⌜
-        ((w : State byOne) → Steps (now (ids .entry)) (now (counts .entry)) (now (spare .entry)) p w
-        → Matches (CarriesFirst (now (spare .exit))) (toldNext r) (nextOf w (now (s .entry)))
+        ((w : State byOne) → Steps (now (ids .entry)) (now (counts .entry)) (now (spare .entry)) progress w
+        → StepMatches (now (spare .exit)) r (nextOf w (now (s .entry)))
         × (now (counts .exit) ≡ clearTable)) ⌝ }
 {
     match block_length(s) {
-        LengthRead::Misframed => Step::Stop(NextFault::Misframed(p.records)),
-        LengthRead::TooLong => Step::Stop(NextFault::TooLong(p.records)),
-        LengthRead::Block(_) => match take_record(
-            p,
+        LengthRead::Misframed => Step::Stop(SheetAnswer::Malformed(progress.records)),
+        LengthRead::TooLong => Step::Stop(SheetAnswer::NoRoom(progress.records)),
+        LengthRead::Block(_) => take_record(
+            progress,
             s,
             Part::EVERYTHING,
             spare,
@@ -100,42 +84,26 @@ pub(crate) fn take_next(
             counts,
             places,
             scratch,
-        ) {
-            TakeAnswer::Misframed(i) => Step::Stop(NextFault::Misframed(i)),
-            TakeAnswer::Refused { fault, index: i } => Step::Stop(NextFault::Record {
-                fault,
-                index: i,
-            }),
-            TakeAnswer::Taken {
-                progress: next,
-                length: _,
-            } => Step::On(next),
-        },
+        ),
     }
 }
 
-// The refusal of a record, as tallying the sheet answers it.
-pub(crate) fn stopped(f: NextFault) -> SheetAnswer
-    ensures { λ r. ⌜ toldSheet r ≡ nextFaulty f ⌝ }
-{
-    match f {
-        NextFault::Misframed(i) => SheetAnswer::Malformed(i),
-        NextFault::TooLong(i) => SheetAnswer::NoRoom(i),
-        NextFault::Record { fault, index: i } => SheetAnswer::Record { fault, index: i },
-    }
-}
-
-// Behind the last record: no byte more, and then the tally. What it answers is promised where the spare carries the state that `p` tells, the
-// output has MAX_TALLY_LENGTH bytes and the spare no fewer. Of every state: a refusal leaves the output as it was.
-pub(crate) fn end_sheet(p: Progress, rest: &[u8], spare: &[u8], out: &mut [u8]) -> SheetAnswer
+// Finishes behind the last record, where there is no byte more. What it answers is promised where the spare carries the state that `progress`
+// tells, the output has MAX_TALLY_LENGTH bytes and the spare no fewer. Of every state: a refusal leaves the output as it was.
+pub(crate) fn end_sheet(
+    progress: Progress,
+    rest: &[u8],
+    spare: &[u8],
+    out: &mut [u8],
+) -> SheetAnswer
     ensures told { λ r. ⌜
-        ((w : State byOne) → Carries (now (spare .entry)) p w → length (now (out .entry)) ≡ maxTallyLength
+        ((w : State byOne) → Carries (now (spare .entry)) progress w → length (now (out .entry)) ≡ maxTallyLength
         → maxTallyLength ≤ length (now (spare .entry))
         → Answered (toldSheet r) (now (out .entry)) (now (out .exit)) (countedFrom 0 w (now (rest .entry)))) ⌝ }
-    ensures { λ r. ⌜ Untouched (toldSheet r) (now (out .entry)) (now (out .exit)) ⌝ }
+    ensures refused { λ r. ⌜ Untouched (toldSheet r) (now (out .entry)) (now (out .exit)) ⌝ }
 {
     if 0 < rest.len() {
-        return SheetAnswer::Malformed(p.records);
+        return SheetAnswer::Malformed(progress.records);
     }
-    finished(finish(p, spare, out))
+    finish(progress, spare, out)
 }

@@ -3,17 +3,15 @@
 use crate::program::LengthRead;
 use crate::program::MAX_BLOCK_LENGTH;
 use crate::program::MAX_TALLY_LENGTH;
-use crate::program::NextFault;
-use crate::program::Step;
 use crate::program::block_length;
 use crate::program::end_sheet;
-use crate::program::stopped;
 use crate::program::take_next;
 use mapblock::nodes::IDS;
 use mapblock::nodes::NODES;
-use meter::sheet_tally::SheetAnswer;
+use meter::answer::SheetAnswer;
 use meter::stream::Progress;
 use meter::stream::StartAnswer;
+use meter::stream::Step;
 use meter::stream::start;
 use position::part::Part;
 use sheet::head::sheet_head;
@@ -26,8 +24,8 @@ ghost use lib.ListN.{length, take};
 ghost use Rattle.meter.specs.Counting.{byOne};
 ghost use Rattle.meter.specs.Streaming.{noRecords};
 ghost use Rattle.meter.specs.Progress.{Carries};
-ghost use Rattle.sheetcount_lib.specs.Program.{maxBlockLength, maxTallyLength};
-ghost use Rattle.sheetcount_lib.specs.Reading.{longest, Within, RecordWithin, Begins, AllTold, IfRead, Ended, Ready, CountedInto, CountedAs};
+ghost use Rattle.sheetcount_lib.specs.Program.{maxBlockLength, maxTallyLength, countedFrom, sheetcountOf};
+ghost use Rattle.sheetcount_lib.specs.Reading.{longest, Within, RecordWithin, IfRead, Ended, Ready, Counted, CountedAs};
 
 // How many bytes were read, which are fewer than were asked for only where the input ends; or that a read failed.
 enum BytesRead {
@@ -84,70 +82,35 @@ fn read_record(input: i32, bytes: &mut [u8]) -> BytesRead
     }
 }
 
-// What came of reading records: how far the sheet was tallied then, or the refusal of one, or that a read failed.
-enum RecordsRead {
-    Taken(Progress),
-    Refused(NextFault),
-    Failed,
-}
-
-// So many records, one behind the other.
-fn take_all(
-    input: i32,
-    count: u32,
-    p: Progress,
-    bytes: &mut [u8],
-    spare: &mut [u8],
-    ids: &mut [u8; IDS],
-    counts: &mut [u16; IDS],
-    places: &mut [usize; NODES],
-    scratch: &mut [usize; NODES],
-) -> RecordsRead
-    requires { ⌜ (length (now bytes) ≡ longest) × Begins (now spare) p (now ids) (now counts) ⌝ }
-    ensures spare { λ _. ⌜ length (now (spare .exit)) ≡ length (now (spare .entry)) ⌝ }
-    ensures told { λ r. ⌜ AllTold count (now (spare .exit)) r ⌝ }
-{
-    let mut left = count;
-    let mut now = p;
-    while 0 < left {
-        let BytesRead::Bytes(n) = read_record(input, bytes) else {
-            return RecordsRead::Failed;
-        };
-        match take_next(now, &bytes[..n], spare, ids, counts, places, scratch) {
-            Step::Stop(f) => {
-                return RecordsRead::Refused(f);
-            }
-            Step::On(next) => {
-                now = next;
-                left -= 1;
-            }
-        }
-    }
-    RecordsRead::Taken(now)
-}
-
 // What came of reading a sheet: its answer, or that a read failed.
 pub(crate) enum SheetRead {
     Answer(SheetAnswer),
     Failed,
 }
 
-// Behind the last record: reads one byte more, of which there is none in a sheet.
-fn read_end(input: i32, p: Progress, bytes: &mut [u8], out: &mut [u8], spare: &[u8]) -> SheetRead
+// Reads one byte more behind the last record, of which there is none in a sheet, and finishes.
+fn read_end(
+    input: i32,
+    progress: Progress,
+    bytes: &mut [u8],
+    out: &mut [u8],
+    spare: &[u8],
+) -> SheetRead
     requires { ⌜ (length (now bytes) ≡ longest) × (length (now out) ≡ maxTallyLength)
         × (length (now spare) ≡ maxTallyLength) ⌝ }
-    ensures { λ r. ⌜ IfRead (Ended (now (spare .entry)) p (now (out .entry)) (now (out .exit))) r ⌝ }
+    ensures { λ r. ⌜ IfRead (Ended (now (spare .entry)) progress (now (out .entry)) (now (out .exit))) r ⌝ }
 {
     let BytesRead::Bytes(n) = read_bytes(input, &mut bytes[..1]) else {
         return SheetRead::Failed;
     };
-    SheetRead::Answer(end_sheet(p, &bytes[..n], spare, out))
+    SheetRead::Answer(end_sheet(progress, &bytes[..n], spare, out))
 }
 
-// The head, which says how many records there are, then the records and the end.
-fn read_sheet(
+// Reads and takes so many records, one behind the other, and then the end.
+fn take_all(
     input: i32,
-    p: Progress,
+    count: u32,
+    progress: Progress,
     bytes: &mut [u8],
     out: &mut [u8],
     spare: &mut [u8],
@@ -157,8 +120,48 @@ fn read_sheet(
     scratch: &mut [usize; NODES],
 ) -> SheetRead
     requires { ⌜ Ready (now bytes) (now out) (now spare) (now ids) (now counts)
-        × Carries (now spare) p (noRecords byOne) ⌝ }
-    ensures { λ r. ⌜ IfRead (CountedInto (now (out .entry)) (now (out .exit))) r ⌝ }
+        × Carries (now spare) progress (noRecords byOne) ⌝ }
+    ensures spare { λ _. ⌜ length (now (spare .exit)) ≡ length (now (spare .entry)) ⌝ }
+    ensures told { λ r. ⌜
+        IfRead (Counted (countedFrom count (noRecords byOne)) (now (out .entry)) (now (out .exit))) r ⌝ }
+{
+    let mut left = count;
+    let mut now = progress;
+    while 0 < left {
+        let BytesRead::Bytes(n) = read_record(input, bytes) else {
+            return SheetRead::Failed;
+        };
+        match take_next(now, &bytes[..n], spare, ids, counts, places, scratch) {
+            Step::Stop(answer) => {
+                return SheetRead::Answer(answer);
+            }
+            Step::On {
+                progress: next,
+                length: _,
+            } => {
+                now = next;
+                left -= 1;
+            }
+        }
+    }
+    read_end(input, now, bytes, out, spare)
+}
+
+// Reads the head, which says how many records there are, then the records and the end.
+fn read_sheet(
+    input: i32,
+    progress: Progress,
+    bytes: &mut [u8],
+    out: &mut [u8],
+    spare: &mut [u8],
+    ids: &mut [u8; IDS],
+    counts: &mut [u16; IDS],
+    places: &mut [usize; NODES],
+    scratch: &mut [usize; NODES],
+) -> SheetRead
+    requires { ⌜ Ready (now bytes) (now out) (now spare) (now ids) (now counts)
+        × Carries (now spare) progress (noRecords byOne) ⌝ }
+    ensures { λ r. ⌜ IfRead (Counted sheetcountOf (now (out .entry)) (now (out .exit))) r ⌝ }
 {
     let BytesRead::Bytes(got) = read_bytes(input, &mut bytes[..HEAD_LENGTH]) else {
         return SheetRead::Failed;
@@ -166,11 +169,18 @@ fn read_sheet(
     let HeadRead::Count(count) = sheet_head(&bytes[..got]) else {
         return SheetRead::Answer(SheetAnswer::Malformed(0));
     };
-    match take_all(input, count, p, bytes, spare, ids, counts, places, scratch) {
-        RecordsRead::Failed => SheetRead::Failed,
-        RecordsRead::Refused(f) => SheetRead::Answer(stopped(f)),
-        RecordsRead::Taken(q) => read_end(input, q, bytes, out, spare),
-    }
+    take_all(
+        input,
+        count,
+        progress,
+        bytes,
+        out,
+        spare,
+        ids,
+        counts,
+        places,
+        scratch,
+    )
 }
 
 // Reads a sheet and tallies it into the output.
@@ -185,14 +195,14 @@ fn count_into(
     scratch: &mut [usize; NODES],
 ) -> SheetRead
     requires { ⌜ Ready (now bytes) (now out) (now spare) (now ids) (now counts) ⌝ }
-    ensures { λ r. ⌜ IfRead (CountedInto (now (out .entry)) (now (out .exit))) r ⌝ }
+    ensures { λ r. ⌜ IfRead (Counted sheetcountOf (now (out .entry)) (now (out .exit))) r ⌝ }
 {
     match start(Part::EVERYTHING, out.len(), spare.len()) {
         StartAnswer::BadPart => SheetRead::Answer(SheetAnswer::BadPart),
         StartAnswer::Misfit => SheetRead::Answer(SheetAnswer::Misfit),
-        StartAnswer::Started(p) => read_sheet(
+        StartAnswer::Started(progress) => read_sheet(
             input,
-            p,
+            progress,
             bytes,
             out,
             spare,

@@ -1,6 +1,6 @@
 use mathlib.Core.Path.{_≡_, ap, sym, _∙_}
 use Rattle.meter.specs.SheetTold.{toldSheet}
-use Rattle.meter.specs.declared.sheet_tally.SheetAnswer.{SheetAnswer}
+use Rattle.meter.specs.declared.answer.SheetAnswer.{SheetAnswer}
 use Rattle.anowhetele.specs.Answers.{handed}
 use Rattle.anowhetele.specs.declared.answer.AnowAnswer.{AnowAnswer}
 use borrow.Author.Needs.{needs}

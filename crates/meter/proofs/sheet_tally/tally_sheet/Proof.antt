@@ -16,9 +16,16 @@ use borrow.Author.Needs.{needs}
 use Rattle.meter.proofs.sheet_tally.tally_sheet.Statement.{statement}
 use Rattle.meter.proofs.sheet_tally.tally_sheet.Tie as tie
 
+-- where the function starts, and where it told how
+abbrev begun : tie.After-start → tie.Start
+begun x = x .before .before .before .before
+
+abbrev judged : tie.After-from-start → tie.After-start
+judged x = x .before .before .before .before .before .before .before .before .before .before
+
 -- what start told, of any spare
 started : (c : tie.After-start) (t : List ℕ) {a : StartAnswer} → c .start .result ≡ a
-    → Matches (Carries t) (toldStart a) (startOf byOne (c .before .before .before .before .args .part) (length (now (c .before .before .before .before .args .out))) (length (now (c .before .before .before .before .args .spare))))
+    → Matches (Carries t) (toldStart a) (startOf byOne (begun c .args .part) (length (now (begun c .args .out))) (length (now (begun c .args .spare))))
 started c t e = start-matches _ _ _ t (told-as toldStart (c .start .ensures) e)
 
 start-requires : tie.Need-start-requires
@@ -30,17 +37,23 @@ enum-told c = search needs
 enum-told-2 : tie.Need-enum-told-2
 enum-told-2 c = search needs
 
-enum-known-p : tie.Need-enum-known-p
-enum-known-p c = search needs
+enum-known-progress : tie.Need-enum-known-progress
+enum-known-progress c = search needs
 
 from-start-requires : tie.Need-from-start-requires
 from-start-requires c κs = search needs
 
 returns : tie.Need-returns
-returns c = let x = sheet-bad (c .before .before .before .before .before .before .args .part) (now (c .before .before .before .before .before .before .args .sheet)) (now (c .before .before .before .before .before .before .args .out)) _ (started (c .before .before) [] (c .enum-told .given .1)) in (x, refl)
+returns c =
+    let x = c .before .before in
+    let s = begun x in
+    (sheet-bad (s .args .part) (now (s .args .sheet)) (now (s .args .out)) _ (started x [] (c .enum-told .given .1)), refl)
 
 returns-2 : tie.Need-returns-2
-returns-2 c = let x = sheet-misfit (c .before .before .before .before .before .before .args .part) (now (c .before .before .before .before .before .before .args .sheet)) (now (c .before .before .before .before .before .before .args .out)) _ (started (c .before .before) [] (c .enum-told2 .given .1)) in (x, refl)
+returns-2 c =
+    let x = c .before .before in
+    let s = begun x in
+    (sheet-misfit (s .args .part) (now (s .args .sheet)) (now (s .args .out)) _ (started x [] (c .enum-told2 .given .1)), refl)
 
 same-length : tie.Need-same-length
 same-length c = search needs
@@ -50,7 +63,11 @@ same-length-2 c = search needs
 
 returns-3 : tie.Need-returns-3
 unfolding clearTable
-returns-3 c = let x = sheet-put (c .before .before .before .before .before .before .before .before .before .before .before .before .before .before .before .before .before .before .args .part) (now (c .before .before .before .before .before .before .before .before .before .before .before .before .before .before .before .before .before .before .args .sheet)) (now (c .before .before .before .before .before .before .before .before .before .before .before .before .before .before .before .before .before .before .args .out)) _ (c .before .before .before .before .from-start .result) (started (c .before .before .before .before .before .before .before .before .before .before .before .before .before .before) (now (c .before .before .before .before .before .before .before .before .before .before .before .before .before .before .before .before .before .before .args .spare)) (c .before .before .before .before .before .before .before .before .before .before .before .before .p .given .1)) (c .before .before .before .before .from-start .ensures .1 refl refl) in (x, c .before .before .before .before .from-start .ensures .0)
+returns-3 c =
+    let y = c .before .before .before .before in
+    let x = judged y in
+    let s = begun x in
+    (sheet-put (s .args .part) (now (s .args .sheet)) (now (s .args .out)) _ (y .from-start .result) (started x (now (s .args .spare)) (y .before .before .before .before .before .before .before .before .progress .given .1)) (y .from-start .ensures .1 refl refl), y .from-start .ensures .0)
 
 pub tally-sheet-spec : {M : Type 1} → statement M
 tally-sheet-spec =
@@ -59,7 +76,7 @@ tally-sheet-spec =
     start-requires
     enum-told
     enum-told-2
-    enum-known-p
+    enum-known-progress
     from-start-requires
     returns
     returns-2

@@ -1,10 +1,7 @@
 use borrow.Author.Needs.{needs}
-use Prim.Native.Nat.{ℕ}
-use mathlib.Core.Path.{refl, subst⁻¹}
+use mathlib.Core.Path.{refl}
 use native.Mathlib.Omega.{arith}
 use denote.Ref.{now}
-use Rattle.wire.specs.Answer.{Answer}
-use Rattle.meter.specs.Progress.{Untouched}
 use Rattle.sheetcount_lib.proofs.Nexts.{ended-more, ended}
 use Rattle.sheetcount_lib.proofs.program.end_sheet.Statement.{statement}
 use Rattle.sheetcount_lib.proofs.program.end_sheet.Tie as tie
@@ -15,20 +12,14 @@ returns c = let s = c .before .before .before .before in (λ w k l m. ended-more
 finish-requires : tie.Need-finish-requires
 finish-requires c κs = search needs
 
-finished-requires : tie.Need-finished-requires
-finished-requires c κs = search needs
-
 same-length : tie.Need-same-length
 same-length c = search needs
 
 returns-2 : tie.Need-returns-2
 returns-2 c =
-    let f = c .before .before .before in
-    let s = f .before .before .before .before .before .before in (
-      λ w k l m. ended w (now (s .args .rest)) (now (s .args .out)) (f .finish .last .1 .1 .0) (c .finished .result) (f .finish .result) (f .before .before .if1 .left) l (c .finished .ensures) (f .finish .ensures .0 w k (omega (arith, l, m))),
-      subst⁻¹ (λ (a : Answer ℕ). Untouched a (now (s .args .out)) (f .finish .last .1 .1 .0)) (c .finished .ensures) (f .finish .ensures .1),
-    )
+    let f = c .before .before in
+    let s = f .before .before .before .before .before .before in
+    (λ w k l m. ended w (now (s .args .rest)) (now (s .args .out)) (f .finish .last .1 .1 .0) (f .finish .result) (f .before .before .if1 .left) l (f .finish .ensures .0 w k (omega (arith, l, m))), f .finish .ensures .1)
 
 pub end-sheet-spec : {M : Type 1} → statement M
-end-sheet-spec =
-    tie.close (tie.spec returns finish-requires finished-requires same-length returns-2)
+end-sheet-spec = tie.close (tie.spec returns finish-requires same-length returns-2)

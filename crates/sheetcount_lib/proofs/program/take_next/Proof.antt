@@ -5,7 +5,7 @@ use mathlib.Core.List.{List}
 use denote.Ref.{now}
 use Rattle.wire.proofs.Steps.{told-as}
 use Rattle.sheetcount_lib.specs.Program.{toldLength}
-use Rattle.sheetcount_lib.proofs.Nexts.{next-stops, next-misframed, next-refused, next-taken}
+use Rattle.sheetcount_lib.proofs.Nexts.{next-stops, next-told}
 use Rattle.sheetcount_lib.proofs.program.take_next.Statement.{statement}
 use Rattle.sheetcount_lib.proofs.program.take_next.Tie as tie
 
@@ -31,15 +31,6 @@ enum-told-3 c = search needs
 take-record-requires : tie.Need-take-record-requires
 take-record-requires c κs = search needs
 
-enum-known-i : tie.Need-enum-known-i
-enum-known-i c = search needs
-
-enum-known-fault : tie.Need-enum-known-fault
-enum-known-fault c = search needs
-
-enum-known-next : tie.Need-enum-known-next
-enum-known-next c = search needs
-
 returns : tie.Need-returns
 returns c =
     let b = c .before .before in
@@ -55,27 +46,9 @@ same-length c = search needs
 
 returns-3 : tie.Need-returns-3
 returns-3 c =
-    let x = c .before .before .before .before .before in
+    let x = c .before .before in
     let b = sized x in
-    (x .take-record .ensures .0, (x .take-record .ensures .1 .0, λ w k. next-misframed w (bytes b) _ (told-as (toldLength (w .records)) (b .block-length .ensures (w .records)) (x .before .before .before .before .before .before .enum-told3 .given .1)) (x .take-record .last .1 .1 .1 .1 .1 .0) (x .take-record .last .1 .1 .1 .0) (x .take-record .result) (x .take-record .ensures .1 .1 .1 w k) (c .before .i .given .1)))
-
-same-length-2 : tie.Need-same-length-2
-same-length-2 c = search needs
-
-returns-4 : tie.Need-returns-4
-returns-4 c =
-    let x = c .before .before .before .before .before in
-    let b = sized x in
-    (x .take-record .ensures .0, (x .take-record .ensures .1 .0, λ w k. next-refused w (bytes b) _ (told-as (toldLength (w .records)) (b .block-length .ensures (w .records)) (x .before .before .before .before .before .before .enum-told3 .given .1)) (x .take-record .last .1 .1 .1 .1 .1 .0) (x .take-record .last .1 .1 .1 .0) (x .take-record .result) (x .take-record .ensures .1 .1 .1 w k) (c .before .fault .given .1)))
-
-same-length-3 : tie.Need-same-length-3
-same-length-3 c = search needs
-
-returns-5 : tie.Need-returns-5
-returns-5 c =
-    let x = c .before .before .before .before .before in
-    let b = sized x in
-    (x .take-record .ensures .0, (x .take-record .ensures .1 .0, λ w k. next-taken w (bytes b) _ (told-as (toldLength (w .records)) (b .block-length .ensures (w .records)) (x .before .before .before .before .before .before .enum-told3 .given .1)) (x .take-record .last .1 .1 .1 .1 .1 .0) (x .take-record .last .1 .1 .1 .0) (x .take-record .result) (x .take-record .ensures .1 .1 .1 w k) (c .before .next .given .1)))
+    (x .take-record .ensures .0, (x .take-record .ensures .1 .0, λ w k. next-told w (bytes b) _ (told-as (toldLength (w .records)) (b .block-length .ensures (w .records)) (x .before .before .before .before .before .before .enum-told3 .given .1)) (x .take-record .last .1 .1 .1 .1 .1 .0) (x .take-record .last .1 .1 .1 .0) (x .take-record .result) (x .take-record .ensures .1 .1 .1 w k)))
 
 pub take-next-spec : {M : Type 1} → statement M
 take-next-spec =
@@ -86,14 +59,7 @@ take-next-spec =
     enum-told-2
     enum-told-3
     take-record-requires
-    enum-known-i
-    enum-known-fault
-    enum-known-next
     returns
     returns-2
     same-length
-    returns-3
-    same-length-2
-    returns-4
-    same-length-3
-    returns-5)
+    returns-3)

@@ -19,15 +19,15 @@ enum-told c = search needs
 enum-told-2 : tie.Need-enum-told-2
 enum-told-2 c = search needs
 
-enum-known-p : tie.Need-enum-known-p
-enum-known-p c = search needs
+enum-known-progress : tie.Need-enum-known-progress
+enum-known-progress c = search needs
 
 read-sheet-requires : tie.Need-read-sheet-requires
 read-sheet-requires c κs =
     let x = c .before .before .before .before .before .before .before .before .before .before in
     let s = begun x in
     let t = now (s .args .spare) in
-    (s .pre, started _ _ (s .pre .out-long) (s .pre .spare-long) t _ (told-as toldStart (x .start .ensures) (c .before .before .before .before .before .before .before .before .p .given .1)))
+    (s .pre, started _ _ (s .pre .out-long) (s .pre .spare-long) t _ (told-as toldStart (x .start .ensures) (c .before .before .before .before .before .before .before .before .progress .given .1)))
 
 returns : tie.Need-returns
 returns c =
@@ -60,7 +60,7 @@ count-into-spec =
     start-requires
     enum-told
     enum-told-2
-    enum-known-p
+    enum-known-progress
     read-sheet-requires
     returns
     returns-2

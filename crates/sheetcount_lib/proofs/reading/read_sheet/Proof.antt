@@ -1,6 +1,6 @@
 use borrow.Author.Needs.{needs}
 use Prim.Native.Nat.{ℕ, _≤_, _<_, _^_}
-use mathlib.Core.Path.{_≡_, sym, subst, _∙_}
+use mathlib.Core.Path.{_≡_, sym, _∙_}
 use mathlib.Core.List.{List, _++_}
 use native.Mathlib.Omega.{arith}
 use lib.ListN.{length, take, drop}
@@ -9,9 +9,9 @@ use denote.Ref.{now}
 use Rattle.wire.specs.Bytes.{bytes-take}
 use Rattle.wire.specs.Told.{toldHead}
 use Rattle.wire.proofs.Steps.{told-as}
-use Rattle.sheetcount_lib.specs.Reading.{longest, AllTold}
+use Rattle.sheetcount_lib.specs.Reading.{longest}
 use Rattle.sheetcount_lib.proofs.Counts.{within-part}
-use Rattle.sheetcount_lib.proofs.Whole.{counted-headless, counted-stopped, counted-ended, if-read}
+use Rattle.sheetcount_lib.proofs.Whole.{counted-headless, counted-behind, if-read}
 use Rattle.sheetcount_lib.proofs.reading.read_sheet.Statement.{statement}
 use Rattle.sheetcount_lib.proofs.reading.read_sheet.Tie as tie
 
@@ -32,14 +32,17 @@ long : (h : tie.After-known-told) → length (filled h) ≡ longest
 long h = h .before .before .before .before .bytes .given .1 ∙ begun h .pre .0 .bytes-long
 
 -- the head stated a number of records, which were then taken
-abbrev headed : tie.After-take-all → tie.After-known-told
-headed y = y .before .before .before .before .before .before .before .before .before .before .before .before
+abbrev headed : tie.After-known-told2 → tie.After-known-told
+headed m = m .before .before .before .before .before
+
+abbrev stated : tie.After-take-all → tie.After-known-told2
+stated y = y .before .before .before .before .before .before .before .before
 
 abbrev count : tie.After-take-all → ℕ
-count y = y .before .before .before .before .before .before .before .before .count .given .0 .0
+count y = stated y .before .count .given .0 .0
 
 fits : (y : tie.After-take-all) → count y < 256 ^ 4
-fits y = omega (arith, y .before .before .before .before .before .before .before .known-told2 .given)
+fits y = omega (arith, stated y .known-told2 .given)
 
 slice-relend-prefix-read-bytes : tie.Need-slice-relend-prefix-read-bytes
 slice-relend-prefix-read-bytes c = search needs
@@ -88,27 +91,9 @@ returns-2 c =
 
 take-all-requires : tie.Need-take-all-requires
 take-all-requires c κs =
-    let h = c .before .before .before .before .before .before .before .before .before .before .before in
-    let s = begun h in
-    (long h, record { carries = s .pre .1; ids-clear = s .pre .0 .ids-clear; counts-clear = s .pre .0 .counts-clear })
-
-enum-told-3 : tie.Need-enum-told-3
-enum-told-3 c = search needs
-
-enum-known-f : tie.Need-enum-known-f
-enum-known-f c = search needs
-
-stopped-requires : tie.Need-stopped-requires
-stopped-requires c κs = search needs
-
-enum-known-q : tie.Need-enum-known-q
-enum-known-q c = search needs
-
-read-end-requires : tie.Need-read-end-requires
-read-end-requires c κs =
-    let y = c .before .before .before .before .before .before .before .before .before .before in
-    let s = begun (headed y) in
-    (c .before .before .before .before .before .before .before .before .before .bytes2 .given ∙ long (headed y), s .pre .0 .out-long, y .take-all .ensures .0 ∙ s .pre .0 .spare-long)
+    let m = c .before .before .before .before .before .before .before in
+    let s = begun (headed m) in
+    (record { bytes-long = long (headed m); out-long = s .pre .0 .out-long; spare-long = s .pre .0 .spare-long; ids-clear = s .pre .0 .ids-clear; counts-clear = s .pre .0 .counts-clear }, s .pre .1)
 
 same-length-3 : tie.Need-same-length-3
 same-length-3 c = search needs
@@ -116,34 +101,13 @@ same-length-3 c = search needs
 same-length-4 : tie.Need-same-length-4
 same-length-4 c = search needs
 
-returns-3 : tie.Need-returns-3
-returns-3 c = search needs
-
 same-length-5 : tie.Need-same-length-5
 same-length-5 c = search needs
 
-same-length-6 : tie.Need-same-length-6
-same-length-6 c = search needs
-
-returns-4 : tie.Need-returns-4
-returns-4 c =
-    let y = c .before .before .before .before .before .before .before .before in
-    counted-stopped (count y) (fits y) (now (begun (headed y) .args .out)) _ _ (c .stopped .ensures) (subst (AllTold (count y) (y .take-all .last .1 .1 .1 .1 .0)) (c .before .before .f .given .1) (y .take-all .ensures .1))
-
-same-length-7 : tie.Need-same-length-7
-same-length-7 c = c .before .before .before .bytes3 .given ∙ c .before .before .before .before .before .before .before .before .before .before .before .before .before .before .bytes2 .given ∙ c .before .before .before .before .before .before .before .before .before .before .before .before .before .before .before .before .before .before .before .before .before .before .before .before .before .before .before .before .before .before .before .bytes .given .1
-
-same-length-8 : tie.Need-same-length-8
-same-length-8 c = search needs
-
-same-length-9 : tie.Need-same-length-9
-same-length-9 c = search needs
-
-returns-5 : tie.Need-returns-5
-returns-5 c =
-    let y = c .before .before .before .before .before .before .before .before .before .before .before .before .before .before .before in
-    let e = c .before .before .before .before in
-    if-read (counted-ended (count y) (fits y) (now (begun (headed y) .args .out)) _ (subst (AllTold (count y) (y .take-all .last .1 .1 .1 .1 .0)) (c .before .before .before .before .before .before .before .before .before .q .given .1) (y .take-all .ensures .1))) (e .read-end .result) (e .read-end .ensures)
+returns-3 : tie.Need-returns-3
+returns-3 c =
+    let y = c .before .before .before .before .before .before in
+    if-read (counted-behind (count y) (fits y)) (y .take-all .result) (y .take-all .ensures .1)
 
 pub read-sheet-spec : {M : Type 1} → statement M
 read-sheet-spec =
@@ -164,18 +128,7 @@ read-sheet-spec =
     same-length-2
     returns-2
     take-all-requires
-    enum-told-3
-    enum-known-f
-    stopped-requires
-    enum-known-q
-    read-end-requires
     same-length-3
     same-length-4
-    returns-3
     same-length-5
-    same-length-6
-    returns-4
-    same-length-7
-    same-length-8
-    same-length-9
-    returns-5)
+    returns-3)
