@@ -9,6 +9,7 @@ pub struct RunningTally {
     pub over: bool,
 }
 
+// Gives the running tally that has no rows.
 pub fn empty() -> RunningTally
     ensures { λ r. ⌜ r ≡ none ⌝ }
 {
