@@ -26,20 +26,20 @@ pub(crate) fn add_block(
     counts: &mut [u16; IDS],
     places: &mut [usize; NODES],
     scratch: &mut [usize; NODES],
-    rows: &mut [u8],
+    buffer: &mut [u8],
     running: RunningTally,
 ) -> RunningTally
-    ensures kept { λ _. ⌜ length (now (rows .exit)) ≡ length (now (rows .entry)) ⌝ }
+    ensures kept { λ _. ⌜ length (now (buffer .exit)) ≡ length (now (buffer .entry)) ⌝ }
     ensures told { λ r. ⌜
         ((b : Block) (R : Rows ones)
-        → Adds (now (block .entry)) found (now (counts .entry)) (now (rows .entry)) running b R
-        → Added (now (counts .exit)) (now (rows .entry)) (now (rows .exit)) r R (withBlock part at b R)) ⌝ }
+        → Adds (now (block .entry)) found (now (counts .entry)) (now (buffer .entry)) running b R
+        → Added (now (counts .exit)) (now (buffer .entry)) (now (buffer .exit)) r R (withBlock part at b R)) ⌝ }
 {
     let n = take_census(block, found, at, part, counts, places, scratch);
     let sections = found.sections;
     let names = slice_of(block, sections.names);
     let used: &[usize] = places;
-    let r = absorb(names, counts, &used[..n], rows, running);
+    let r = absorb(names, counts, &used[..n], buffer, running);
     clear(names, counts);
     r
 }

@@ -1,4 +1,4 @@
--- One name of the second pass: the gap moves to its place, and its row is put there if it has none.
+-- One name of the second pass: the hole moves to its place, and its row is put there if it has none.
 use Prim.Native.Nat.{ℕ, _+_, _-_, _<_, _≤_}
 use mathlib.Core.Path.{_≡_, ap, ap₂, sym, _∙_}
 use mathlib.Core.Bool.{true, false}
@@ -128,7 +128,7 @@ module _ (t : List ℕ) (g : Hole) (n : ℕ) (i : Inside t g n) where
       abbrev new : ℕ
       new = length (r .name) + 10
 
-      -- where the gap is as long as what is missing, there is room for its row
+      -- where the hole is as long as what is missing, there is room for its row
       pub place-full : (t′ : List ℕ) → t′ ≡ overwrite (g .write) (take p (drop (g .read) t)) t → g .read - g .write < new → FilledTo t t′ g (on p place-in) n r
       place-full t′ e l = record {
         inside = moved-inside p place-in t′ (moved-length p place-in t′ e);

@@ -165,7 +165,7 @@ module _ (s c ps t₀ : List ℕ) (b n i : ℕ) (hole : Hole) (t : List ℕ) (x 
         behind = z .behind;
       }
 
-  -- the gap is closed
+  -- the hole is closed
   pub filling-closed : hole .read ≡ hole .write → (G W T : Rows ones) → Fills s c ps t₀ b n G W T → Filled t₀ t n T
   filling-closed h G W T y = let z = x .rows G W T y in ends G W T y (no-bytes (fresh (z .L) (z .H)) (omega (arith, z .room, h)))
 

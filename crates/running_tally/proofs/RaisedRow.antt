@@ -28,7 +28,6 @@ use Rattle.tally.proofs.LookingUp.{cut-is, cut-size, below-append}
 use Rattle.running_tally.specs.RunningTally.{countLimit}
 use Rattle.census.specs.UsedNames.{totalCount}
 use Rattle.running_tally.specs.Passes.{has, May, Passed, Cursor, RowRaised, RowMissing, RaisedTo}
-use Rattle.running_tally.specs.declared.absorb.Spot.the-variants as spot
 use Rattle.running_tally.proofs.Counts.{count-append, count-below, below-weak, has-some, has-none, canonical-behind, totalCount-append, totalFits-limited}
 
 -- ---- a name found among rows behind D
@@ -57,7 +56,7 @@ module _ (g : Row ℕ) (D : Rows ones) (m : May g D) where
   may-canonical W c = canonical-add ones g W (m .name) (m .bytes) (le-leb 1 (g .count) (m .stands)) c
 
 module _ (t : List ℕ) (at n : ℕ) (g : Row ℕ) (h : at ≤ n) (k : n ≤ length t) where
-  -- the rows from the finger on
+  -- the rows from the cursor on
   abbrev part : List ℕ
   part = take (n - at) (drop at t)
 
@@ -160,8 +159,8 @@ module _ (t : List ℕ) (at n : ℕ) (g : Row ℕ) (h : at ≤ n) (k : n ≤ len
           }
 
   pub row-raised : (t′ : List ℕ) (p before v : ℕ) → LookedUp part (g .name) (lookups.Present p before) → length t′ ≡ length t → v ≡ (before + g .count) % 2 ^ 64
-      → t′ ≡ stored (at + p + 2 + length (g .name)) (u64 {ends = short} .encode v) t → RaisedTo t t′ at n g (spot.Present (at + p))
+      → t′ ≡ stored (at + p + 2 + length (g .name)) (u64 {ends = short} .encode v) t → RaisedTo t t′ at n g (lookups.Present (at + p) v)
   row-raised t′ p before v q len e a = (omega (arith, raised-place p before q), λ D L f m l. raised D L f m l p before q t′ v len e a)
 
-  pub row-missing : (p : ℕ) → LookedUp part (g .name) (lookups.Absent p) → RaisedTo t t at n g (spot.Absent (at + p))
+  pub row-missing : (p : ℕ) → LookedUp part (g .name) (lookups.Absent p) → RaisedTo t t at n g (lookups.Absent (at + p))
   row-missing p q = (missing-place p q, refl, λ D L f m l. missing D L f m l p q)

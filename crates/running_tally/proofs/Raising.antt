@@ -26,7 +26,7 @@ use Rattle.census.specs.UsedNames.{totalCount}
 use Rattle.running_tally.specs.Groups.{Remaining, named, First, Grouped}
 use Rattle.running_tally.specs.Passes.{has, known, fresh, Passed, May, Cursor, RowRaised, RowMissing, RaisedTo, Starts, RaisedAs}
 use Rattle.running_tally.specs.declared.absorb.Group.{Group}
-use Rattle.running_tally.specs.declared.absorb.Spot.the-variants as spot
+use Rattle.tally.specs.declared.lookup.Lookup.the-variants as lookups
 use Rattle.running_tally.specs.declared.absorb.Raised.the-variants as raised
 use Rattle.running_tally.proofs.Counts.{has-some, some-has, totalCount-add}
 use Rattle.running_tally.proofs.Measures.{fresh-there, fresh-new, fresh-none, known-there, known-new, known-none, fresh-known, agree-all, fresh-agree, bytes-plus, rows-plus}
@@ -211,9 +211,9 @@ module _ (s c ps t₀ : List ℕ) (n i at b k : ℕ) (t : List ℕ) (x : Raising
       is = λ j. record { name = e j; count = g .count }
 
       module _ (t′ : List ℕ) (p : ℕ) where
-        pub raising-row : length t′ ≡ length t → RaisedTo t t′ at n asked (spot.Present p) → Raising s c ps t₀ n (g .next) p b k t′
-        raising-row len r =
-            let r′ = subst (λ (a : Row ℕ). RaisedTo t t′ at n a (spot.Present p)) is r in
+        pub raising-row : (m : ℕ) → length t′ ≡ length t → RaisedTo t t′ at n asked (lookups.Present p m) → Raising s c ps t₀ n (g .next) p b k t′
+        raising-row m len r =
+            let r′ = subst (λ (a : Row ℕ). RaisedTo t t′ at n a (lookups.Present p m)) is r in
             record {
               place = r′ .0;
               fits = x .fits;
@@ -223,9 +223,9 @@ module _ (s c ps t₀ : List ℕ) (n i at b k : ℕ) (t : List ℕ) (x : Raising
               rows = λ G R y. on-row G R y t′ p (r′ .1 (now G R y .D) (now G R y .L) (now G R y .cursor) (may G R y) (omega (arith, weight G R y)));
             }
 
-        module _ (r : RaisedTo t t′ at n asked (spot.Absent p)) where
-          there : RaisedTo t t′ at n next (spot.Absent p)
-          there = subst (λ (a : Row ℕ). RaisedTo t t′ at n a (spot.Absent p)) is r
+        module _ (r : RaisedTo t t′ at n asked (lookups.Absent p)) where
+          there : RaisedTo t t′ at n next (lookups.Absent p)
+          there = subst (λ (a : Row ℕ). RaisedTo t t′ at n a (lookups.Absent p)) is r
 
           row : (G R : Rows ones) (y : Starts s c ps t₀ n G R) → RowMissing t p n next (whole G R y)
           row G R y = there .2 (now G R y .D) (now G R y .L) (now G R y .cursor) (may G R y) (omega (arith, weight G R y))

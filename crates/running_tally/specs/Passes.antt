@@ -12,11 +12,11 @@ use Rattle.tally.specs.Rows.{Row, Rows, Canonical, isName, addRow, plus, countI
 use Rattle.tally.specs.Tally.{ones, one, fields}
 use Rattle.tally.specs.Walks.{rowsBytes}
 use Rattle.tally.specs.LookedUp.{Below}
+use Rattle.tally.specs.declared.lookup.Lookup.{Lookup}
+use Rattle.tally.specs.declared.lookup.Lookup.the-variants as lookups
 use Rattle.running_tally.specs.RunningTally.{countLimit}
 use Rattle.census.specs.UsedNames.{totalCount}
 use Rattle.running_tally.specs.Groups.{Remaining}
-use Rattle.running_tally.specs.declared.absorb.Spot.{Spot}
-use Rattle.running_tally.specs.declared.absorb.Spot.the-variants as spot
 use Rattle.running_tally.specs.declared.absorb.Raised.{Raised}
 use Rattle.running_tally.specs.declared.absorb.Raised.the-variants as raised
 use Rattle.running_tally.specs.declared.absorb.Hole.{Hole}
@@ -46,7 +46,7 @@ pub record May (g : Row ℕ) (D : Rows ones) : Type 0 where
   pub below : Below ones (g .name) D
 
 -- ---- the first pass
--- the first n bytes of t are rows, and a finger stands between D and L
+-- the first n bytes of t are rows, and the cursor stands between D and L
 pub record Cursor (t : List ℕ) (at n : ℕ) (D L : Rows ones) : Type 0 where
   pub inside : n ≤ length t
   pub bytes : take n t ≡ rowsBytes one (D ++ L)
@@ -70,9 +70,9 @@ pub record RowMissing (t : List ℕ) (at n : ℕ) (g : Row ℕ) (W : Rows ones) 
   pub passed : Passed g D
   pub there : has W (g .name) ≡ false
 
-abbrev pub RaisedTo : (t t′ : List ℕ) (at n : ℕ) (g : Row ℕ) → Spot → Type 0
-RaisedTo t t′ at n g (spot.Present p) = (p ≤ n) × ((D L : Rows ones) → Cursor t at n D L → May g D → totalCount (D ++ L) + g .count < countLimit → RowRaised t t′ p n g (D ++ L))
-RaisedTo t t′ at n g (spot.Absent p) = (p ≤ n) × (t′ ≡ t) × ((D L : Rows ones) → Cursor t at n D L → May g D → totalCount (D ++ L) + g .count < countLimit → RowMissing t p n g (D ++ L))
+abbrev pub RaisedTo : (t t′ : List ℕ) (at n : ℕ) (g : Row ℕ) → Lookup → Type 0
+RaisedTo t t′ at n g (lookups.Present p _) = (p ≤ n) × ((D L : Rows ones) → Cursor t at n D L → May g D → totalCount (D ++ L) + g .count < countLimit → RowRaised t t′ p n g (D ++ L))
+RaisedTo t t′ at n g (lookups.Absent p) = (p ≤ n) × (t′ ≡ t) × ((D L : Rows ones) → Cursor t at n D L → May g D → totalCount (D ++ L) + g .count < countLimit → RowMissing t p n g (D ++ L))
 
 -- the places make G, and the first n bytes of t are R
 pub record Starts (s c ps t : List ℕ) (n : ℕ) (G R : Rows ones) : Type 0 where
@@ -96,14 +96,14 @@ RaisedAs s c ps t t′ n raised.NoRoom = (G R : Rows ones) → Starts s c ps t n
 RaisedAs s c ps t t′ n (raised.Missing b k) = (n + b ≤ length t) × (k ≤ length ps) × ((G R : Rows ones) → Starts s c ps t n G R → RowsRaised t t′ n b k G R)
 
 -- ---- the second pass
--- the rows D are written, the rows L are still to be read, and between them is a gap
+-- the rows D are written, the rows L are still to be read, and between them is a hole
 pub record Apart (t : List ℕ) (g : Hole) (n : ℕ) (D L : Rows ones) : Type 0 where
   pub front : take (g .write) t ≡ rowsBytes one D
   pub rest : take (n - g .read) (drop (g .read) t) ≡ rowsBytes one L
   pub canonical : Canonical ones (D ++ L)
   pub totalFits : totalCount L < countLimit
 
--- a gap in the first n bytes
+-- a hole in the first n bytes
 pub record Inside (t : List ℕ) (g : Hole) (n : ℕ) : Type 0 where
   pub ahead : g .write ≤ g .read
   pub short : g .read ≤ n

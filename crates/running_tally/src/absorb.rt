@@ -26,13 +26,13 @@ ghost use Rattle.running_tally.specs.RunningTally.{Absorbs, Absorbed};
 ghost use Rattle.running_tally.specs.Groups.{Grouped};
 ghost use Rattle.running_tally.specs.Passes.{RaisedTo, RaisedAs, Inside, FilledTo, Fills, Filled, Spreads};
 
-// The sum of the counts at places of one name, and the place behind them.
+// The sum of the counts at places of one name, and the index of the first place behind them.
 pub struct Group {
     pub count: u64,
     pub next: usize,
 }
 
-// The places from the i-th on that have its name.
+// Adds up the counts at the i-th place and at those behind it that have the same name.
 fn group_at(s: &[u8], counts: &[u16; IDS], places: &[usize], i: usize) -> Group
     requires { ⌜ i < length (now places) ⌝ }
     ensures { λ r. ⌜ Grouped (now (s .entry)) (now (counts .entry)) (now (places .entry)) i r ⌝ }
@@ -59,32 +59,26 @@ fn group_at(s: &[u8], counts: &[u16; IDS], places: &[usize], i: usize) -> Group
     Group { count, next: j }
 }
 
-// Where a name stands: at its row, or at the place where its row would be.
-pub enum Spot {
-    Present(usize),
-    Absent(usize),
-}
-
-// Adds to the count of a name, where it has a row among those from a finger on.
-fn raise_row(t: &mut [u8], at: usize, size: usize, name: &[u8], count: u64) -> Spot
-    requires { ⌜ (at ≤ size) × (size ≤ length (now t)) ⌝ }
-    ensures { λ r. ⌜ RaisedTo (now (t .entry)) (now (t .exit)) at size
+// Adds to the count of a name, where it has a row among those from `at` on, and tells where its row stands or would stand.
+fn raise_row(buffer: &mut [u8], at: usize, size: usize, name: &[u8], count: u64) -> Lookup
+    requires { ⌜ (at ≤ size) × (size ≤ length (now buffer)) ⌝ }
+    ensures { λ r. ⌜ RaisedTo (now (buffer .entry)) (now (buffer .exit)) at size
         (record { name = now (name .entry); count = count }) r ⌝ }
 {
-    match look_up(&t[at..size], name) {
+    match look_up(&buffer[at..size], name) {
         Lookup::Present {
             at: p,
             count: before,
         } => {
             let place = at + p;
-            put_u64(
-                t,
-                place + NAME_AT + name.len(),
-                wrapping_add_u64(before, count),
-            );
-            Spot::Present(place)
+            let sum = wrapping_add_u64(before, count);
+            put_u64(buffer, place + NAME_AT + name.len(), sum);
+            Lookup::Present {
+                at: place,
+                count: sum,
+            }
         }
-        Lookup::Absent(p) => Spot::Absent(at + p),
+        Lookup::Absent(p) => Lookup::Absent(at + p),
     }
 }
 
@@ -94,13 +88,13 @@ pub enum Raised {
     NoRoom,
 }
 
-// The first pass.
-fn raise(s: &[u8], counts: &[u16; IDS], places: &[usize], t: &mut [u8], size: usize) -> Raised
-    requires { ⌜ size ≤ length (now t) ⌝ }
-    ensures { λ r. ⌜ RaisedAs (now (s .entry)) (now (counts .entry)) (now (places .entry)) (now (t .entry))
-        (now (t .exit)) size r ⌝ }
+// Makes the first pass: adds to the counts of names that have a row, and measures the rows of the others.
+fn raise(s: &[u8], counts: &[u16; IDS], places: &[usize], buffer: &mut [u8], size: usize) -> Raised
+    requires { ⌜ size ≤ length (now buffer) ⌝ }
+    ensures { λ r. ⌜ RaisedAs (now (s .entry)) (now (counts .entry)) (now (places .entry)) (now (buffer .entry))
+        (now (buffer .exit)) size r ⌝ }
 {
-    let room = t.len() - size;
+    let room = buffer.len() - size;
     let mut at: usize = 0;
     let mut missing: usize = 0;
     let mut rows: u64 = 0;
@@ -108,12 +102,12 @@ fn raise(s: &[u8], counts: &[u16; IDS], places: &[usize], t: &mut [u8], size: us
     while i < places.len() {
         let group = group_at(s, counts, places, i);
         let name = name_at(s, places[i]);
-        match raise_row(t, at, size, name, group.count) {
-            Spot::Present(p) => {
+        match raise_row(buffer, at, size, name, group.count) {
+            Lookup::Present { at: p, count: _ } => {
                 at = p;
                 i = group.next;
             }
-            Spot::Absent(p) => {
+            Lookup::Absent(p) => {
                 let more = name.len() + ROW_OVERHEAD;
                 if room - missing < more {
                     return Raised::NoRoom;
@@ -132,44 +126,45 @@ fn raise(s: &[u8], counts: &[u16; IDS], places: &[usize], t: &mut [u8], size: us
 }
 
 // Moves n bytes to a place before theirs, from the first on, so that none is lost.
-fn move_front(t: &mut [u8], from: usize, to: usize, n: usize)
-    requires { ⌜ (to ≤ from) × (from + n ≤ length (now t)) ⌝ }
-    ensures { λ _. ⌜ now (t .exit) ≡ overwrite to (take n (drop from (now (t .entry)))) (now (t .entry)) ⌝ }
+fn move_front(buffer: &mut [u8], from: usize, to: usize, n: usize)
+    requires { ⌜ (to ≤ from) × (from + n ≤ length (now buffer)) ⌝ }
+    ensures { λ _. ⌜ now (buffer .exit)
+        ≡ overwrite to (take n (drop from (now (buffer .entry)))) (now (buffer .entry)) ⌝ }
 {
     if from == to {
         return;
     }
     let mut i: usize = 0;
     while i < n {
-        t[to + i] = t[from + i];
+        buffer[to + i] = buffer[from + i];
         i += 1;
     }
 }
 
-// The gap that moves through the rows: where the next row is read, and where it is written.
+// The hole that moves through the rows: where the next row is read, and where it is written.
 pub struct Hole {
     pub read: usize,
     pub write: usize,
 }
 
-// Moves the gap to a name's place, and puts its row there if it has none.
-fn fill_row(t: &mut [u8], hole: Hole, end: usize, name: &[u8], count: u64) -> Hole
-    requires { ⌜ Inside (now t) hole end ⌝ }
-    ensures { λ r. ⌜ FilledTo (now (t .entry)) (now (t .exit)) hole r end
+// Moves the hole to a name's place, and puts its row there if it has none.
+fn fill_row(buffer: &mut [u8], hole: Hole, end: usize, name: &[u8], count: u64) -> Hole
+    requires { ⌜ Inside (now buffer) hole end ⌝ }
+    ensures { λ r. ⌜ FilledTo (now (buffer .entry)) (now (buffer .exit)) hole r end
         (record { name = now (name .entry); count = count }) ⌝ }
 {
     let read = hole.read;
     let write = hole.write;
-    match look_up(&t[read..end], name) {
+    match look_up(&buffer[read..end], name) {
         Lookup::Present { at: p, count: _ } => {
-            move_front(t, read, write, p);
+            move_front(buffer, read, write, p);
             Hole {
                 read: read + p,
                 write: write + p,
             }
         }
         Lookup::Absent(p) => {
-            move_front(t, read, write, p);
+            move_front(buffer, read, write, p);
             let more = name.len() + ROW_OVERHEAD;
             if read - write < more {
                 return Hole {
@@ -177,7 +172,7 @@ fn fill_row(t: &mut [u8], hole: Hole, end: usize, name: &[u8], count: u64) -> Ho
                     write: write + p,
                 };
             }
-            put_row(t, write + p, name, count);
+            put_row(buffer, write + p, name, count);
             Hole {
                 read: read + p,
                 write: write + p + more,
@@ -186,12 +181,19 @@ fn fill_row(t: &mut [u8], hole: Hole, end: usize, name: &[u8], count: u64) -> Ho
     }
 }
 
-// The second pass, until the gap is closed: it is as long as the rows that are missing.
-fn fill(s: &[u8], counts: &[u16; IDS], places: &[usize], t: &mut [u8], missing: usize, end: usize)
-    requires { ⌜ (missing ≤ end) × (end ≤ length (now t)) ⌝ }
+// Makes the second pass: puts the rows that are missing, until the hole is closed, which is as long as they are.
+fn fill(
+    s: &[u8],
+    counts: &[u16; IDS],
+    places: &[usize],
+    buffer: &mut [u8],
+    missing: usize,
+    end: usize,
+)
+    requires { ⌜ (missing ≤ end) × (end ≤ length (now buffer)) ⌝ }
     ensures { λ _. ⌜ ((G W T : Rows ones)
-        → Fills (now (s .entry)) (now (counts .entry)) (now (places .entry)) (now (t .entry)) missing end G W T
-        → Filled (now (t .entry)) (now (t .exit)) end T) ⌝ }
+        → Fills (now (s .entry)) (now (counts .entry)) (now (places .entry)) (now (buffer .entry)) missing end G W T
+        → Filled (now (buffer .entry)) (now (buffer .exit)) end T) ⌝ }
 {
     let mut hole = Hole {
         read: missing,
@@ -204,7 +206,7 @@ fn fill(s: &[u8], counts: &[u16; IDS], places: &[usize], t: &mut [u8], missing: 
         }
         let group = group_at(s, counts, places, i);
         let name = name_at(s, places[i]);
-        hole = fill_row(t, hole, end, name, group.count);
+        hole = fill_row(buffer, hole, end, name, group.count);
         i = group.next;
     }
 }
@@ -214,46 +216,47 @@ fn spread(
     s: &[u8],
     counts: &[u16; IDS],
     places: &[usize],
-    t: &mut [u8],
+    buffer: &mut [u8],
     size: usize,
     missing: usize,
 )
-    requires { ⌜ size + missing ≤ length (now t) ⌝ }
+    requires { ⌜ size + missing ≤ length (now buffer) ⌝ }
     ensures { λ _. ⌜ ((G W T : Rows ones)
-        → Spreads (now (s .entry)) (now (counts .entry)) (now (places .entry)) (now (t .entry)) size missing G W T
-        → Filled (now (t .entry)) (now (t .exit)) (size + missing) T) ⌝ }
+        → Spreads (now (s .entry)) (now (counts .entry)) (now (places .entry)) (now (buffer .entry)) size missing G W T
+        → Filled (now (buffer .entry)) (now (buffer .exit)) (size + missing) T) ⌝ }
 {
     if missing == 0 {
         return;
     }
-    move_back(t, size, missing);
-    fill(s, counts, places, t, missing, size + missing);
+    move_back(buffer, size, missing);
+    fill(s, counts, places, buffer, missing, size + missing);
 }
 
 // Adds the counted names to the running tally. Nothing is put in before the rows of new names are known to fit. This is an inner function of the
-// meter: what becomes of the tally is promised where the buffer holds the rows that `w` tells, the places are in the order of their names and
+// meter: what becomes of the tally is promised where the buffer holds the rows that `running` tells, the places are in the order of their names and
 // counted, and no sum can pass a u64 (`Absorbs`). Of every state: the buffer keeps its length.
 pub fn absorb(
     s: &[u8],
     counts: &[u16; IDS],
     places: &[usize],
-    t: &mut [u8],
-    w: RunningTally,
+    buffer: &mut [u8],
+    running: RunningTally,
 ) -> RunningTally
-    ensures t { λ _. ⌜ length (now (t .exit)) ≡ length (now (t .entry)) ⌝ }
+    ensures kept { λ _. ⌜ length (now (buffer .exit)) ≡ length (now (buffer .entry)) ⌝ }
     ensures told { λ r. ⌜
-        ((R : Rows ones) → Absorbs (now (s .entry)) (now (counts .entry)) (now (places .entry)) (now (t .entry)) w R
-        → Absorbed (now (t .entry)) (now (t .exit)) r R
+        ((R : Rows ones)
+        → Absorbs (now (s .entry)) (now (counts .entry)) (now (places .entry)) (now (buffer .entry)) running R
+        → Absorbed (now (buffer .entry)) (now (buffer .exit)) r R
         (plus ones (countedNames (now (s .entry)) (now (counts .entry)) (now (places .entry))) R)) ⌝ }
 {
-    if w.over {
-        return w;
+    if running.over {
+        return running;
     }
-    let size = w.size;
-    if t.len() < size {
-        return w;
+    let size = running.size;
+    if buffer.len() < size {
+        return running;
     }
-    match raise(s, counts, places, t, size) {
+    match raise(s, counts, places, buffer, size) {
         Raised::NoRoom => RunningTally {
             size: 0,
             rows: 0,
@@ -263,10 +266,10 @@ pub fn absorb(
             bytes: missing,
             rows,
         } => {
-            spread(s, counts, places, t, size, missing);
+            spread(s, counts, places, buffer, size, missing);
             RunningTally {
                 size: size + missing,
-                rows: wrapping_add_u64(w.rows, rows),
+                rows: wrapping_add_u64(running.rows, rows),
                 over: false,
             }
         }

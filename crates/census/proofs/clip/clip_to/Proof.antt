@@ -2,6 +2,16 @@ use borrow.Author.Needs.{needs}
 use Rattle.census.proofs.clip.clip_to.Statement.{statement}
 use Rattle.census.proofs.clip.clip_to.Tie as tie
 
+-- the places that the proofs below go back to
+abbrev after-below3 : tie.After-upto3 → tie.After-below3
+after-below3 c = c .before .before .before .before .before .before .before .before .before
+
+abbrev after-below2 : tie.After-upto3 → tie.After-below2
+after-below2 c = c .before .before .before .before .before .before .before .before .before .before .before .before
+
+abbrev after-below : tie.After-upto3 → tie.After-below
+after-below c = c .before .before .before .before .before .before .before .before .before .before .before .before .before .before .before
+
 below-requires : tie.Need-below-requires
 below-requires c κs = search needs
 
@@ -27,9 +37,9 @@ returns c =
       c .upto3 .ensures,
       c .before .before .before .upto2 .ensures,
       c .before .before .before .before .before .before .upto .ensures,
-      c .before .before .before .before .before .before .before .before .before .below3 .ensures,
-      c .before .before .before .before .before .before .before .before .before .before .before .before .below2 .ensures,
-      c .before .before .before .before .before .before .before .before .before .before .before .before .before .before .before .below .ensures,
+      after-below3 c .below3 .ensures,
+      after-below2 c .below2 .ensures,
+      after-below c .below .ensures,
     )
 
 pub clip-to-spec : {M : Type 1} → statement M

@@ -8,6 +8,16 @@ use borrow.Author.Needs.{needs}
 use Rattle.census.proofs.count.count_four.Statement.{statement}
 use Rattle.census.proofs.count.count_four.Tie as tie
 
+-- the places that the proofs below go back to
+abbrev after-wide-id2 : tie.After-wide-id4 → tie.After-wide-id2
+after-wide-id2 c = c .before .before
+
+abbrev entry : tie.After-wide-id4 → tie.Start
+entry c = c .before .before .before .before .before
+
+abbrev after-wide-id : tie.After-wide-id4 → tie.After-wide-id
+after-wide-id c = c .before .before .before
+
 wide-id-requires : tie.Need-wide-id-requires
 wide-id-requires c κs = search needs
 
@@ -52,14 +62,14 @@ count-each-requires c κs = search needs
 
 returns : tie.Need-returns
 returns c =
-    let s = c .before .before .before .before .before .before .before .before .before .before in
-    raised-run (wideId (s .args .lists .now)) (s .args .i) 4 _ (s .pre .1) (c .before .before .before .before .before .before .before .before .wide-id .ensures .1)
-    (four-same (wideId (s .args .lists .now)) (s .args .i) _ (sym (c .before .before .before .before .before .before .before .before .wide-id .ensures .0)) (sym (c .before .before .before .before .before .before .before .wide-id2 .ensures .0) ∙ c .before .before .before .before .if1 .taken) (sym (c .before .before .before .before .before .before .wide-id3 .ensures .0) ∙ eqb-true _ _ (c .before .before .before .if2 .taken)) (sym (c .before .before .before .before .before .wide-id4 .ensures .0) ∙ eqb-true _ _ (c .before .before .if3 .taken)))
+    let s = entry (c .before .before .before .before .before) in
+    raised-run (wideId (s .args .lists .now)) (s .args .i) 4 _ (s .pre .1) (after-wide-id (c .before .before .before .before .before) .wide-id .ensures .1)
+    (four-same (wideId (s .args .lists .now)) (s .args .i) _ (sym (after-wide-id (c .before .before .before .before .before) .wide-id .ensures .0)) (sym (after-wide-id2 (c .before .before .before .before .before) .wide-id2 .ensures .0) ∙ c .before .before .before .before .if1 .taken) (sym (c .before .before .before .before .before .before .wide-id3 .ensures .0) ∙ eqb-true _ _ (c .before .before .before .if2 .taken)) (sym (c .before .before .before .before .before .wide-id4 .ensures .0) ∙ eqb-true _ _ (c .before .before .if3 .taken)))
     (c .wrapping-add-u16 .ensures)
 
 returns-2 : tie.Need-returns-2
 returns-2 c =
-    let e : (c .before .before .before .before .before .before .before .before .args .i + 4) - c .before .before .before .before .before .before .before .before .args .i ≡ 4 = omega arith in
+    let e : (entry (c .before .before .before) .args .i + 4) - entry (c .before .before .before) .args .i ≡ 4 = omega arith in
     rw e at (c .count-each .ensures)
 
 pub count-four-spec : {M : Type 1} → statement M

@@ -10,6 +10,10 @@ use Rattle.census.proofs.Clips.{clip-sides, lot-counted}
 use Rattle.census.proofs.count.count_in.Statement.{statement}
 use Rattle.census.proofs.count.count_in.Tie as tie
 
+-- the places that the proofs below go back to
+abbrev entry : tie.After-count-clip-arg → tie.Start
+entry c = c .before .before .before .before .before .before .before
+
 sized-requires : tie.Need-sized-requires
 sized-requires c κs = search needs
 
@@ -30,12 +34,12 @@ clip-to-requires c κs = search needs
 
 count-clip-requires : tie.Need-count-clip-requires
 count-clip-requires c κs =
-    let a = c .before .before .before .before .before .before .before .args in
+    let a = entry c .args in
     (rw (c .before .clip-to .ensures) (clip-sides (a .lot) (a .at)), omega (arith, c .before .before .before .width .ensures), c .before .before .before .before .sized .ensures)
 
 returns : tie.Need-returns
 returns c =
-    let a = c .before .before .before .before .before .before .before .before .args in (
+    let a = entry (c .before) .args in (
       λ _. lot-counted (a .version) (a .lists .now) (a .lot) (a .at) (c .before .before .clip-to .ensures) (c .count-clip .ensures),
       λ h. absurd (omega (arith, leb-false (4096 * width (a .version) + 8192) (length (a .lists .now)) h, c .before .before .before .before .width .ensures)),
     )

@@ -16,6 +16,10 @@ Inv-loop version lists clip z counts₀ y₀ counts y = (clip .y0 ≤ y) × (y �
 abbrev μ-loop : tie.MeasureT-loop
 μ-loop version lists clip z counts₀ y₀ counts y = clip .y1 - y
 
+-- the places that the proofs below go back to
+abbrev entry : tie.After-count-row-arg Inv-loop μ-loop → tie.Start Inv-loop μ-loop
+entry c = c .before .before .before .before .before .before .before
+
 loop-holds : tie.Need-loop-holds Inv-loop μ-loop
 loop-holds c =
     let s = c .before in
@@ -38,7 +42,7 @@ add-count-row-2 c = omega arith
 
 count-row-requires : tie.Need-count-row-requires Inv-loop μ-loop
 count-row-requires c κs =
-    let s = c .before .before .before .before .before .before .before in
+    let s = entry c in
     (omega (arith, s .pre .2 .x1, s .pre .2 .z1, s .pre .2 .y1), s .pre .3, raised-table (s .pre .4) (c .before .before .before .before .before .loop .inv .2))
 
 add-y : tie.Need-add-y Inv-loop μ-loop
@@ -49,7 +53,7 @@ loop-less c = omega arith
 
 loop-again : tie.Need-loop-again Inv-loop μ-loop
 loop-again c =
-    let s = c .before .before .before .before .before .before .before .before in
+    let s = entry (c .before) in
     let l = c .before .before .before .before .before .before .loop in
     (omega arith, omega arith, layer-on (s .args .clip) (idIn (s .args .version) (s .args .lists .now)) (s .args .z) (l .y) _ _ (s .pre .2) (s .pre .0) (s .pre .1) (l .inv .0) (omega arith) refl refl (l .inv .2) (c .count-row .ensures))
 

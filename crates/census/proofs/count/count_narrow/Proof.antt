@@ -16,6 +16,10 @@ Inv-loop version lists from until counts₀ i₀ counts i = (from ≤ i) × (i -
 abbrev μ-loop : tie.MeasureT-loop
 μ-loop version lists from until counts₀ i₀ counts i = until - i
 
+-- the places that the proofs below go back to
+abbrev entry : tie.After-wrapping-add-u16 Inv-loop μ-loop → tie.Start Inv-loop μ-loop
+entry c = c .before .before .before .before .before .before .before .before
+
 -- the content id
 below : (c : tie.After-content-id Inv-loop μ-loop) → c .content-id .result < 65536
 below c =
@@ -70,7 +74,7 @@ loop-less c = omega arith
 loop-again : tie.Need-loop-again Inv-loop μ-loop
 loop-again c =
     let l = c .before .before .before .before .before .before .loop in
-    let s = c .before .before .before .before .before .before .before .before in
+    let s = entry c in
     (omega arith, omega arith, raised-one (narrowId (s .args .version) (s .args .lists .now)) (s .args .from) (l .i - s .args .from) (s .pre .1) (l .inv .2) (l .i) _ _ (omega arith) (omega arith) (c .before .before .content-id .ensures) (below (c .before .before)) (c .wrapping-add-u16 .ensures))
 
 returns : tie.Need-returns Inv-loop μ-loop

@@ -10,6 +10,13 @@ use Rattle.census.proofs.RowsAt.{row-beyond, start-beyond, row-refused,
 use Rattle.census.proofs.places.name_at.Statement.{statement}
 use Rattle.census.proofs.places.name_at.Tie as tie
 
+-- the places that the proofs below go back to
+abbrev entry : tie.After-name-row → tie.Start
+entry c = c .before .before .before .before
+
+abbrev after-shared-slice-known : tie.After-name-row → tie.After-shared-slice-known
+after-shared-slice-known c = c .before .before .before
+
 slice-aggregate-result : tie.Need-slice-aggregate-result
 slice-aggregate-result c = search needs
 
@@ -44,15 +51,15 @@ slice-of-requires c κs = search needs
 
 returns-2 : tie.Need-returns-2
 returns-2 c =
-    let a = c .before .before .before .before .before .before .before .args in
+    let a = entry (c .before .before .before) .args in
     let told = told-as toldName (c .before .before .before .name-row .ensures) (c .before .enum-told .given .1) in
     (ap (λ (r : NameRow). r .name) (sym (row-refused _ _ told)), place-first (a .s) (start-refused (now (a .s)) (a .p) told))
 
 returns-3 : tie.Need-returns-3
 returns-3 c =
-    let a = c .before .before .before .before .before .before .before .before .args in
+    let a = entry (c .before .before .before .before) .args in
     let told = told-as toldName (c .before .before .before .before .name-row .ensures) (c .before .before .row .given .1) in
-    let bytes : Bytes (now (a .s)) = λ i. c .before .before .before .before .before .before .before .shared-slice-known .given i .fits in
+    let bytes : Bytes (now (a .s)) = λ i. after-shared-slice-known (c .before .before .before .before) .shared-slice-known .given i .fits in
     (c .slice-of .ensures .bytes ∙ row-name _ _ told bytes, c .slice-of .ensures .place ∙ row-start (now (a .s)) (a .p) told (ptr (a .s) .0) (ptr (a .s) .1) bytes)
 
 pub name-at-spec : {M : Type 1} → statement M

@@ -15,6 +15,10 @@ Inv-loop s a mid b₀ i₀ j₀ o₀ b i j o = Joining s a mid b i j o × (lengt
 abbrev μ-loop : tie.MeasureT-loop
 μ-loop s a mid b₀ i₀ j₀ o₀ b i j o = length a - o
 
+-- the places that the proofs below go back to
+abbrev entry : tie.After-left Inv-loop μ-loop → tie.Start Inv-loop μ-loop
+entry c = c .before .before .before .before .before .before
+
 loop-holds : tie.Need-loop-holds Inv-loop μ-loop
 loop-holds c = (join-start (c .before .before .before .pre), refl)
 
@@ -25,7 +29,7 @@ mul-b : tie.Need-mul-b Inv-loop μ-loop
 mul-b c = search needs
 
 shared-slice-read-b : tie.Need-shared-slice-read-b Inv-loop μ-loop
-shared-slice-read-b c = omega (arith, c .before .before .before .before .before .before .before .before .pre .cut, left-more (c .before .before .before .before .before .before .before .before .pre .cut) (c .before .before .before .before .loop .inv .0) (c .before .before .before .loop-test .taken) (sym (c .before .before .left .ensures) ∙ c .before .if1 .taken))
+shared-slice-read-b c = omega (arith, entry (c .before .before) .pre .cut, left-more (entry (c .before .before) .pre .cut) (c .before .before .before .before .loop .inv .0) (c .before .before .before .loop-test .taken) (sym (c .before .before .left .ensures) ∙ c .before .if1 .taken))
 
 mul-b-2 : tie.Need-mul-b-2 Inv-loop μ-loop
 mul-b-2 c = search needs
@@ -34,7 +38,7 @@ slice-write-b : tie.Need-slice-write-b Inv-loop μ-loop
 slice-write-b c = omega (arith, c .before .before .before .before .loop .inv .0 .room)
 
 add-i : tie.Need-add-i Inv-loop μ-loop
-add-i c = omega (arith, c .before .before .before .before .before .before .before .before .pre .cut, left-more (c .before .before .before .before .before .before .before .before .pre .cut) (c .before .before .before .before .loop .inv .0) (c .before .before .before .loop-test .taken) (sym (c .before .before .left .ensures) ∙ c .before .if1 .taken))
+add-i c = omega (arith, entry (c .before .before) .pre .cut, left-more (entry (c .before .before) .pre .cut) (c .before .before .before .before .loop .inv .0) (c .before .before .before .loop-test .taken) (sym (c .before .before .left .ensures) ∙ c .before .if1 .taken))
 
 add-o : tie.Need-add-o Inv-loop μ-loop
 add-o c = search needs
@@ -43,13 +47,13 @@ loop-less : tie.Need-loop-less Inv-loop μ-loop
 loop-less c = search needs
 
 loop-again : tie.Need-loop-again Inv-loop μ-loop
-loop-again c = (take-left (c .before .before .before .before .before .before .before .before .pre .cut) (c .before .before .before .before .loop .inv .0) (c .before .before .before .loop-test .taken) (sym (c .before .before .left .ensures) ∙ c .before .if1 .taken), rw length-set (c .before .before .before .before .loop .inv .1))
+loop-again c = (take-left (entry (c .before .before) .pre .cut) (c .before .before .before .before .loop .inv .0) (c .before .before .before .loop-test .taken) (sym (c .before .before .left .ensures) ∙ c .before .if1 .taken), rw length-set (c .before .before .before .before .loop .inv .1))
 
 mul-b-3 : tie.Need-mul-b-3 Inv-loop μ-loop
 mul-b-3 c = search needs
 
 shared-slice-read-b-2 : tie.Need-shared-slice-read-b-2 Inv-loop μ-loop
-shared-slice-read-b-2 c = right-more (c .before .before .before .before .before .before .before .before .pre .cut) (c .before .before .before .before .loop .inv .0) (c .before .before .before .loop-test .taken) (sym (c .before .before .left .ensures) ∙ c .before .if1 .left)
+shared-slice-read-b-2 c = right-more (entry (c .before .before) .pre .cut) (c .before .before .before .before .loop .inv .0) (c .before .before .before .loop-test .taken) (sym (c .before .before .left .ensures) ∙ c .before .if1 .left)
 
 mul-b-4 : tie.Need-mul-b-4 Inv-loop μ-loop
 mul-b-4 c = search needs
@@ -58,7 +62,7 @@ slice-write-b-2 : tie.Need-slice-write-b-2 Inv-loop μ-loop
 slice-write-b-2 c = omega (arith, c .before .before .before .before .loop .inv .0 .room)
 
 add-j : tie.Need-add-j Inv-loop μ-loop
-add-j c = omega (arith, right-more (c .before .before .before .before .before .before .before .before .pre .cut) (c .before .before .before .before .loop .inv .0) (c .before .before .before .loop-test .taken) (sym (c .before .before .left .ensures) ∙ c .before .if1 .left))
+add-j c = omega (arith, right-more (entry (c .before .before) .pre .cut) (c .before .before .before .before .loop .inv .0) (c .before .before .before .loop-test .taken) (sym (c .before .before .left .ensures) ∙ c .before .if1 .left))
 
 add-o-2 : tie.Need-add-o-2 Inv-loop μ-loop
 add-o-2 c = search needs
@@ -67,7 +71,7 @@ loop-less-2 : tie.Need-loop-less-2 Inv-loop μ-loop
 loop-less-2 c = search needs
 
 loop-again-2 : tie.Need-loop-again-2 Inv-loop μ-loop
-loop-again-2 c = (take-right (c .before .before .before .before .before .before .before .before .pre .cut) (c .before .before .before .before .loop .inv .0) (c .before .before .before .loop-test .taken) (sym (c .before .before .left .ensures) ∙ c .before .if1 .left), rw length-set (c .before .before .before .before .loop .inv .1))
+loop-again-2 c = (take-right (entry (c .before .before) .pre .cut) (c .before .before .before .before .loop .inv .0) (c .before .before .before .loop-test .taken) (sym (c .before .before .left .ensures) ∙ c .before .if1 .left), rw length-set (c .before .before .before .before .loop .inv .1))
 
 same-length : tie.Need-same-length Inv-loop μ-loop
 same-length c = c .before .loop .inv .1

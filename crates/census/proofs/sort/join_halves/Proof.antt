@@ -4,6 +4,13 @@ use Rattle.census.proofs.Halves.{in-order}
 use Rattle.census.proofs.sort.join_halves.Statement.{statement}
 use Rattle.census.proofs.sort.join_halves.Tie as tie
 
+-- the places that the proofs below go back to
+abbrev after-join : tie.After-slice-known6 → tie.After-join
+after-join c = c .before .before .before .before .before .before .before
+
+abbrev entry : tie.Else1 → tie.Start
+entry c = c .before .before .before .before .before .before .before
+
 mul-comes-before : tie.Need-mul-comes-before
 mul-comes-before c = search needs
 
@@ -35,10 +42,10 @@ same-length-2 : tie.Need-same-length-2
 same-length-2 c = search needs
 
 returns : tie.Need-returns
-returns c = rw (c .before .before .take-back .ensures) (c .before .before .before .before .before .before .before .join .ensures)
+returns c = rw (c .before .before .take-back .ensures) (after-join c .join .ensures)
 
 returns-2 : tie.Need-returns-2
-returns-2 c = in-order (c .before .before .before .before .before .before .before .pre .0) (c .before .before .before .before .before .before .before .pre .2) (sym (c .before .comes-before .ensures) ∙ c .if1 .left)
+returns-2 c = in-order (entry c .pre .0) (entry c .pre .2) (sym (c .before .comes-before .ensures) ∙ c .if1 .left)
 
 pub join-halves-spec : {M : Type 1} → statement M
 join-halves-spec =

@@ -5,6 +5,10 @@ use Rattle.census.proofs.Joining.{left-ended, right-ended, left-picks}
 use Rattle.census.proofs.sort.left.Statement.{statement}
 use Rattle.census.proofs.sort.left.Tie as tie
 
+-- the places that the proofs below go back to
+abbrev entry : tie.After-comes-before → tie.Start
+entry c = c .before .before .before .before .before .before .before
+
 returns : tie.Need-returns
 returns c = let x = c .before .before .before .args in sym (left-ended (x .s .now) (x .a .now) (x .i) (x .mid) (x .j) (omega arith))
 
@@ -27,10 +31,10 @@ comes-before-requires : tie.Need-comes-before-requires
 comes-before-requires c κs = search needs
 
 returns-3 : tie.Need-returns-3
-returns-3 c = let x = c .before .before .before .before .before .before .before .before .args in sym (left-picks (x .s .now) (x .a .now) (x .i) (x .mid) (x .j) (omega arith) (omega arith) (sym (c .before .comes-before .ensures) ∙ c .if3 .taken))
+returns-3 c = let x = entry (c .before) .args in sym (left-picks (x .s .now) (x .a .now) (x .i) (x .mid) (x .j) (omega arith) (omega arith) (sym (c .before .comes-before .ensures) ∙ c .if3 .taken))
 
 returns-4 : tie.Need-returns-4
-returns-4 c = let x = c .before .before .before .before .before .before .before .before .args in sym (left-picks (x .s .now) (x .a .now) (x .i) (x .mid) (x .j) (omega arith) (omega arith) (sym (c .before .comes-before .ensures) ∙ c .if3 .left))
+returns-4 c = let x = entry (c .before) .args in sym (left-picks (x .s .now) (x .a .now) (x .i) (x .mid) (x .j) (omega arith) (omega arith) (sym (c .before .comes-before .ensures) ∙ c .if3 .left))
 
 pub left-spec : {M : Type 1} → statement M
 left-spec =

@@ -23,6 +23,10 @@ Inv-loop s counts places₀ rest₀ at₀ n₀ places rest at n = Using s counts
 abbrev μ-loop : tie.MeasureT-loop
 μ-loop s counts places₀ rest₀ at₀ n₀ places rest at n = length rest
 
+-- the places that the proofs below go back to
+abbrev tested : tie.After-rest Inv-loop μ-loop → tie.In-loop Inv-loop μ-loop
+tested c = c .before .before .before .before .before .before .before .before
+
 -- the front row, as it was read
 row-is : (c : tie.After-row Inv-loop μ-loop) → done (c .row .given .0 .0) (c .row .given .0 .1 .0) ≡ mapRead nameFields (nameRow all [] .read (now (c .before .before .before .before .loop .rest)))
 row-is c = told-as toldName (c .before .before .name-row .ensures) (c .row .given .1)
@@ -83,7 +87,7 @@ loop-again c =
     let k = c .before .before .before .before .before in
     let f = k .before .before .before .before .loop .inv in
     ⊎-elim
-    (λ w. rw (w .1, w .2) (using-store f (row-is k) (c .before .before .before .before .before .before .before .before .loop-test .taken) (w .0 .taken)))
+    (λ w. rw (w .1, w .2) (using-store f (row-is k) (tested c .loop-test .taken) (w .0 .taken)))
     (λ w. rw (w .1, w .2) (using-over f (row-is k) (w .0 .left)))
     (c .before .if1 .came)
 

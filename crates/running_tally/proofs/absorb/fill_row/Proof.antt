@@ -12,31 +12,44 @@ use Rattle.running_tally.proofs.FilledRow.{row-in, row-passed, place-in
 use Rattle.running_tally.proofs.absorb.fill_row.Statement.{statement}
 use Rattle.running_tally.proofs.absorb.fill_row.Tie as tie
 
+-- the places that the proofs below go back to
+abbrev after-slice-known : tie.After-look-up → tie.After-slice-known
+after-slice-known c = c .before .before .before .before
+
+abbrev entry : tie.After-look-up → tie.Start
+entry c = c .before .before .before .before .before
+
+abbrev after-move-front2 : tie.After-slice-known4 → tie.After-move-front2
+after-move-front2 c = c .before .before .before .before .before .before .before
+
+abbrev after-known-told2 : tie.After-slice-known4 → tie.After-known-told2
+after-known-told2 c = c .before .before .before .before .before .before .before .before .before
+
 -- the row that may be new, and the rows still to be read
 abbrev asked : tie.Start → Row ℕ
 asked s = record { name = now (s .args .name); count = s .args .count }
 
 abbrev part : tie.Start → List ℕ
-part s = take (s .args .end - s .args .hole .read) (drop (s .args .hole .read) (now (s .args .t)))
+part s = take (s .args .end - s .args .hole .read) (drop (s .args .hole .read) (now (s .args .buffer)))
 
 -- the name has a row, or a place
 abbrev start₁ : tie.After-known-told → tie.Start
-start₁ c = c .before .before .before .before .before .before .before .before
+start₁ c = entry (c .before .before .before)
 
 a-row : (c : tie.After-known-told) → LookedUp (part (start₁ c)) (now (start₁ c .args .name)) (lookups.Present (c .before .p .given .0 .0) (c .before .p .given .0 .1 .0))
-a-row c = let s = start₁ c in looked-up-told (now (s .args .t)) (s .args .hole .read) (s .args .end - s .args .hole .read) (now (s .args .name)) (λ i. c .before .before .before .before .before .before .before .slice-known .given i .fits) (c .before .before .before .look-up .ensures) (c .before .p .given .1)
+a-row c = let s = start₁ c in looked-up-told (now (s .args .buffer)) (s .args .hole .read) (s .args .end - s .args .hole .read) (now (s .args .name)) (λ i. after-slice-known (c .before .before .before) .slice-known .given i .fits) (c .before .before .before .look-up .ensures) (c .before .p .given .1)
 
 in-row : (c : tie.After-known-told) → (let a = start₁ c .args in a .hole .read + c .before .p .given .0 .0 ≤ a .end)
-in-row c = let s = start₁ c in row-in (now (s .args .t)) (s .args .hole) (s .args .end) (s .pre) (asked s) _ _ (a-row c)
+in-row c = let s = start₁ c in row-in (now (s .args .buffer)) (s .args .hole) (s .args .end) (s .pre) (asked s) _ _ (a-row c)
 
 abbrev start₂ : tie.After-known-told2 → tie.Start
-start₂ c = c .before .before .before .before .before .before .before .before
+start₂ c = entry (c .before .before .before)
 
 a-place : (c : tie.After-known-told2) → LookedUp (part (start₂ c)) (now (start₂ c .args .name)) (lookups.Absent (c .before .p2 .given .0 .0))
-a-place c = let s = start₂ c in looked-up-told (now (s .args .t)) (s .args .hole .read) (s .args .end - s .args .hole .read) (now (s .args .name)) (λ i. c .before .before .before .before .before .before .before .slice-known .given i .fits) (c .before .before .before .look-up .ensures) (c .before .p2 .given .1)
+a-place c = let s = start₂ c in looked-up-told (now (s .args .buffer)) (s .args .hole .read) (s .args .end - s .args .hole .read) (now (s .args .name)) (λ i. after-slice-known (c .before .before .before) .slice-known .given i .fits) (c .before .before .before .look-up .ensures) (c .before .p2 .given .1)
 
 in-place : (c : tie.After-known-told2) → (let a = start₂ c .args in a .hole .read + c .before .p2 .given .0 .0 ≤ a .end)
-in-place c = let s = start₂ c in place-in (now (s .args .t)) (s .args .hole) (s .args .end) (s .pre) (asked s) _ (a-place c)
+in-place c = let s = start₂ c in place-in (now (s .args .buffer)) (s .args .hole) (s .args .end) (s .pre) (asked s) _ (a-place c)
 
 sub-look-up : tie.Need-sub-look-up
 sub-look-up c = search needs
@@ -87,7 +100,7 @@ returns : tie.Need-returns
 returns c =
     let k = c .before .before .before .before .before in
     let s = start₂ k in
-    place-full (now (s .args .t)) (s .args .hole) (s .args .end) (s .pre) (asked s) _ (a-place k) _ (c .before .before .before .move-front2 .ensures) (c .if1 .taken)
+    place-full (now (s .args .buffer)) (s .args .hole) (s .args .end) (s .pre) (asked s) _ (a-place k) _ (c .before .before .before .move-front2 .ensures) (c .if1 .taken)
 
 add-put-row : tie.Need-add-put-row
 add-put-row c = omega (arith, in-place (c .before .before .before .before .before .before), start₂ (c .before .before .before .before .before .before) .pre .inside, start₂ (c .before .before .before .before .before .before) .pre .ahead)
@@ -96,13 +109,13 @@ put-row-requires : tie.Need-put-row-requires
 put-row-requires c κs = search needs
 
 add-t25 : tie.Need-add-t25
-add-t25 c = omega (arith, in-place (c .before .before .before .before .before .before .before .before .before), start₂ (c .before .before .before .before .before .before .before .before .before) .pre .inside)
+add-t25 c = omega (arith, in-place (after-known-told2 c), start₂ (after-known-told2 c) .pre .inside)
 
 add-t31 : tie.Need-add-t31
-add-t31 c = omega (arith, in-place (c .before .before .before .before .before .before .before .before .before), start₂ (c .before .before .before .before .before .before .before .before .before) .pre .inside, start₂ (c .before .before .before .before .before .before .before .before .before) .pre .ahead)
+add-t31 c = omega (arith, in-place (after-known-told2 c), start₂ (after-known-told2 c) .pre .inside, start₂ (after-known-told2 c) .pre .ahead)
 
 add-t32 : tie.Need-add-t32
-add-t32 c = omega (arith, in-place (c .before .before .before .before .before .before .before .before .before), start₂ (c .before .before .before .before .before .before .before .before .before) .pre .inside, start₂ (c .before .before .before .before .before .before .before .before .before) .pre .ahead, c .before .before .before .before .if1 .left)
+add-t32 c = omega (arith, in-place (after-known-told2 c), start₂ (after-known-told2 c) .pre .inside, start₂ (after-known-told2 c) .pre .ahead, c .before .before .before .before .if1 .left)
 
 same-length-2 : tie.Need-same-length-2
 same-length-2 c = search needs
@@ -111,16 +124,16 @@ returns-2 : tie.Need-returns-2
 returns-2 c =
     let k = c .before .before .before .before in
     let s = start₁ k in
-    row-passed (now (s .args .t)) (s .args .hole) (s .args .end) (s .pre) (asked s) _ _ (a-row k) _ (c .before .before .move-front .ensures)
+    row-passed (now (s .args .buffer)) (s .args .hole) (s .args .end) (s .pre) (asked s) _ _ (a-row k) _ (c .before .before .move-front .ensures)
 
 same-length-3 : tie.Need-same-length-3
 same-length-3 c = search needs
 
 returns-3 : tie.Need-returns-3
 returns-3 c =
-    let k = c .before .before .before .before .before .before .before .before .before in
+    let k = after-known-told2 c in
     let s = start₂ k in
-    place-filled (now (s .args .t)) (s .args .hole) (s .args .end) (s .pre) (asked s) _ (a-place k) _ (c .before .before .before .before .before .before .before .move-front2 .ensures) (c .before .before .before .before .if1 .left) _ (same-length-3 c) (c .before .before .put-row .ensures)
+    place-filled (now (s .args .buffer)) (s .args .hole) (s .args .end) (s .pre) (asked s) _ (a-place k) _ (after-move-front2 c .move-front2 .ensures) (c .before .before .before .before .if1 .left) _ (same-length-3 c) (c .before .before .put-row .ensures)
 
 pub fill-row-spec : {M : Type 1} → statement M
 fill-row-spec =

@@ -1,3 +1,4 @@
+-- The invariant: `count` is the sum of the counts at the places i..j, which have one name (`Gathering`). The measure: the places from j on.
 use borrow.Author.Needs.{needs}
 use Prim.Native.Nat.{_-_}
 use mathlib.Core.Path.{sym, _∙_}
@@ -13,6 +14,22 @@ Inv-loop s counts places i first name count₀ j₀ count j = Gathering s counts
 
 abbrev μ-loop : tie.MeasureT-loop
 μ-loop s counts places i first name count₀ j₀ count j = length places - j
+
+-- the places that the proofs below go back to
+abbrev tested : tie.After-compare Inv-loop μ-loop → tie.In-loop Inv-loop μ-loop
+tested c = c .before .before .before
+
+abbrev after-name-at : tie.After-compare Inv-loop μ-loop → tie.After-name-at Inv-loop μ-loop
+after-name-at c = c .before .before .before .before .before .before
+
+abbrev turn : tie.After-compare Inv-loop μ-loop → tie.At-loop Inv-loop μ-loop
+turn c = c .before .before .before .before
+
+abbrev entry₁ : tie.After-compare Inv-loop μ-loop → tie.Start Inv-loop μ-loop
+entry₁ c = c .before .before .before .before .before .before .before .before .before .before
+
+abbrev entry₂ : tie.After-loop Inv-loop μ-loop → tie.Start Inv-loop μ-loop
+entry₂ c = c .before .before .before .before .before .before .before
 
 mul-first : tie.Need-mul-first Inv-loop μ-loop
 mul-first c = search needs
@@ -49,9 +66,9 @@ enum-told c = search needs
 
 returns : tie.Need-returns Inv-loop μ-loop
 returns c =
-    let a = c .before .before .before .before .before .before .before .before .before .before .before .before .args in
+    let a = entry₁ (c .before .before) .args in
     gathering-stop (now (a .s)) (now (a .counts)) (now (a .places)) (a .i) _ _ (c .before .before .before .before .before .before .loop .inv) (c .before .before .before .before .before .loop-test .taken)
-    (as-named (c .before .before .before .before .before .before .before .before .name-at .ensures .0) (c .before .before .before .name-at2 .ensures .0) (sym (c .enum-told .given .1) ∙ c .before .before .compare .ensures))
+    (as-named (after-name-at (c .before .before) .name-at .ensures .0) (c .before .before .before .name-at2 .ensures .0) (sym (c .enum-told .given .1) ∙ c .before .before .compare .ensures))
 
 enum-told-2 : tie.Need-enum-told-2 Inv-loop μ-loop
 enum-told-2 c = search needs
@@ -66,13 +83,13 @@ add-j-2 : tie.Need-add-j-2 Inv-loop μ-loop
 add-j-2 c = search needs
 
 loop-less : tie.Need-loop-less Inv-loop μ-loop
-loop-less c = omega (arith, c .before .before .before .before .before .before .before .loop-test .taken)
+loop-less c = omega (arith, tested (c .before .before .before .before) .loop-test .taken)
 
 loop-again : tie.Need-loop-again Inv-loop μ-loop
 loop-again c =
-    let a = c .before .before .before .before .before .before .before .before .before .before .before .before .before .before .args in
-    gathering-on (now (a .s)) (now (a .counts)) (now (a .places)) (a .i) _ _ (c .before .before .before .before .before .before .before .before .loop .inv) (c .before .before .before .before .before .before .before .loop-test .taken) _ _
-    (as-named (c .before .before .before .before .before .before .before .before .before .before .name-at .ensures .0) (c .before .before .before .before .before .name-at2 .ensures .0) (sym (c .before .before .enum-told2 .given .1) ∙ c .before .before .before .before .compare .ensures))
+    let a = entry₁ (c .before .before .before .before) .args in
+    gathering-on (now (a .s)) (now (a .counts)) (now (a .places)) (a .i) _ _ (turn (c .before .before .before .before) .loop .inv) (tested (c .before .before .before .before) .loop-test .taken) _ _
+    (as-named (after-name-at (c .before .before .before .before) .name-at .ensures .0) (c .before .before .before .before .before .name-at2 .ensures .0) (sym (c .before .before .enum-told2 .given .1) ∙ c .before .before .before .before .compare .ensures))
     (c .before .count-at2 .ensures) (c .wrapping-add-u64 .ensures)
 
 enum-told-3 : tie.Need-enum-told-3 Inv-loop μ-loop
@@ -80,12 +97,12 @@ enum-told-3 c = search needs
 
 returns-2 : tie.Need-returns-2 Inv-loop μ-loop
 returns-2 c =
-    let a = c .before .before .before .before .before .before .before .before .before .before .before .before .args in
+    let a = entry₁ (c .before .before) .args in
     gathering-not (now (a .s)) (now (a .counts)) (now (a .places)) (a .i) _ _ (c .before .before .before .before .before .before .loop .inv) (c .before .before .before .before .before .loop-test .taken)
-    (as-named (c .before .before .before .before .before .before .before .before .name-at .ensures .0) (c .before .before .before .name-at2 .ensures .0) (sym (c .enum-told3 .given .1) ∙ c .before .before .compare .ensures))
+    (as-named (after-name-at (c .before .before) .name-at .ensures .0) (c .before .before .before .name-at2 .ensures .0) (sym (c .enum-told3 .given .1) ∙ c .before .before .compare .ensures))
 
 returns-3 : tie.Need-returns-3 Inv-loop μ-loop
-returns-3 c = let a = c .before .before .before .before .before .before .before .args in gathering-end (now (a .s)) (now (a .counts)) (now (a .places)) (a .i) _ _ (c .before .loop .inv) (c .loop-test .left)
+returns-3 c = let a = entry₂ c .args in gathering-end (now (a .s)) (now (a .counts)) (now (a .places)) (a .i) _ _ (c .before .loop .inv) (c .loop-test .left)
 
 pub group-at-spec : {M : Type 1} → statement M
 group-at-spec =

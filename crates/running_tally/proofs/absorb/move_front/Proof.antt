@@ -1,3 +1,4 @@
+-- The invariant: the first i bytes are moved, and those still to be moved are as they were (`Copying`). The measure: the bytes still to be moved.
 use Prim.Native.Nat.{_-_}
 use native.Mathlib.Omega.{arith}
 use denote.Ref.{now}
@@ -12,22 +13,22 @@ abbrev μ-loop : tie.MeasureT-loop
 μ-loop t₀ from to n i₀ t i = n - i
 
 returns : tie.Need-returns Inv-loop μ-loop
-returns c = let a = c .before .args in copying-none (now (a .t)) (a .from) (a .to) (a .n) (omega arith) (omega arith) (c .if1 .taken)
+returns c = let a = c .before .args in copying-none (now (a .buffer)) (a .from) (a .to) (a .n) (omega arith) (omega arith) (c .if1 .taken)
 
 loop-holds : tie.Need-loop-holds Inv-loop μ-loop
-loop-holds c = let a = c .before .args in copying-start (now (a .t)) (a .from) (a .to) (a .n) (omega arith) (omega arith)
+loop-holds c = let a = c .before .args in copying-start (now (a .buffer)) (a .from) (a .to) (a .n) (omega arith) (omega arith)
 
-add-t : tie.Need-add-t Inv-loop μ-loop
-add-t c = omega arith
+add-buffer : tie.Need-add-buffer Inv-loop μ-loop
+add-buffer c = omega arith
 
-slice-read-t : tie.Need-slice-read-t Inv-loop μ-loop
-slice-read-t c = let a = c .before .before .before .before .args in let l = c .before .before .loop in omega (arith, copying-length (now (a .t)) (a .from) (a .to) (a .n) (omega arith) (omega arith) (l .t) (l .i) (l .inv))
+slice-read-buffer : tie.Need-slice-read-buffer Inv-loop μ-loop
+slice-read-buffer c = let a = c .before .before .before .before .args in let l = c .before .before .loop in omega (arith, copying-length (now (a .buffer)) (a .from) (a .to) (a .n) (omega arith) (omega arith) (l .buffer) (l .i) (l .inv))
 
-add-t-2 : tie.Need-add-t-2 Inv-loop μ-loop
-add-t-2 c = omega arith
+add-buffer-2 : tie.Need-add-buffer-2 Inv-loop μ-loop
+add-buffer-2 c = omega arith
 
-slice-write-t : tie.Need-slice-write-t Inv-loop μ-loop
-slice-write-t c = let a = c .before .before .before .before .args in let l = c .before .before .loop in omega (arith, copying-length (now (a .t)) (a .from) (a .to) (a .n) (omega arith) (omega arith) (l .t) (l .i) (l .inv))
+slice-write-buffer : tie.Need-slice-write-buffer Inv-loop μ-loop
+slice-write-buffer c = let a = c .before .before .before .before .args in let l = c .before .before .loop in omega (arith, copying-length (now (a .buffer)) (a .from) (a .to) (a .n) (omega arith) (omega arith) (l .buffer) (l .i) (l .inv))
 
 add-i : tie.Need-add-i Inv-loop μ-loop
 add-i c = omega arith
@@ -36,13 +37,13 @@ loop-less : tie.Need-loop-less Inv-loop μ-loop
 loop-less c = omega arith
 
 loop-again : tie.Need-loop-again Inv-loop μ-loop
-loop-again c = let a = c .before .before .before .before .args in let l = c .before .before .loop in copying-on (now (a .t)) (a .from) (a .to) (a .n) (omega arith) (omega arith) (l .t) (l .i) (l .inv) (omega arith)
+loop-again c = let a = c .before .before .before .before .args in let l = c .before .before .loop in copying-on (now (a .buffer)) (a .from) (a .to) (a .n) (omega arith) (omega arith) (l .buffer) (l .i) (l .inv) (omega arith)
 
 same-length : tie.Need-same-length Inv-loop μ-loop
-same-length c = let a = c .before .before .before .args in let l = c .before .loop in copying-length (now (a .t)) (a .from) (a .to) (a .n) (omega arith) (omega arith) (l .t) (l .i) (l .inv)
+same-length c = let a = c .before .before .before .args in let l = c .before .loop in copying-length (now (a .buffer)) (a .from) (a .to) (a .n) (omega arith) (omega arith) (l .buffer) (l .i) (l .inv)
 
 returns-2 : tie.Need-returns-2 Inv-loop μ-loop
-returns-2 c = let a = c .before .before .before .args in let l = c .before .loop in copying-end (now (a .t)) (a .from) (a .to) (a .n) (omega arith) (omega arith) (l .t) (l .i) (l .inv) (omega arith)
+returns-2 c = let a = c .before .before .before .args in let l = c .before .loop in copying-end (now (a .buffer)) (a .from) (a .to) (a .n) (omega arith) (omega arith) (l .buffer) (l .i) (l .inv) (omega arith)
 
 pub move-front-spec : {M : Type 1} → statement M
 move-front-spec =
@@ -52,10 +53,10 @@ move-front-spec =
     μ-loop
     returns
     loop-holds
-    add-t
-    slice-read-t
-    add-t-2
-    slice-write-t
+    add-buffer
+    slice-read-buffer
+    add-buffer-2
+    slice-write-buffer
     add-i
     loop-less
     loop-again

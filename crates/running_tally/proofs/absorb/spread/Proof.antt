@@ -5,8 +5,12 @@ use Rattle.running_tally.proofs.Filling.{spread-none, spread-filled}
 use Rattle.running_tally.proofs.absorb.spread.Statement.{statement}
 use Rattle.running_tally.proofs.absorb.spread.Tie as tie
 
+-- the places that the proofs below go back to
+abbrev entry : tie.After-slice-known3 → tie.Start
+entry c = c .before .before .before .before .before .before .before .before .before .before .before .before
+
 returns : tie.Need-returns
-returns c G W T y = let a = c .before .before .before .before .args in spread-none (now (a .s)) (now (a .counts)) (now (a .places)) (now (a .t)) (a .size) (a .missing) G W T y (c .if1 .taken)
+returns c G W T y = let a = c .before .before .before .before .args in spread-none (now (a .s)) (now (a .counts)) (now (a .places)) (now (a .buffer)) (a .size) (a .missing) G W T y (c .if1 .taken)
 
 move-back-requires : tie.Need-move-back-requires
 move-back-requires c κs = search needs
@@ -22,8 +26,8 @@ same-length c = search needs
 
 returns-2 : tie.Need-returns-2
 returns-2 c G W T y =
-    let a = c .before .before .before .before .before .before .before .before .before .before .before .before .args in
-    spread-filled (now (a .s)) (now (a .counts)) (now (a .places)) (now (a .t)) (a .size) (a .missing) G W T y (omega arith) _ (c .before .before .before .before .before .before .move-back .ensures) _ (c .before .before .fill .ensures)
+    let a = entry c .args in
+    spread-filled (now (a .s)) (now (a .counts)) (now (a .places)) (now (a .buffer)) (a .size) (a .missing) G W T y (omega arith) _ (c .before .before .before .before .before .before .move-back .ensures) _ (c .before .before .fill .ensures)
 
 pub spread-spec : {M : Type 1} → statement M
 spread-spec =
