@@ -20,23 +20,23 @@ use Rattle.meter.specs.declared.stream.Step.the-variants as steps
 
 -- ---- between records
 -- The spare t carries the state: its rows are the running tally, and few and light enough for one record more.
-pub record Carries (t : List ℕ) (p : Progress) (w : State byOne) : Type 0 where
-  pub last : lastOf (p .last) ≡ w .last
-  pub records : p .records ≡ w .records
-  pub runs : Runs t (p .tally) (w .rows)
-  pub totalFits : totalCount (w .rows) ≤ 4096 * w .records
-  pub rowsFit : length (w .rows) ≤ 4096 * w .records
+pub record Carries (t : List ℕ) (progress : Progress) (state : State byOne) : Type 0 where
+  pub last : lastOf (progress .last) ≡ state .last
+  pub records : progress .records ≡ state .records
+  pub runs : Runs t (progress .tally) (state .rows)
+  pub totalFits : totalCount (state .rows) ≤ 4096 * state .records
+  pub rowsFit : length (state .rows) ≤ 4096 * state .records
 
 -- before any record; every spare carries it
 abbrev pub begun : Progress
 begun = record { last = lasts.Nothing; records = 0; tally = none }
 
 -- a step from a state that is carried, with clear tables, to a record whose number a u32 holds
-pub record Steps (ids counts t : List ℕ) (p : Progress) (w : State byOne) : Type 0 where
+pub record Steps (ids counts t : List ℕ) (progress : Progress) (state : State byOne) : Type 0 where
   pub ids-clear : ids ≡ clearTable
   pub counts-clear : counts ≡ clearTable
-  pub carries : Carries t p w
-  pub number : w .records < 4294967295
+  pub carries : Carries t progress state
+  pub number : state .records < 4294967295
 
 -- ---- what the answers say
 abbrev pub toldStart : StartAnswer → Answer Progress

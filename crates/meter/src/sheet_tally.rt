@@ -40,11 +40,11 @@ fn take_records(
 ) -> SheetAnswer
     ensures spare { λ _. ⌜ length (now (spare .exit)) ≡ length (now (spare .entry)) ⌝ }
     ensures told { λ r. ⌜
-        (now (ids .entry) ≡ clearTable → now (counts .entry) ≡ clearTable → (w : State byOne)
-        → Carries (now (spare .entry)) progress w → Numbered w count
+        (now (ids .entry) ≡ clearTable → now (counts .entry) ≡ clearTable → (state : State byOne)
+        → Carries (now (spare .entry)) progress state → Numbered state count
         → length (now (out .entry)) ≤ length (now (spare .entry))
         → Answered (toldSheet r) (now (out .entry)) (now (out .exit))
-        (answerFrom part (length (now (out .entry))) w count (now (s .entry)))) ⌝ }
+        (answerFrom part (length (now (out .entry))) state count (now (s .entry)))) ⌝ }
 {
     let mut rest = s;
     let mut left = count;

@@ -24,7 +24,7 @@ ghost use Rattle.sheetcount_lib.specs.Printing.{maxTextLength, Shows, Sh
 // Room for the text of any tally.
 const MAX_TEXT_LENGTH: usize = 20480;
 
-// The number and the record of a refusal.
+// Puts the number and the record of a refusal into the buffer, and tells how long the text is.
 fn put_refusal(answer: SheetAnswer, text: &mut [u8]) -> usize
     requires { ⌜ length (now text) ≡ maxTextLength ⌝ }
     ensures { λ r. ⌜ ((n i o : ℕ) → toldSheet answer ≡ refusal n i o → ShowsRefusal r (now (text .exit)) n i) ⌝ }
@@ -33,7 +33,7 @@ fn put_refusal(answer: SheetAnswer, text: &mut [u8]) -> usize
     put_length(refusal_text(told.number, told.index, text))
 }
 
-// What is printed, and how long it is.
+// Puts what is printed of an answer into the buffer, and tells how long the text is.
 fn put_answer(answer: SheetAnswer, out: &[u8], text: &mut [u8]) -> usize
     requires { ⌜ (length (now text) ≡ maxTextLength) × CountedAs (now out) answer ⌝ }
     ensures { λ r. ⌜ ((c : CountedAs (now (out .entry)) answer) → Shows r (now (text .exit)) (c .into .s)) ⌝ }

@@ -68,8 +68,8 @@ pub(crate) fn take_next(
     ensures spare { λ _. ⌜ length (now (spare .exit)) ≡ length (now (spare .entry)) ⌝ }
     ensures ids { λ _. ⌜ now (ids .exit) ≡ now (ids .entry) ⌝ }
     ensures told { λ r. ⌜
-        ((w : State byOne) → Steps (now (ids .entry)) (now (counts .entry)) (now (spare .entry)) progress w
-        → StepMatches (now (spare .exit)) r (nextOf w (now (s .entry)))
+        ((state : State byOne) → Steps (now (ids .entry)) (now (counts .entry)) (now (spare .entry)) progress state
+        → StepMatches (now (spare .exit)) r (nextOf state (now (s .entry)))
         × (now (counts .exit) ≡ clearTable)) ⌝ }
 {
     match block_length(s) {
@@ -97,9 +97,9 @@ pub(crate) fn end_sheet(
     out: &mut [u8],
 ) -> SheetAnswer
     ensures told { λ r. ⌜
-        ((w : State byOne) → Carries (now (spare .entry)) progress w → length (now (out .entry)) ≡ maxTallyLength
-        → maxTallyLength ≤ length (now (spare .entry))
-        → Answered (toldSheet r) (now (out .entry)) (now (out .exit)) (countedFrom 0 w (now (rest .entry)))) ⌝ }
+        ((state : State byOne) → Carries (now (spare .entry)) progress state
+        → length (now (out .entry)) ≡ maxTallyLength → maxTallyLength ≤ length (now (spare .entry))
+        → Answered (toldSheet r) (now (out .entry)) (now (out .exit)) (countedFrom 0 state (now (rest .entry)))) ⌝ }
     ensures refused { λ r. ⌜ Untouched (toldSheet r) (now (out .entry)) (now (out .exit)) ⌝ }
 {
     if 0 < rest.len() {

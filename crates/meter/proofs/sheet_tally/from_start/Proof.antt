@@ -29,6 +29,9 @@ sheet m = now (begun m .args .sheet)
 abbrev count : tie.After-known-told → ℕ
 count m = m .before .count .given .0 .0
 
+abbrev stated : tie.After-take-records → tie.After-known-told
+stated y = y .before .before .before .before .before .before .before .before
+
 bytes : (m : tie.After-known-told) → Bytes (sheet m)
 bytes m = λ i. m .before .before .before .before .before .before .shared-slice-known .given i .fits
 
@@ -71,7 +74,7 @@ same-length-2 c = search needs
 returns-2 : tie.Need-returns-2
 returns-2 c =
     let y = c .before .before .before .before in
-    let m = y .before .before .before .before .before .before .before .before in
+    let m = stated y in
     let part = begun m .args .part in
     let out = now (begun m .args .out) in
     let r = y .take-records .result in (

@@ -16,12 +16,12 @@ use borrow.Author.Needs.{needs}
 use Rattle.meter.proofs.sheet_tally.tally_sheet.Statement.{statement}
 use Rattle.meter.proofs.sheet_tally.tally_sheet.Tie as tie
 
--- where the function starts, and where it told how
+-- where the function starts, and where its progress is known
 abbrev begun : tie.After-start → tie.Start
 begun x = x .before .before .before .before
 
-abbrev judged : tie.After-from-start → tie.After-start
-judged x = x .before .before .before .before .before .before .before .before .before .before
+abbrev known : tie.After-from-start → tie.After-progress
+known y = y .before .before .before .before .before .before .before .before
 
 -- what start told, of any spare
 started : (c : tie.After-start) (t : List ℕ) {a : StartAnswer} → c .start .result ≡ a
@@ -65,9 +65,9 @@ returns-3 : tie.Need-returns-3
 unfolding clearTable
 returns-3 c =
     let y = c .before .before .before .before in
-    let x = judged y in
+    let x = known y .before .before in
     let s = begun x in
-    (sheet-put (s .args .part) (now (s .args .sheet)) (now (s .args .out)) _ (y .from-start .result) (started x (now (s .args .spare)) (y .before .before .before .before .before .before .before .before .progress .given .1)) (y .from-start .ensures .1 refl refl), y .from-start .ensures .0)
+    (sheet-put (s .args .part) (now (s .args .sheet)) (now (s .args .out)) _ (y .from-start .result) (started x (now (s .args .spare)) (known y .progress .given .1)) (y .from-start .ensures .1 refl refl), y .from-start .ensures .0)
 
 pub tally-sheet-spec : {M : Type 1} → statement M
 tally-sheet-spec =

@@ -52,6 +52,9 @@ cut m = framed-as (bytes (begun m)) (key m) (size m) (framed m)
 abbrev found : tie.After-judge-record → tie.After-known-told
 found x = x .before .before .before
 
+abbrev weighed : tie.After-add-block → tie.After-judge-record
+weighed a = a .before .before .before .before .before .before .before .before
+
 key-fits : (m : tie.After-known-told) → SFits w64 (key m)
 key-fits m = record { sfits = m .known-told .given .0 .1 }
 
@@ -119,7 +122,7 @@ same-length c = search needs
 returns-3 : tie.Need-returns-3
 returns-3 c =
     let a = c .before .before .before in
-    let x = a .before .before .before .before .before .before .before .before in
+    let x = weighed a in
     let m = found x in
     let part = begun m .args .part in (
       a .add-block .ensures .0,

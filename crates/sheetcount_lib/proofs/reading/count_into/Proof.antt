@@ -6,9 +6,12 @@ use Rattle.sheetcount_lib.proofs.Whole.{never-bad, started}
 use Rattle.sheetcount_lib.proofs.reading.count_into.Statement.{statement}
 use Rattle.sheetcount_lib.proofs.reading.count_into.Tie as tie
 
--- where the function starts
+-- where the function starts, and where its progress is known
 abbrev begun : tie.After-start → tie.Start
 begun x = x .before .before .before .before
+
+abbrev known : tie.After-read-sheet-arg7 → tie.After-progress
+known c = c .before .before .before .before .before .before .before .before
 
 start-requires : tie.Need-start-requires
 start-requires c κs = search needs
@@ -24,10 +27,10 @@ enum-known-progress c = search needs
 
 read-sheet-requires : tie.Need-read-sheet-requires
 read-sheet-requires c κs =
-    let x = c .before .before .before .before .before .before .before .before .before .before in
+    let x = known c .before .before in
     let s = begun x in
     let t = now (s .args .spare) in
-    (s .pre, started _ _ (s .pre .out-long) (s .pre .spare-long) t _ (told-as toldStart (x .start .ensures) (c .before .before .before .before .before .before .before .before .progress .given .1)))
+    (s .pre, started _ _ (s .pre .out-long) (s .pre .spare-long) t _ (told-as toldStart (x .start .ensures) (known c .progress .given .1)))
 
 returns : tie.Need-returns
 returns c =

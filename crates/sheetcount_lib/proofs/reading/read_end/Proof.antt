@@ -12,15 +12,24 @@ use Rattle.sheetcount_lib.proofs.Counts.{within-part}
 use Rattle.sheetcount_lib.proofs.reading.read_end.Statement.{statement}
 use Rattle.sheetcount_lib.proofs.reading.read_end.Tie as tie
 
--- what the buffer then holds, and how many of its bytes were read
+-- where the function starts, what the buffer then holds, and how many of its bytes were read
+abbrev begun : tie.After-bytes → tie.Start
+begun b = b .before .before .before .before .before .before
+
 abbrev filled : tie.After-bytes → List ℕ
-filled b = b .before .read-bytes .last .1 .0 ++ drop 1 (now (b .before .before .before .before .before .before .args .bytes))
+filled b = b .before .read-bytes .last .1 .0 ++ drop 1 (now (begun b .args .bytes))
 
 filled-long : (b : tie.After-bytes) → length (filled b) ≡ longest
-filled-long b = b .bytes .given .1 ∙ b .before .before .before .before .before .before .pre .0
+filled-long b = b .bytes .given .1 ∙ begun b .pre .0
 
-short : (c : tie.After-known-told) → c .before .n .given .0 .0 ≤ 1
-short c = within-part 1 (now (c .before .before .before .before .before .before .before .before .before .before .args .bytes)) (c .before .before .before .before .before .read-bytes .ensures) (c .before .n .given .1)
+abbrev behind : tie.After-known-told → tie.After-bytes
+behind m = m .before .before .before .before
+
+abbrev size : tie.After-known-told → ℕ
+size m = m .before .n .given .0 .0
+
+short : (m : tie.After-known-told) → size m ≤ 1
+short m = within-part 1 (now (begun (behind m) .args .bytes)) (behind m .before .read-bytes .ensures) (m .before .n .given .1)
 
 slice-relend-prefix-read-bytes : tie.Need-slice-relend-prefix-read-bytes
 slice-relend-prefix-read-bytes c = search needs
@@ -44,7 +53,7 @@ returns : tie.Need-returns
 returns c = search needs
 
 slice-reshare-prefix-end-sheet : tie.Need-slice-reshare-prefix-end-sheet
-slice-reshare-prefix-end-sheet c = omega (arith, short c, filled-long (c .before .before .before .before))
+slice-reshare-prefix-end-sheet c = omega (arith, short c, filled-long (behind c))
 
 slice-aggregate-end-sheet : tie.Need-slice-aggregate-end-sheet
 slice-aggregate-end-sheet c = sym (length-take-le _ _ (slice-reshare-prefix-end-sheet (c .before)))
@@ -60,9 +69,11 @@ same-length-3 c = search needs
 
 returns-2 : tie.Need-returns-2
 returns-2 c =
-    let k = c .before .before .before .before .before .before .before .before .before in
-    let n = c .before .before .before .before .before .before .n .given .0 .0 in
-    record { s = take n (filled k); bytes = bytes-take n (filled k) (λ j. c .before .before .before .before .before .before .before .before .slice-known3 .given j .fits); answered = λ w h. c .before .before .end-sheet .ensures .0 w h (c .before .before .before .before .before .before .before .before .before .before .before .before .before .before .before .pre .1) (omega (arith, c .before .before .before .before .before .before .before .before .before .before .before .before .before .before .before .pre .2)) }
+    let e = c .before .before in
+    let m = e .before .before .before in
+    let s = begun (behind m) in
+    let bytes = filled (behind m) in
+    record { s = take (size m) bytes; bytes = bytes-take (size m) bytes (λ j. m .before .before .before .slice-known3 .given j .fits); answered = λ w h. e .end-sheet .ensures .0 w h (s .pre .1) (omega (arith, s .pre .2)) }
 
 pub read-end-spec : {M : Type 1} → statement M
 read-end-spec =

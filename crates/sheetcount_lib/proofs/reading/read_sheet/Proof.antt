@@ -35,8 +35,11 @@ long h = h .before .before .before .before .bytes .given .1 ∙ begun h .pre .0 
 abbrev headed : tie.After-known-told2 → tie.After-known-told
 headed m = m .before .before .before .before .before
 
+abbrev lent : tie.After-take-all-arg7 → tie.After-known-told2
+lent c = c .before .before .before .before .before .before .before
+
 abbrev stated : tie.After-take-all → tie.After-known-told2
-stated y = y .before .before .before .before .before .before .before .before
+stated y = lent (y .before)
 
 abbrev count : tie.After-take-all → ℕ
 count y = stated y .before .count .given .0 .0
@@ -91,7 +94,7 @@ returns-2 c =
 
 take-all-requires : tie.Need-take-all-requires
 take-all-requires c κs =
-    let m = c .before .before .before .before .before .before .before in
+    let m = lent c in
     let s = begun (headed m) in
     (record { bytes-long = long (headed m); out-long = s .pre .0 .out-long; spare-long = s .pre .0 .spare-long; ids-clear = s .pre .0 .ids-clear; counts-clear = s .pre .0 .counts-clear }, s .pre .1)
 

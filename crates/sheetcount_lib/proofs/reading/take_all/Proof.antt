@@ -2,14 +2,14 @@
 -- are bytes, those of the records so far, behind which what is counted is counted from the state that the spare carries, with so many records
 -- left. Its measure is the number of records that are left.
 use borrow.Author.Needs.{needs}
-use Prim.Native.Nat.{ℕ}
+use Prim.Native.Nat.{ℕ, _<_}
 use mathlib.Core.Path.{_≡_, refl, sym, _∙_}
 use mathlib.Core.List.{List}
 use native.Mathlib.Omega.{arith}
 use lib.ListN.{length, take}
 use lib.Seq.{length-take-le}
 use denote.Ref.{now}
-use Rattle.wire.specs.Bytes.{bytes-take}
+use Rattle.wire.specs.Bytes.{Bytes, bytes-take}
 use Rattle.sheetcount_lib.proofs.Counts.{within}
 use Rattle.sheetcount_lib.proofs.Going.{Going, going-start, going-stop, going-on, going-end}
 use Rattle.sheetcount_lib.proofs.Whole.{if-read}
@@ -48,6 +48,13 @@ ids x = x .take-next .last .1 .1 .1 .0
 
 abbrev counts : tie.After-take-next Inv-loop μ-loop → List ℕ
 counts x = x .take-next .last .1 .1 .1 .1 .0
+
+-- a record was left to take, and bytes were read of it
+more : (x : tie.After-take-next Inv-loop μ-loop) → 0 < turned x .loop .left
+more x = known x .before .before .before .before .before .before .before .loop-test .taken
+
+are-bytes : (x : tie.After-take-next Inv-loop μ-loop) → Bytes (take (size x) (bytes x))
+are-bytes x = bytes-take (size x) (bytes x) (λ j. known x .before .before .before .slice-known4 .given j .fits)
 
 loop-holds : tie.Need-loop-holds Inv-loop μ-loop
 loop-holds c = let s = c .before .before .before in (going-start _ (s .pre .0) (s .pre .1), refl)
@@ -92,7 +99,7 @@ returns-2 : tie.Need-returns-2 Inv-loop μ-loop
 returns-2 c =
     let x = c .before .before .before .before .before in
     let l = turned x in
-    (x .take-next .ensures .0 ∙ l .loop .inv .0 .size, going-stop (l .loop .inv .0) (begun l .fits .count .fits) (known x .before .before .before .before .before .before .before .loop-test .taken) (take (size x) (bytes x)) (spare x) (ids x) (counts x) (bytes-take (size x) (bytes x) (λ j. known x .before .before .before .slice-known4 .given j .fits)) (x .take-next .result) (x .take-next .ensures .1 .1) (c .before .answer .given .1) (now (begun l .args .out)))
+    (x .take-next .ensures .0 ∙ l .loop .inv .0 .size, going-stop (l .loop .inv .0) (begun l .fits .count .fits) (more x) (take (size x) (bytes x)) (spare x) (ids x) (counts x) (are-bytes x) (x .take-next .result) (x .take-next .ensures .1 .1) (c .before .answer .given .1) (now (begun l .args .out)))
 
 enum-known-next : tie.Need-enum-known-next Inv-loop μ-loop
 enum-known-next c = search needs
@@ -108,7 +115,7 @@ loop-again c =
     let x = c .before .before .before .before .before in
     let l = turned x in
     let same = known x .before .before .before .before .bytes .given in
-    (going-on (l .loop .inv .0) (begun l .fits .count .fits) (known x .before .before .before .before .before .before .before .loop-test .taken) (take (size x) (bytes x)) (spare x) (ids x) (counts x) (bytes-take (size x) (bytes x) (λ j. known x .before .before .before .slice-known4 .given j .fits)) (x .take-next .result) (x .take-next .ensures .1 .1) (x .take-next .ensures .1 .0) same (x .take-next .ensures .0) (c .before .next .given .1), same ∙ l .loop .inv .1)
+    (going-on (l .loop .inv .0) (begun l .fits .count .fits) (more x) (take (size x) (bytes x)) (spare x) (ids x) (counts x) (are-bytes x) (x .take-next .result) (x .take-next .ensures .1 .1) (x .take-next .ensures .1 .0) same (x .take-next .ensures .0) (c .before .next .given .1), same ∙ l .loop .inv .1)
 
 read-end-requires : tie.Need-read-end-requires Inv-loop μ-loop
 read-end-requires c κs =
