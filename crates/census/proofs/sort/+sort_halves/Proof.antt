@@ -25,33 +25,65 @@ abbrev sort-halves-below : ℕ → In 3 sort-halves-kinds.ps
 sort-halves-below t =
     and 3 sort-halves-kinds.ps (falls 3 sort-halves-kinds.ps _<_ μ-sort-halves t) sort-halves.Pre
 
--- the first half, as it came back
-first-length : (t : ℕ) (c : sort-halves-lts.After-sort-halves (
+-- the places that the proofs below go back to: where the function starts, and where the first half, both halves and the whole are in order
+abbrev Start : ℕ → Type 0
+Start t = sort-halves-lts.Start (
   sort-halves-below t,
   sort-halves.Post,
   join-halves-reads.Asked,
   join-halves-reads.Learnt,
-) (sort-halves-at t) sort-halves.Post)
-    → length (c .sort-halves .last .1 .0) ≡ length (c .before .before .before .before .before .before .before .args .places .now) / 2
-first-length t c = c .sort-halves .kept .1 .0 ∙ sym (half-is (c .before .before .before .before .before .before .before .args .places .now))
+) (sort-halves-at t) sort-halves.Post
+
+abbrev First : ℕ → Type 0
+First t = sort-halves-lts.After-sort-halves (
+  sort-halves-below t,
+  sort-halves.Post,
+  join-halves-reads.Asked,
+  join-halves-reads.Learnt,
+) (sort-halves-at t) sort-halves.Post
+
+abbrev Both : ℕ → Type 0
+Both t = sort-halves-lts.After-sort-halves2 (
+  sort-halves-below t,
+  sort-halves.Post,
+  join-halves-reads.Asked,
+  join-halves-reads.Learnt,
+) (sort-halves-at t) sort-halves.Post
+
+abbrev Whole : ℕ → Type 0
+Whole t = sort-halves-lts.After-join-halves (
+  sort-halves-below t,
+  sort-halves.Post,
+  join-halves-reads.Asked,
+  join-halves-reads.Learnt,
+) (sort-halves-at t) sort-halves.Post
+
+abbrev entry : (t : ℕ) → First t → Start t
+entry t c = c .before .before .before .before .before .before .before
+
+abbrev first : (t : ℕ) → Both t → First t
+first t c = c .before .before .before .before .before .before .before
+
+abbrev both : (t : ℕ) → Whole t → Both t
+both t c = c .before .before .before .before .before .before .before
+
+-- the first half, as it came back
+first-length : (t : ℕ) (c : First t)
+    → length (c .sort-halves .last .1 .0) ≡ length (entry t c .args .places .now) / 2
+first-length t c = c .sort-halves .kept .1 .0 ∙ sym (half-is (entry t c .args .places .now))
 
 -- both halves
-halved : (t : ℕ) (c : sort-halves-lts.After-sort-halves2 (
-  sort-halves-below t,
-  sort-halves.Post,
-  join-halves-reads.Asked,
-  join-halves-reads.Learnt,
-) (sort-halves-at t) sort-halves.Post)
-    → Halved (c .before .before .before .before .before .before .before .before .before .before .before .before .before .before .args .s .now) (c .before .before .before .before .before .before .before .before .before .before .before .before .before .before .args .places .now) (c .before .before .before .before .before .before .before .sort-halves .last .1 .0) (c .sort-halves2 .last .1 .0) (c .sort-halves2 .last .1 .1 .0) (length (c .before .before .before .before .before .before .before .before .before .before .before .before .before .before .args .places .now) / 2)
+halved : (t : ℕ) (c : Both t)
+    → Halved (entry t (first t c) .args .s .now) (entry t (first t c) .args .places .now) (first t c .sort-halves .last .1 .0) (c .sort-halves2 .last .1 .0) (c .sort-halves2 .last .1 .1 .0) (length (entry t (first t c) .args .places .now) / 2)
 halved t c =
-    let many : 2 ≤ length (c .before .before .before .before .before .before .before .before .before .before .before .before .before .before .args .places .now) = c .before .before .before .before .before .before .before .before .before .before .if1 .left in
+    let many : 2 ≤ length (entry t (first t c) .args .places .now) = first t c .before .before .before .if1 .left in
     record {
       some = omega arith;
       more = omega arith;
-      front = first-length t (c .before .before .before .before .before .before .before);
+      front = first-length t (first t c);
       back = c .sort-halves2 .kept .1 .0;
-      room = omega (arith, c .sort-halves2 .kept .1 .1 .0, c .before .before .before .before .before .before .before .sort-halves .kept .1 .1 .0, c .before .before .before .before .before .before .before .before .before .before .before .before .before .before .pre .1);
-      first = c .before .before .before .before .before .before .before .sort-halves .ensures;
+      room = omega (arith, c .sort-halves2 .kept .1 .1 .0, first t c .sort-halves .kept .1 .1 .0, entry t (first t c) .pre .1);
+      first = first t c .sort-halves .ensures;
       rest = c .sort-halves2 .ensures;
     }
 
@@ -134,13 +166,14 @@ sort-halves-sort-halves-requires-2 : (t : ℕ) → sort-halves-lts.Need-sort-hal
   join-halves-reads.Learnt,
 ) (sort-halves-at t) sort-halves.Post
 sort-halves-sort-halves-requires-2 t c κs =
-    let a = c .before .before .before .before .before .before .before .before .before .before .before .before .before .args .places .now in
-    let x = c .before .before .before .before .before .before .sort-halves .last .1 .0 in
-    let mid = length (c .before .before .before .before .before .before .before .before .before .before .before .before .before .args .places .now) / 2 in
-    let many : 2 ≤ length (c .before .before .before .before .before .before .before .before .before .before .before .before .before .args .places .now) = c .before .before .before .before .before .before .before .before .before .if1 .left in
-    let n = second-length a x mid (omega arith) (first-length t (c .before .before .before .before .before .before)) in
-    let below : length (second a x mid) < t = omega (arith, c .before .before .before .before .before .before .before .before .before .before .before .before .before .pre .0) in
-    let room : length (second a x mid) ≤ length (c .before .before .before .before .before .before .sort-halves .last .1 .1 .0) = omega (arith, c .before .before .before .before .before .before .sort-halves .kept .1 .1 .0, c .before .before .before .before .before .before .before .before .before .before .before .before .before .pre .1) in
+    let f = c .before .before .before .before .before .before in
+    let a = entry t f .args .places .now in
+    let x = f .sort-halves .last .1 .0 in
+    let mid = length (entry t f .args .places .now) / 2 in
+    let many : 2 ≤ length (entry t f .args .places .now) = f .before .before .before .if1 .left in
+    let n = second-length a x mid (omega arith) (first-length t f) in
+    let below : length (second a x mid) < t = omega (arith, entry t f .pre .0) in
+    let room : length (second a x mid) ≤ length (f .sort-halves .last .1 .1 .0) = omega (arith, f .sort-halves .kept .1 .1 .0, entry t f .pre .1) in
     (below, room)
 
 sort-halves-join-halves-requires : (t : ℕ) → sort-halves-lts.Need-join-halves-requires (
@@ -157,7 +190,7 @@ sort-halves-same-length : (t : ℕ) → sort-halves-lts.Need-same-length (
   join-halves-reads.Asked,
   join-halves-reads.Learnt,
 ) (sort-halves-at t) sort-halves.Post
-sort-halves-same-length t c = c .before .before .before .before .join-halves .kept .1 .0 ∙ halved-length (halved t (c .before .before .before .before .before .before .before .before .before .before .before))
+sort-halves-same-length t c = c .before .before .before .before .join-halves .kept .1 .0 ∙ halved-length (halved t (both t (c .before .before .before .before)))
 
 sort-halves-same-length-2 : (t : ℕ) → sort-halves-lts.Need-same-length-2 (
   sort-halves-below t,
@@ -165,7 +198,7 @@ sort-halves-same-length-2 : (t : ℕ) → sort-halves-lts.Need-same-length-2 (
   join-halves-reads.Asked,
   join-halves-reads.Learnt,
 ) (sort-halves-at t) sort-halves.Post
-sort-halves-same-length-2 t c = c .before .before .before .before .join-halves .kept .1 .1 .1 .0 ∙ c .before .before .before .before .before .before .before .before .before .before .before .sort-halves2 .kept .1 .1 .0 ∙ c .before .before .before .before .before .before .before .before .before .before .before .before .before .before .before .before .before .before .sort-halves .kept .1 .1 .0
+sort-halves-same-length-2 t c = c .before .before .before .before .join-halves .kept .1 .1 .1 .0 ∙ both t (c .before .before .before .before) .sort-halves2 .kept .1 .1 .0 ∙ first t (both t (c .before .before .before .before)) .sort-halves .kept .1 .1 .0
 
 sort-halves-returns-2 : (t : ℕ) → sort-halves-lts.Need-returns-2 (
   sort-halves-below t,
@@ -173,7 +206,7 @@ sort-halves-returns-2 : (t : ℕ) → sort-halves-lts.Need-returns-2 (
   join-halves-reads.Asked,
   join-halves-reads.Learnt,
 ) (sort-halves-at t) sort-halves.Post
-sort-halves-returns-2 t c = halved-end (halved t (c .before .before .before .before .before .before .before .before .before .before .before)) (c .before .before .before .before .join-halves .ensures)
+sort-halves-returns-2 t c = halved-end (halved t (both t (c .before .before .before .before))) (c .before .before .before .before .join-halves .ensures)
 
 pub +sort-halves-spec : {M : Type 1} → statement M
 +sort-halves-spec = close μ-sort-halves λ t. sort-halves-lts.spec (
