@@ -6,7 +6,7 @@ use Prim.Native.Nat.{ℕ}
 use Rattle.wire.specs.Answer.{Answer, good, refusal, mapAnswer}
 use Rattle.wire.specs.Ranges.{noRange}
 use Rattle.mapblock.specs.Data.{Nodes}
-use Rattle.mapblock.specs.Questions.{shown, readInto, ListsHold}
+use Rattle.block_reader.specs.Questions.{shown, readInto, ListsHold}
 use Rattle.mapblock.specs.declared.head.Head.{Head}
 use Rattle.wire.specs.declared.ranges.Range.{Range}
 use Rattle.mapblock.specs.declared.head.Sections.{Sections}

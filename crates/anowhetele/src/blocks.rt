@@ -5,19 +5,19 @@ use crate::answer::plain;
 use crate::answer::refused;
 use crate::numbers::NO_SUCH;
 use crate::numbers::PARTS_MISFIT;
+use block_reader::node::NodeNameAnswer;
+use block_reader::node::locate_node_name;
+use block_reader::read::ReadAnswer;
+use block_reader::read::SectionsAnswer;
+use block_reader::read::read;
+use block_reader::read::sections;
 use mapblock::head::Head;
 use mapblock::head::NO_SECTIONS;
 use mapblock::head::Sections;
-use mapblock::node::NodeNameAnswer;
-use mapblock::node::locate_node_name;
-use mapblock::read::ReadAnswer;
-use mapblock::read::SectionsAnswer;
-use mapblock::read::read;
-use mapblock::read::sections;
 use wire::ranges::NO_RANGE;
 use wire::ranges::Range;
 ghost use mathlib.Core.Path.{_≡_};
-ghost use Rattle.mapblock.specs.Questions.{lists, sectionsOf, nodeNameOf};
+ghost use Rattle.block_reader.specs.Questions.{lists, sectionsOf, nodeNameOf};
 ghost use Rattle.anowhetele.specs.Blocks.{noBlock, noNode, handedBlock, HandedRead, handedNode};
 
 // The sections lie as four parts, one after the other.

@@ -4,18 +4,18 @@ use crate::answer::done;
 use crate::answer::plain;
 use crate::answer::refused;
 use crate::numbers::NO_SUCH;
-use mapblock::row_questions::MetadataRowAnswer;
-use mapblock::row_questions::NameRowAnswer;
-use mapblock::row_questions::ObjectRowAnswer;
-use mapblock::row_questions::TimerRowAnswer;
-use mapblock::row_questions::metadata_row_of;
-use mapblock::row_questions::name_row_of;
-use mapblock::row_questions::object_row_of;
-use mapblock::row_questions::timer_row_of;
+use block_reader::row_questions::MetadataRowAnswer;
+use block_reader::row_questions::NameRowAnswer;
+use block_reader::row_questions::ObjectRowAnswer;
+use block_reader::row_questions::TimerRowAnswer;
+use block_reader::row_questions::metadata_row_of;
+use block_reader::row_questions::name_row_of;
+use block_reader::row_questions::object_row_of;
+use block_reader::row_questions::timer_row_of;
 use wire::ranges::NO_RANGE;
 use wire::ranges::Range;
 ghost use mathlib.Core.Path.{_≡_};
-ghost use Rattle.mapblock.specs.RowQuestions.{nameRowOf, metadataRowOf, objectRowOf, timerRowOf};
+ghost use Rattle.block_reader.specs.RowQuestions.{nameRowOf, metadataRowOf, objectRowOf, timerRowOf};
 ghost use Rattle.anowhetele.specs.Rows.{noName, noMetadata, noObject, noTimer, handedName, handedMetadata, handedObject, handedTimer};
 
 // ---- names

@@ -19,19 +19,19 @@ use Rattle.mapblock.specs.Inventory.{Form}
 use Rattle.mapblock.specs.Data.{NameRow, MetadataRow, ObjectRow, TimerRow, NameMapping, Timers, Nodes, Block, noMapping, frontShape, restShape}
 use Rattle.mapblock.specs.Layout.{since, all, isVersion, opening, nameMapping, nodes, metadata, earlyTimers, objects, objectRow, lateTimers, front, rest, steps}
 use Rattle.mapblock.specs.Block.{block, piecesOf, firstUnmapped, param0At, verdict}
-use Rattle.mapblock.specs.Sections.{scannedOf}
+use Rattle.block_reader.specs.Sections.{scannedOf}
 use Rattle.mapblock.specs.Table.{freeIn}
 use Rattle.mapblock.specs.Told.{ended}
 use Rattle.mapblock.specs.declared.fault.Fault.{Fault}
 use Rattle.mapblock.specs.declared.fault.Fault.the-variants as fault
 use Rattle.mapblock.specs.declared.head.Head.{Head}
 use Rattle.mapblock.proofs.Readings.{ended-map, ended-done, ended-refused}
-use Rattle.mapblock.proofs.ListLengths.{num-length, objects-rows-length}
+use Rattle.block_reader.proofs.ListLengths.{num-length, objects-rows-length}
 use Rattle.mapblock.proofs.Entries.{width-range, nodes-done}
 use Rattle.mapblock.proofs.GoodRows.{either, since-ok, fixed-ok}
-use Rattle.mapblock.proofs.ValidOk.{list-version}
-use Rattle.mapblock.proofs.Fronts.{opening-length}
-use Rattle.mapblock.proofs.Verdicts.{verdict-refused, verdict-firstUnmapped, verdict-done}
+use Rattle.block_reader.proofs.ValidOk.{list-version}
+use Rattle.block_reader.proofs.Fronts.{opening-length}
+use Rattle.block_reader.proofs.Verdicts.{verdict-refused, verdict-firstUnmapped, verdict-done}
 use Rattle.block_writer.specs.Frames.{nameFrame, metadataFrame}
 use Rattle.block_writer.specs.BlockParts.{headFits}
 use Rattle.block_writer.specs.Sections.{Rows}

@@ -16,7 +16,7 @@ use Rattle.mapblock.specs.Layout.{since, before, all, nameRow, metadataRow, obj
 use Rattle.mapblock.specs.Block.{block, openingOf, nameMappingOf, timersOf}
 use Rattle.mapblock.specs.declared.fault.Fault.{Fault}
 use Rattle.mapblock.specs.declared.fault.Fault.the-variants as fault
-use Rattle.mapblock.proofs.ListLengths.{timersOf24}
+use Rattle.block_reader.proofs.ListLengths.{timersOf24}
 use Rattle.block_writer.specs.BlockParts.{BlockParts, made}
 use Rattle.block_writer.specs.declared.counts.RowCounts.{RowCounts}
 use Rattle.block_writer.specs.Pieces.{listBytes, mappingBytes, nodesBytes, metadataBytes, earlyBytes, objectsBytes, lateBytes, blockBytes}

@@ -11,7 +11,7 @@ use borrow.Author.Tests.{lt-leb, leb-false, lt-ltb, ltb-true, eq-eqb, ne-eqb, eq
 use Rattle.wire.specs.Choice.{no-false}
 use Rattle.wire.proofs.Tests.{and-yes, three-yes, yes-and, yes-three}
 use Rattle.mapblock.specs.Layout.{since}
-use Rattle.mapblock.specs.Questions.{areWhole}
+use Rattle.block_reader.specs.Questions.{areWhole}
 use Rattle.mapblock.specs.declared.head.Head.{Head}
 use Rattle.mapblock.proofs.GoodRows.{either}
 use Rattle.block_writer.specs.BlockParts.{BlockParts, headFits, allBelow, param0Fits, timersFit, fits}

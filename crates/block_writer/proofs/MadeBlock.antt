@@ -20,7 +20,7 @@ use Rattle.mapblock.specs.Block.{block, blockFrom, piecesOf, built-pieces}
 use Rattle.mapblock.specs.declared.fault.Fault.the-variants as fault
 use Rattle.mapblock.specs.Valid.{NodesGood}
 use Rattle.mapblock.specs.declared.head.Head.{Head}
-use Rattle.mapblock.proofs.ValidOk.{nodes-ok, slot-ok}
+use Rattle.block_reader.proofs.ValidOk.{nodes-ok, slot-ok}
 use Rattle.mapblock.proofs.GoodRows.{either, fixed-ok}
 use Rattle.block_writer.specs.Frames.{nameFrame, metadataFrame, timerFrame, sectionRows}
 use Rattle.block_writer.specs.BlockParts.{BlockParts, headFits, param0Fits, fits, given, made, rowsMade, blockMade, WellTyped}

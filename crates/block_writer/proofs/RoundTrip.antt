@@ -24,16 +24,16 @@ use Rattle.mapblock.specs.Data.{NameRow, MetadataRow, ObjectRow, TimerRow, Bloc
 use Rattle.mapblock.specs.Layout.{all, isVersion, nameRow, metadataRow, objectRow, timerRow, opening, front, steps}
 use Rattle.mapblock.specs.Block.{block, verdict}
 use Rattle.mapblock.specs.Valid.{NameGood, MetadataGood, ObjectGood, TimerGood, Valid}
-use Rattle.mapblock.specs.Theorems.{RowsIn}
+use Rattle.block_reader.specs.Theorems.{RowsIn}
 use Rattle.mapblock.specs.declared.fault.Fault.{Fault}
 use Rattle.mapblock.specs.declared.head.Head.{Head}
 use Rattle.mapblock.proofs.GoodRows.{either, name-ok, metadata-row-ok, object-ok, timer-ok}
 use Rattle.mapblock.proofs.Keyed as keyed
-use Rattle.mapblock.proofs.ListLengths.{num-length}
+use Rattle.block_reader.proofs.ListLengths.{num-length}
 use Rattle.mapblock.proofs.Readings.{num}
-use Rattle.mapblock.proofs.SectionsThere.{sections-are-rows}
-use Rattle.mapblock.proofs.Taken.{taken, writes-back, reads-back, airAt, air-valid}
-use Rattle.mapblock.proofs.ValidOk.{valid-is-ok}
+use Rattle.block_reader.proofs.SectionsThere.{sections-are-rows}
+use Rattle.block_reader.proofs.Taken.{taken, writes-back, reads-back, airAt, air-valid}
+use Rattle.block_reader.proofs.ValidOk.{valid-is-ok}
 use Rattle.block_writer.specs.Frames.{nameFrame, metadataFrame, timerFrame, sectionRows}
 use Rattle.block_writer.specs.BlockParts.{BlockParts, blockMade, WellTyped}
 use Rattle.block_writer.specs.Sections.{Rows}

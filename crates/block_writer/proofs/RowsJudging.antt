@@ -14,7 +14,7 @@ use Rattle.wire.proofs.Looser.{Looser, Settled, settled, settled-ok, looser-ite
 use Rattle.mapblock.specs.Inventory.{Form}
 use Rattle.mapblock.specs.Data.{NameRow, MetadataRow, ObjectRow, TimerRow, NameMapping, nameMappingShape}
 use Rattle.mapblock.specs.Layout.{since, unmapped, nameRow, metadataRow, objectRow, timerRow, nameMapping, metadata}
-use Rattle.mapblock.specs.Scan.{metadataHead}
+use Rattle.block_reader.specs.Scan.{metadataHead}
 use Rattle.mapblock.specs.Table.{freeIn, Tabled, RowsMarked}
 use Rattle.mapblock.specs.Told.{ended}
 use Rattle.mapblock.specs.declared.fault.Fault.{Fault}

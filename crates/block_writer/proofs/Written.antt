@@ -19,7 +19,7 @@ use Rattle.mapblock.specs.Numbers.{refusalNumber}
 use Rattle.mapblock.specs.Told.{ended}
 use Rattle.mapblock.specs.declared.fault.Fault.{Fault}
 use Rattle.mapblock.proofs.Readings.{ended-done, ended-refused}
-use Rattle.mapblock.proofs.Taken.{taken}
+use Rattle.block_reader.proofs.Taken.{taken}
 use Rattle.block_writer.specs.Frames.{nameFrame, metadataFrame, timerFrame}
 use Rattle.block_writer.specs.BlockParts.{BlockParts, fits, made, rowsMade, blockMade, WellTyped}
 use Rattle.block_writer.specs.Measured.{bytesFor, Written}

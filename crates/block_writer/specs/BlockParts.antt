@@ -9,7 +9,7 @@ use Rattle.wire.specs.Bytes.{Bytes}
 use Rattle.mapblock.specs.Data.{NameRow, MetadataRow, ObjectRow, TimerRow, Block}
 use Rattle.mapblock.specs.Layout.{since, objectRow}
 use Rattle.mapblock.specs.Valid.{U8, U16, U32}
-use Rattle.mapblock.specs.Questions.{areWhole}
+use Rattle.block_reader.specs.Questions.{areWhole}
 use Rattle.mapblock.specs.declared.head.Head.{Head}
 use Rattle.block_writer.specs.Frames.{nameFrame, metadataFrame, timerFrame, sectionRows}
 

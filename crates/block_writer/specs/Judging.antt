@@ -11,7 +11,7 @@ use Rattle.mapblock.specs.Inventory.{Form}
 use Rattle.mapblock.specs.Data.{NameRow, MetadataRow, ObjectRow, TimerRow, Opening, NameMapping, Timers, Nodes, Front, Rest, noMapping, noTimers}
 use Rattle.mapblock.specs.Layout.{since, before, all, width, isVersion, unmapped, nameMapping, front, rest, lateTimers}
 use Rattle.mapblock.specs.Block.{contentId, firstFrom, block, verdict}
-use Rattle.mapblock.specs.Scan as scan
+use Rattle.block_reader.specs.Scan as scan
 use Rattle.mapblock.specs.Table.{freeIn, Tabled}
 use Rattle.mapblock.specs.Told.{ended}
 use Rattle.mapblock.specs.declared.fault.Fault.{Fault}

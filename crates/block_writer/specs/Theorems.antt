@@ -10,7 +10,7 @@ use Rattle.wire.specs.Answer.{Answer, good, refusal, mapAnswer, lent}
 use Rattle.mapblock.specs.Data.{Block}
 use Rattle.mapblock.specs.Layout.{all}
 use Rattle.mapblock.specs.Block.{verdict}
-use Rattle.mapblock.specs.Sections.{sections}
+use Rattle.block_reader.specs.Sections.{sections}
 use Rattle.wire.specs.Ranges.{bytesIn}
 use Rattle.block_writer.specs.BlockParts.{BlockParts, WellTyped, blockParts}
 use Rattle.block_writer.specs.Write.{writeOf}

@@ -1,7 +1,7 @@
 // Whether the parts fit each other, but for the rows of the sections.
+use block_reader::read::are_whole;
 use mapblock::head::Head;
 use mapblock::head::NO_LIGHTING;
-use mapblock::read::are_whole;
 ghost use mathlib.Core.Path.{_≡_};
 ghost use mathlib.Core.List.{[]};
 ghost use Rattle.block_writer.specs.BlockParts.{headFits, allBelow, param0Fits, timersFit, blockParts, fits};

@@ -18,11 +18,11 @@ use Rattle.mapblock.specs.Data.{Block, NameRow}
 use Rattle.mapblock.specs.Layout.{all}
 use Rattle.mapblock.specs.Block.{verdict, idAt}
 use Rattle.mapblock.specs.Params.{idIn, holdsLists}
-use Rattle.mapblock.specs.Sections.{scannedOf}
-use Rattle.mapblock.specs.Questions.{NameRun, nameAt}
+use Rattle.block_reader.specs.Sections.{scannedOf}
+use Rattle.block_reader.specs.Questions.{NameRun, nameAt}
 use Rattle.mapblock.specs.Table.{unmarked, clearTable}
 use Rattle.mapblock.specs.Valid.{Valid}
-use Rattle.mapblock.specs.declared.scan.Scanned.{Scanned}
+use Rattle.block_reader.specs.declared.scan.Scanned.{Scanned}
 use Rattle.tally.specs.Rows.{Rows, countIn, isNamed}
 use Rattle.tally.specs.Tally.{ones}
 use Rattle.census.specs.Census.{inPartAt, Census}

@@ -22,7 +22,7 @@ use Rattle.mapblock.specs.Rows.{nameFields}
 use Rattle.mapblock.specs.Table.{unmarked, allRows}
 use Rattle.mapblock.specs.Valid.{Has}
 use Rattle.mapblock.specs.declared.names.NameFields.{NameFields}
-use Rattle.mapblock.proofs.NameWalks.{first-row}
+use Rattle.block_reader.proofs.NameWalks.{first-row}
 use Rattle.census.specs.CountsById.{inLotAt, CountsById, countById, rowId}
 use Rattle.census.proofs.Counts.{countIf-none}
 use Rattle.census.proofs.CountsByName.{by-id-bound}

@@ -14,7 +14,7 @@ use Rattle.wire.specs.declared.order.Order.{Order}
 use Rattle.wire.specs.declared.order.Order.the-variants.{Before, Same, After}
 use Rattle.mapblock.specs.Data.{NameRow}
 use Rattle.mapblock.specs.Valid.{Has, Distinct}
-use Rattle.mapblock.specs.Questions.{nameOf}
+use Rattle.block_reader.specs.Questions.{nameOf}
 use Rattle.tally.specs.Rows.{countIn, isNamed}
 use Rattle.tally.specs.Tally.{ones}
 use Rattle.census.specs.UsedNames.{totalCount}

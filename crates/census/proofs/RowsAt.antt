@@ -15,7 +15,7 @@ use Rattle.mapblock.specs.Rows.{nameFields}
 use Rattle.wire.specs.Ranges.{bytesIn}
 use Rattle.mapblock.specs.declared.fault.Fault.{Fault}
 use Rattle.mapblock.specs.declared.names.NameFields.{NameFields}
-use Rattle.mapblock.proofs.NameWalks.{rowHead, head-length, row-bytes, nothing-there}
+use Rattle.block_reader.proofs.NameWalks.{rowHead, head-length, row-bytes, nothing-there}
 use Rattle.census.specs.NamePlaces.{rowRead, rowAt, nameStart, nameStartAt}
 
 pub row-beyond : (s : List ℕ) (p : ℕ) → length s < p → rowAt s p ≡ record { id = 0; name = [] }

@@ -14,14 +14,14 @@ use Rattle.mapblock.specs.Data.{Block}
 use Rattle.mapblock.specs.Layout.{all, width}
 use Rattle.mapblock.specs.Block.{verdict, idAt}
 use Rattle.mapblock.specs.Params.{idIn, holdsLists}
-use Rattle.mapblock.specs.Sections.{scannedOf}
-use Rattle.mapblock.specs.Questions.{NameRun}
+use Rattle.block_reader.specs.Sections.{scannedOf}
+use Rattle.block_reader.specs.Questions.{NameRun}
 use Rattle.mapblock.specs.Valid.{Valid}
-use Rattle.mapblock.specs.declared.scan.Scanned.{Scanned}
+use Rattle.block_reader.specs.declared.scan.Scanned.{Scanned}
 use Rattle.mapblock.proofs.Entries.{id-same}
-use Rattle.mapblock.proofs.Taken.{taken}
-use Rattle.mapblock.proofs.BlockAnswers.{TakenAs, taken-as}
-use Rattle.mapblock.proofs.NodeNames.{names-run}
+use Rattle.block_reader.proofs.Taken.{taken}
+use Rattle.block_reader.proofs.BlockAnswers.{TakenAs, taken-as}
+use Rattle.block_reader.proofs.NodeNames.{names-run}
 
 module _ (s : List ℕ) {w : Scanned} {b : Block} {n : ℕ} (y : Bytes s) (reads : verdict all s ≡ done b n) (shows : scannedOf b ≡ w) where
   takenAs : TakenAs s w

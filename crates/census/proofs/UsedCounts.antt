@@ -13,10 +13,10 @@ use Rattle.wire.specs.declared.order.Order.{Order}
 use Rattle.wire.specs.declared.order.Order.the-variants.{Before, Same, After}
 use Rattle.mapblock.specs.Data.{NameRow, Block}
 use Rattle.mapblock.specs.Block.{idAt}
-use Rattle.mapblock.specs.Questions.{nameAt}
+use Rattle.block_reader.specs.Questions.{nameAt}
 use Rattle.mapblock.specs.Table.{unmarked, clearTable}
 use Rattle.mapblock.specs.Valid.{Each, NameGood, Valid}
-use Rattle.mapblock.proofs.BlockAnswers.{zeros-at}
+use Rattle.block_reader.proofs.BlockAnswers.{zeros-at}
 use Rattle.tally.specs.Rows.{isNamed, countIn}
 use Rattle.tally.specs.Tally.{ones}
 use Rattle.census.specs.UsedNames.{usedIn, usedCounts, totalCount}

@@ -9,8 +9,8 @@ use lib.ListN.{length, getD, drop}
 use lib.Seq.{drop-drop}
 use borrow.Author.Tests.{eqb-false}
 use Rattle.mapblock.specs.Data.{NameRow}
-use Rattle.mapblock.specs.Questions.{NameRun}
-use Rattle.mapblock.proofs.NameWalks.{run-reads, run-rest}
+use Rattle.block_reader.specs.Questions.{NameRun}
+use Rattle.block_reader.proofs.NameWalks.{run-reads, run-rest}
 use Rattle.tally.specs.Rows.{Row, Rows}
 use Rattle.tally.specs.Tally.{ones}
 use Rattle.census.specs.NamePlaces.{rowRead, rowAt, countAt, namedAt, countedNames}

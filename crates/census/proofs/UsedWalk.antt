@@ -15,9 +15,9 @@ use Rattle.mapblock.specs.Data.{NameRow}
 use Rattle.mapblock.specs.Layout.{all, nameRow}
 use Rattle.mapblock.specs.Rows.{nameFields}
 use Rattle.mapblock.specs.Table.{allRows}
-use Rattle.mapblock.specs.Questions.{NameRun}
+use Rattle.block_reader.specs.Questions.{NameRun}
 use Rattle.mapblock.specs.declared.names.NameFields.{NameFields}
-use Rattle.mapblock.proofs.NameWalks.{row-inside, first-row, all-run}
+use Rattle.block_reader.proofs.NameWalks.{row-inside, first-row, all-run}
 use Rattle.census.specs.UsedNames.{usedIn, usedOf}
 
 -- a row whose id has no count, and one whose id has one

@@ -1,23 +1,16 @@
--- The layout, the block and the verdict; well formed in plain words; what holds of them.
+-- The layout, the block and the verdict; well formed in plain words; the number of each fault.
 pub mod Data
 pub mod Inventory
 pub mod Layout
 pub mod Block
 pub mod Valid
-pub mod Theorems
--- What the operations answer.
 pub mod Numbers
-pub mod Light
-pub mod Sections
+-- What is told of a row.
 pub mod Rows
-pub mod Questions
-pub mod RowQuestions
-pub mod AskedRows
--- What contracts cite beside: the code's answers, its tables, and how far it has come.
+-- What contracts cite beside: the code's answers, and its tables.
 pub mod Table
 pub mod Told
 pub mod ListKinds
 pub mod MetadataChecks
 pub mod Params
 pub mod Bounds
-pub mod Scan

@@ -54,7 +54,7 @@ fn greatest_of(columns: &[u8; COLUMNS], first: usize) -> u8
 }
 
 // Gives a number that no id is above, where the bytes hold 4,096 ids.
-pub(crate) fn id_bound(s: &[u8]) -> usize
+pub fn id_bound(s: &[u8]) -> usize
     ensures bounded { λ r. ⌜ r < 65536 ⌝ }
     ensures told { λ r. ⌜ (8192 ≤ length (now (s .entry)) → IdsWithin (now (s .entry)) r) ⌝ }
 {

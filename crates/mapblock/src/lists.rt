@@ -74,7 +74,7 @@ fn old_metadata(version: u8, s: &[u8]) -> Reach
 }
 
 // Reads the metadata, step 5 of the layout, and tells where it ends.
-pub(crate) fn metadata_list(version: u8, s: &[u8]) -> Reach
+pub fn metadata_list(version: u8, s: &[u8]) -> Reach
     ensures { λ r. ⌜ toldReach r ≡ ended (metadata version .read (now (s .entry))) ⌝ }
 {
     if version < 23 {
@@ -91,7 +91,7 @@ pub(crate) fn metadata_list(version: u8, s: &[u8]) -> Reach
 }
 
 // Reads the static objects, step 6, and tells where they end.
-pub(crate) fn object_list(version: u8, s: &[u8]) -> Reach
+pub fn object_list(version: u8, s: &[u8]) -> Reach
     ensures { λ r. ⌜ toldReach r ≡ ended (objects .read (now (s .entry))) ⌝ }
 {
     fixed_list(ListKind::Objects, version, s, 0, Fault::ObjectVersion)
@@ -157,7 +157,7 @@ fn byte_of_23(s: &[u8]) -> EarlyRead
 }
 
 // Reads what follows the metadata: it depends on the version, and from 25 on it is nothing.
-pub(crate) fn early_timers(version: u8, s: &[u8]) -> EarlyRead
+pub fn early_timers(version: u8, s: &[u8]) -> EarlyRead
     ensures { λ r. ⌜ toldEarly r ≡ mapRead timerByte (earlyTimers version .read (now (s .entry))) ⌝ }
 {
     if version == 24 {
@@ -170,7 +170,7 @@ pub(crate) fn early_timers(version: u8, s: &[u8]) -> EarlyRead
 }
 
 // Reads the timers at the end, step 8, which stand there from version 25 on.
-pub(crate) fn late_timers(version: u8, s: &[u8]) -> Reach
+pub fn late_timers(version: u8, s: &[u8]) -> Reach
     ensures { λ r. ⌜ toldReach r ≡ ended (lateTimers version .read (now (s .entry))) ⌝ }
 {
     if version < 25 {

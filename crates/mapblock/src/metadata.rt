@@ -253,7 +253,7 @@ fn row(values: bool, version: u8, s: &[u8]) -> MetadataRead
 }
 
 // Reads the row at the front of the bytes, judged alone.
-pub(crate) fn metadata_row(version: u8, s: &[u8]) -> MetadataRead
+pub fn metadata_row(version: u8, s: &[u8]) -> MetadataRead
     ensures { λ r. ⌜ toldMetadata r
         ≡ mapRead (metadataFields version) (metadataRow version [] .read (now (s .entry))) ⌝ }
 {

@@ -93,7 +93,7 @@ fn new_name_row(s: &[u8], ids: &[u8; IDS]) -> NameRead
 }
 
 // Takes the marks of so many rows off the table.
-pub(crate) fn unmark(s: &[u8], count: u16, ids: &mut [u8; IDS])
+pub fn unmark(s: &[u8], count: u16, ids: &mut [u8; IDS])
     ensures { λ _. ⌜ now (ids .exit) ≡ unmarked (now (ids .entry)) (frontRows count (now (s .entry))) ⌝ }
 {
     let mut rest = s;
@@ -116,7 +116,7 @@ pub(crate) fn unmark(s: &[u8], count: u16, ids: &mut [u8; IDS])
 }
 
 // Does nothing: its contract tells proofs that a table has the length that its type says.
-pub(crate) fn sized(ids: &[u8; IDS])
+pub fn sized(ids: &[u8; IDS])
     ensures { λ _. ⌜ length (now (ids .entry)) ≡ 65536 ⌝ }
 {
     let _whole: &[u8] = ids;
@@ -175,7 +175,7 @@ pub enum NameMappingRead {
 }
 
 // Reads timestamp and names and marks the ids; on a refusal the table is as it was.
-pub(crate) fn name_mapping(s: &[u8], ids: &mut [u8; IDS]) -> NameMappingRead
+pub fn name_mapping(s: &[u8], ids: &mut [u8; IDS]) -> NameMappingRead
     ensures told { λ r. ⌜ toldMapping r
         ≡ mapRead shownMapping (nameMapping (freeIn (now (ids .entry))) .read (now (s .entry))) ⌝ }
     ensures { λ r. ⌜ NameMappingMarked (now (ids .entry)) (now (ids .exit))

@@ -56,7 +56,7 @@ fn params(version: u8, s: &[u8]) -> Reach
 }
 
 // Reads the two widths, and the lists behind them.
-pub(crate) fn node_data(version: u8, s: &[u8]) -> Reach
+pub fn node_data(version: u8, s: &[u8]) -> Reach
     ensures { λ r. ⌜ toldReach r ≡ ended (nodes version .read (now (s .entry))) ⌝ }
 {
     let U8::Value(content) = u8_at(s, 0) else {
@@ -173,7 +173,7 @@ fn holds_lists(version: u8, s: &[u8]) -> bool
 }
 
 // Finds the first node whose content id is not marked as mapped, in any bytes: none where they do not hold the lists.
-pub(crate) fn first_unmapped(version: u8, s: &[u8], ids: &[u8; IDS]) -> FirstUnmapped
+pub fn first_unmapped(version: u8, s: &[u8], ids: &[u8; IDS]) -> FirstUnmapped
     ensures { λ r. ⌜ toldUnmapped r ≡ firstUnmappedOf version (now (s .entry)) (now (ids .entry)) ⌝ }
 {
     if holds_lists(version, s) {
@@ -187,7 +187,7 @@ pub(crate) fn first_unmapped(version: u8, s: &[u8], ids: &[u8; IDS]) -> FirstUnm
 }
 
 // Gives the content id of the node at an index, and 0 where there is none.
-pub(crate) fn id_of(version: u8, s: &[u8], i: usize) -> usize
+pub fn id_of(version: u8, s: &[u8], i: usize) -> usize
     ensures { λ r. ⌜ r ≡ idOf version (now (s .entry)) i ⌝ }
 {
     if NODES <= i {

@@ -20,7 +20,7 @@ pub enum PositionRead {
 }
 
 // Reads the position at the front of a row.
-pub(crate) fn position(s: &[u8]) -> PositionRead
+pub fn position(s: &[u8]) -> PositionRead
     ensures { λ r. ⌜ toldPosition r ≡ position .read (now (s .entry)) ⌝ }
 {
     match u16_at(s, 0) {
@@ -36,7 +36,7 @@ pub(crate) fn position(s: &[u8]) -> PositionRead
 }
 
 // Reads the position at the front of a row, after rows whose positions are marked, and marks it too.
-pub(crate) fn new_position(s: &[u8], marks: &mut [u8; NODES]) -> PositionRead
+pub fn new_position(s: &[u8], marks: &mut [u8; NODES]) -> PositionRead
     ensures { λ r. ⌜ PositionMarked (now (s .entry)) (now (marks .entry)) (now (marks .exit)) r ⌝ }
 {
     let r = position(s);

@@ -93,7 +93,7 @@ pub fn rows(kind: ListKind, version: u8, s: &[u8], count: u16) -> Reach
 const COUNT_LENGTH: usize = 2;
 
 // Reads a count and so many rows.
-pub(crate) fn listed(kind: ListKind, version: u8, s: &[u8]) -> Reach
+pub fn listed(kind: ListKind, version: u8, s: &[u8]) -> Reach
     ensures { λ r. ⌜ toldReach r ≡ ended (listed 2 (rowAfter kind version) .read (now (s .entry))) ⌝ }
 {
     let U16::Value(count) = u16_at(s, 0) else {

@@ -37,7 +37,7 @@ const TIMEOUT_AT: usize = POSITION_LENGTH;
 const ELAPSED_AT: usize = 6;
 
 // Reads the row at the front of the bytes, judged alone.
-pub(crate) fn timer_row(s: &[u8]) -> TimerRead
+pub fn timer_row(s: &[u8]) -> TimerRead
     ensures { λ r. ⌜ toldTimer r ≡ mapRead timerFields (timerRow [] .read (now (s .entry))) ⌝ }
 {
     match position(s) {

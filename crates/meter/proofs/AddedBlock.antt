@@ -8,11 +8,11 @@ use Rattle.wire.specs.Ranges.{bytesIn}
 use Rattle.position.specs.declared.key.Coordinates.{Coordinates}
 use Rattle.position.specs.declared.part.Part.{Part}
 use Rattle.mapblock.specs.Data.{Block}
-use Rattle.mapblock.specs.Questions.{NameRun}
+use Rattle.block_reader.specs.Questions.{NameRun}
 use Rattle.mapblock.specs.Table.{unmarked, allRows}
 use Rattle.mapblock.specs.Valid.{Valid}
-use Rattle.mapblock.specs.declared.scan.Scanned.{Scanned}
-use Rattle.mapblock.proofs.NameWalks.{all-run}
+use Rattle.block_reader.specs.declared.scan.Scanned.{Scanned}
+use Rattle.block_reader.proofs.NameWalks.{all-run}
 use Rattle.tally.specs.Rows.{Rows, plus, countIn, Canonical}
 use Rattle.tally.specs.Tally.{ones}
 use Rattle.tally.proofs.Canon.{count-plus, canonical-plus, determined}

@@ -23,10 +23,10 @@ use Rattle.position.specs.declared.key.Coordinates.{Coordinates}
 use Rattle.position.proofs.Theorems.{keys-have-triples, node-in-the-world}
 use Rattle.mapblock.specs.Layout.{all, unused, nameRow, nameMapping, params, nodes, metadata, objects, earlyTimers, lateTimers, opening, front, rest, steps}
 use Rattle.mapblock.specs.Block.{block}
-use Rattle.mapblock.specs.Questions.{nameAt}
+use Rattle.block_reader.specs.Questions.{nameAt}
 use Rattle.mapblock.specs.Valid.{Valid}
-use Rattle.mapblock.proofs.ValidOk.{valid-is-ok}
-use Rattle.mapblock.proofs.Taken.{airAt, air-valid}
+use Rattle.block_reader.proofs.ValidOk.{valid-is-ok}
+use Rattle.block_reader.proofs.Taken.{airAt, air-valid}
 use Rattle.position.specs.declared.part.Part.{Part}
 use Rattle.sheet.specs.Placed.{Placed, placed, placedAt}
 use Rattle.meter.specs.Standing.{Node, inPart, nodeIn, nodesFrom, filterNodes, nodesIn}

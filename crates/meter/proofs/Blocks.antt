@@ -10,9 +10,9 @@ use borrow.Author.Tests.{le-leb}
 use Rattle.wire.specs.Bytes.{Bytes, bytes-nil}
 use Rattle.mapblock.specs.Data.{NameRow}
 use Rattle.mapblock.specs.Block.{block, idAt}
-use Rattle.mapblock.specs.Questions.{nameOf}
+use Rattle.block_reader.specs.Questions.{nameOf}
 use Rattle.mapblock.specs.Valid.{Each, NameGood, Valid}
-use Rattle.mapblock.proofs.Taken.{taken}
+use Rattle.block_reader.proofs.Taken.{taken}
 use Rattle.tally.specs.Rows.{isName, Canonical}
 use Rattle.position.specs.declared.part.Part.{Part}
 use Rattle.sheet.specs.Placed.{Placed}

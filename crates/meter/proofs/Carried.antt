@@ -13,7 +13,7 @@ use Rattle.wire.specs.Answer.{Answer, good, refusal, plain, badPart, partsMisfi
 use Rattle.wire.specs.Store.{stored, overwrite}
 use Rattle.wire.proofs.Overwrites.{stored-fits, overwrite-length}
 use Rattle.position.specs.declared.key.Coordinates.{Coordinates}
-use Rattle.mapblock.specs.declared.scan.Scanned.{Scanned}
+use Rattle.block_reader.specs.declared.scan.Scanned.{Scanned}
 use Rattle.tally.specs.Rows.{Rows, plus}
 use Rattle.tally.specs.Tally.{tally, headBytes, maxRows, ones, one}
 use Rattle.tally.specs.Walks.{rowsBytes}

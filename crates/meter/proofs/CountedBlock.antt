@@ -9,7 +9,7 @@ use Rattle.wire.specs.Choice.{bit}
 use Rattle.position.specs.declared.key.Coordinates.{Coordinates}
 use Rattle.position.specs.declared.part.Part.{Part}
 use Rattle.mapblock.specs.Data.{Block}
-use Rattle.mapblock.specs.Questions.{nameAt}
+use Rattle.block_reader.specs.Questions.{nameAt}
 use Rattle.tally.specs.Rows.{isNamed}
 use Rattle.census.specs.CountsById.{countIf}
 use Rattle.census.specs.Census.{inPartAt}

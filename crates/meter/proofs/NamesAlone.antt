@@ -11,7 +11,7 @@ use Rattle.position.specs.Lots.{inLot}
 use Rattle.position.specs.Spans.{inSpan}
 use Rattle.position.specs.declared.key.Coordinates.{Coordinates}
 use Rattle.mapblock.specs.Data.{Block}
-use Rattle.mapblock.specs.Questions.{nameAt}
+use Rattle.block_reader.specs.Questions.{nameAt}
 use Rattle.tally.specs.Rows.{Rows, addRow}
 use Rattle.tally.specs.Tally.{ones}
 use Rattle.position.specs.declared.part.Part.{Part}

@@ -13,7 +13,7 @@ use Rattle.wire.proofs.Lists.{rest-is}
 use Rattle.wire.specs.Bytes.{Bytes}
 use Rattle.position.specs.declared.key.Coordinates.{Coordinates}
 use Rattle.mapblock.specs.Data.{Block}
-use Rattle.mapblock.specs.declared.scan.Scanned.{Scanned}
+use Rattle.block_reader.specs.declared.scan.Scanned.{Scanned}
 use Rattle.tally.proofs.Canon.{plus-unit}
 use lib.Dec.{lit<}
 use Rattle.wire.specs.Answer.{good, refusal, plain, noRoom, tooMany, Answered}

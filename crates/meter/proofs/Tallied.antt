@@ -13,11 +13,11 @@ use Rattle.position.specs.declared.key.Coordinates.{Coordinates}
 use Rattle.mapblock.specs.Data.{Block}
 use Rattle.mapblock.specs.Block.{verdict}
 use Rattle.mapblock.specs.Numbers.{refusalNumber}
-use Rattle.mapblock.specs.Sections.{scannedOf}
+use Rattle.block_reader.specs.Sections.{scannedOf}
 use Rattle.mapblock.specs.Table.{freeIn}
 use Rattle.mapblock.specs.declared.fault.Fault.{Fault}
-use Rattle.mapblock.specs.declared.scan.Scanned.{Scanned}
-use Rattle.mapblock.proofs.BlockAnswers.{clear-table, block-refused, TakenAs, taken-as}
+use Rattle.block_reader.specs.declared.scan.Scanned.{Scanned}
+use Rattle.block_reader.proofs.BlockAnswers.{clear-table, block-refused, TakenAs, taken-as}
 use Rattle.position.specs.declared.part.Part.{Part}
 use Rattle.position.specs.Parts.{goodPart}
 use Rattle.meter.specs.Counting.{byOne}

@@ -5,7 +5,7 @@ use mathlib.Core.List.{List, [], _∷_}
 use lib.ListN.{length}
 use Rattle.position.specs.declared.key.Coordinates.{Coordinates}
 use Rattle.mapblock.specs.Data.{Block}
-use Rattle.mapblock.specs.declared.scan.Scanned.{Scanned}
+use Rattle.block_reader.specs.declared.scan.Scanned.{Scanned}
 use Rattle.tally.specs.Rows.{Rows, plus}
 use Rattle.tally.specs.Tally.{ones}
 use Rattle.census.specs.UsedNames.{totalCount}

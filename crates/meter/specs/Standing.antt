@@ -8,7 +8,7 @@ use Rattle.position.specs.Lots.{inLot}
 use Rattle.position.specs.Spans.{inSpan}
 use Rattle.position.specs.declared.key.Coordinates.{Coordinates}
 use Rattle.mapblock.specs.Data.{MetadataRow}
-use Rattle.mapblock.specs.Questions.{nameAt}
+use Rattle.block_reader.specs.Questions.{nameAt}
 use Rattle.sheet.specs.Placed.{Placed}
 use Rattle.position.specs.declared.part.Part.{Part}
 

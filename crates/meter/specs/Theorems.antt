@@ -17,7 +17,7 @@ use Rattle.position.specs.declared.key.Coordinates.{Coordinates}
 use Rattle.mapblock.specs.Data.{Block}
 use Rattle.mapblock.specs.Layout.{all}
 use Rattle.mapblock.specs.Block.{block}
-use Rattle.mapblock.specs.Questions.{blockOf, nameAt}
+use Rattle.block_reader.specs.Questions.{blockOf, nameAt}
 use Rattle.mapblock.specs.Valid.{Distinct}
 use Rattle.tally.specs.Rows.{countIn}
 use Rattle.tally.specs.Tally.{rowsOf}

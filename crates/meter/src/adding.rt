@@ -1,9 +1,9 @@
 // What stands of one block in a part, added to a running tally.
+use block_reader::scan::Scanned;
 use census::census::take_census;
 use census::clear::clear;
 use mapblock::nodes::IDS;
 use mapblock::nodes::NODES;
-use mapblock::scan::Scanned;
 use position::key::Coordinates;
 use position::part::Part;
 use running_tally::absorb::absorb;

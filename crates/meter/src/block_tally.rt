@@ -1,11 +1,11 @@
 // The tally of one block.
 use crate::adding::add_block;
+use block_reader::scan::ScanRead;
+use block_reader::scan::Scanned;
+use block_reader::scan::scan;
 use mapblock::fault::Fault;
 use mapblock::nodes::IDS;
 use mapblock::nodes::NODES;
-use mapblock::scan::ScanRead;
-use mapblock::scan::Scanned;
-use mapblock::scan::scan;
 use position::key::Coordinates;
 use position::key::SplitAnswer;
 use position::key::split;

@@ -13,12 +13,12 @@ use Rattle.position.specs.declared.key.Coordinates.{Coordinates}
 use Rattle.mapblock.specs.Layout.{all}
 use Rattle.mapblock.specs.Block.{verdict}
 use Rattle.mapblock.specs.Numbers.{refusalNumber}
-use Rattle.mapblock.specs.Questions.{blockOf}
-use Rattle.mapblock.specs.Sections.{scannedOf}
+use Rattle.block_reader.specs.Questions.{blockOf}
+use Rattle.block_reader.specs.Sections.{scannedOf}
 use Rattle.mapblock.specs.Table.{freeIn, clearTable}
 use Rattle.mapblock.specs.declared.fault.Fault.{Fault}
-use Rattle.mapblock.specs.declared.scan.Scanned.{Scanned}
-use Rattle.mapblock.proofs.BlockAnswers.{clear-all}
+use Rattle.block_reader.specs.declared.scan.Scanned.{Scanned}
+use Rattle.block_reader.proofs.BlockAnswers.{clear-all}
 use Rattle.sheet.specs.Placed.{Placed}
 use Rattle.sheet.specs.Sheet.{SheetRecord, rises, judgedIn, judgeRecord}
 use Rattle.sheet.specs.Records.{scannedAt, ScannedAs}

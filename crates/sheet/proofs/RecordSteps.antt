@@ -19,7 +19,7 @@ use Rattle.wire.proofs.Steps.{signed-told, prefixed-told}
 use Rattle.position.specs.Keys.{splitOf}
 use Rattle.position.specs.declared.key.Coordinates.{Coordinates}
 use Rattle.mapblock.specs.Data.{Block}
-use Rattle.mapblock.specs.Questions.{blockOf}
+use Rattle.block_reader.specs.Questions.{blockOf}
 use Rattle.sheet.specs.Placed.{Placed, placed}
 use Rattle.sheet.specs.Sheet.{Misframed, misframed, SheetRecord, frame, sheetHead, rises, judgedIn, judgeRecord, recordsFrom, sheetOf}
 

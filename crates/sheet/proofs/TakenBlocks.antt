@@ -12,10 +12,10 @@ use Rattle.position.specs.Keys.{splitOf}
 use Rattle.mapblock.specs.Data.{Block}
 use Rattle.mapblock.specs.Layout.{all}
 use Rattle.mapblock.specs.Block.{block, verdict}
-use Rattle.mapblock.specs.Questions.{blockAnswer, blockOf}
+use Rattle.block_reader.specs.Questions.{blockAnswer, blockOf}
 use Rattle.mapblock.specs.Valid.{Valid}
 use Rattle.mapblock.specs.declared.fault.Fault.{Fault}
-use Rattle.mapblock.proofs.Taken.{taken}
+use Rattle.block_reader.proofs.Taken.{taken}
 use Rattle.sheet.specs.Placed.{Placed, placed, placedAt}
 
 -- ---- a block that is taken is well formed, and its bytes are the block's

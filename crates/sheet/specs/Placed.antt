@@ -6,7 +6,7 @@ use Rattle.wire.specs.Answer.{Answer, mapAnswer, thenAnswer}
 use Rattle.position.specs.Keys.{splitOf}
 use Rattle.position.specs.declared.key.Coordinates.{Coordinates}
 use Rattle.mapblock.specs.Data.{Block}
-use Rattle.mapblock.specs.Questions.{blockOf}
+use Rattle.block_reader.specs.Questions.{blockOf}
 
 pub record Placed : Type 0 where
   pub at : Coordinates

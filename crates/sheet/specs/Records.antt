@@ -12,8 +12,8 @@ use Rattle.mapblock.specs.Data.{Block}
 use Rattle.mapblock.specs.Layout.{all}
 use Rattle.mapblock.specs.Block.{verdict}
 use Rattle.mapblock.specs.Numbers.{refusalNumber}
-use Rattle.mapblock.specs.Sections.{scannedOf}
-use Rattle.mapblock.specs.declared.scan.Scanned.{Scanned}
+use Rattle.block_reader.specs.Sections.{scannedOf}
+use Rattle.block_reader.specs.declared.scan.Scanned.{Scanned}
 use Rattle.sheet.specs.Placed.{Placed}
 use Rattle.sheet.specs.Sheet.{SheetRecord}
 use Rattle.sheet.specs.declared.records.FrameRead.{FrameRead}

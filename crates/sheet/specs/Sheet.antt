@@ -15,7 +15,7 @@ use Rattle.wire.specs.Answer.{Answer, good, refusal, plain, mapAnswer, sheetMal
 use Rattle.position.specs.Keys.{isKey, splitOf}
 use Rattle.mapblock.specs.Layout.{all}
 use Rattle.mapblock.specs.Block.{verdict}
-use Rattle.mapblock.specs.Questions.{blockAnswer}
+use Rattle.block_reader.specs.Questions.{blockAnswer}
 use Rattle.sheet.specs.Placed.{Placed, placed}
 
 -- ---- the bytes

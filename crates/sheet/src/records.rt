@@ -1,9 +1,9 @@
 // A sheet's records, one at a time.
+use block_reader::scan::ScanRead;
+use block_reader::scan::Scanned;
+use block_reader::scan::scan;
 use mapblock::fault::Fault;
 use mapblock::nodes::IDS;
-use mapblock::scan::ScanRead;
-use mapblock::scan::Scanned;
-use mapblock::scan::scan;
 use position::key::Coordinates;
 use position::key::SplitAnswer;
 use position::key::split;

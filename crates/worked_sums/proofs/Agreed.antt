@@ -4,7 +4,7 @@ use Rattle.wire.specs.Format.{_⨾_, iso, items, readItems, run, refine}
 use Rattle.wire.specs.Formats.{behind, listed, number}
 use Rattle.position.specs.Keys.{between, isKey, joinOf, keyOf, lowered, moved, splitOf}
 use Rattle.mapblock.specs.Inventory.{inventory}
-use Rattle.mapblock.specs.Light.{zeros}
+use Rattle.block_reader.specs.Light.{zeros}
 use Rattle.tally.specs.Tally.{rowsOf, tally}
 use Rattle.tally.specs.Operations.{mergeOf, tallied}
 use Rattle.worked_sums.specs.Sums.{AllAgree}

@@ -13,7 +13,7 @@ use Rattle.position.specs.Spans.{inSpan, spanAt}
 use Rattle.position.specs.declared.key.Coordinates.{Coordinates}
 use Rattle.mapblock.specs.Block.{contentId}
 use Rattle.mapblock.specs.Inventory.{endLine, inventory}
-use Rattle.mapblock.specs.Light.{lightCount}
+use Rattle.block_reader.specs.Light.{lightCount}
 use Rattle.mapblock.specs.declared.fault.Fault.{Fault}
 use Rattle.mapblock.specs.Numbers.{refusalNumber}
 use Rattle.tally.specs.Tally.{one}

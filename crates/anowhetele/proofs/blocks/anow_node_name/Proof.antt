@@ -1,7 +1,7 @@
 use borrow.Author.Needs.{needs}
 use Rattle.wire.proofs.Steps.{told-as}
 use Rattle.anowhetele.specs.Blocks.{noNode, handedNode}
-use Rattle.mapblock.specs.Questions.{toldNodeName}
+use Rattle.block_reader.specs.Questions.{toldNodeName}
 use mathlib.Core.Path.{ap, _∙_}
 use Rattle.anowhetele.proofs.blocks.anow_node_name.Statement.{statement}
 use Rattle.anowhetele.proofs.blocks.anow_node_name.Tie as tie

@@ -1,7 +1,7 @@
 use borrow.Author.Needs.{needs}
 use Rattle.wire.proofs.Steps.{told-as}
 use Rattle.anowhetele.specs.Blocks.{noBlock, handedBlock}
-use Rattle.mapblock.specs.Questions.{toldRead}
+use Rattle.block_reader.specs.Questions.{toldRead}
 use mathlib.Core.Path.{ap, _∙_}
 use Rattle.anowhetele.proofs.blocks.anow_read.Statement.{statement}
 use Rattle.anowhetele.proofs.blocks.anow_read.Tie as tie

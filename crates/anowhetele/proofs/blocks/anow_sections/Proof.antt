@@ -1,7 +1,7 @@
 use borrow.Author.Needs.{needs}
 use Rattle.wire.proofs.Steps.{told-as}
 use Rattle.anowhetele.specs.Blocks.{noBlock, handedBlock}
-use Rattle.mapblock.specs.Questions.{toldSections}
+use Rattle.block_reader.specs.Questions.{toldSections}
 use mathlib.Core.Path.{ap, _∙_}
 use Rattle.anowhetele.proofs.blocks.anow_sections.Statement.{statement}
 use Rattle.anowhetele.proofs.blocks.anow_sections.Tie as tie

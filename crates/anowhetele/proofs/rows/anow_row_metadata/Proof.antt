@@ -1,7 +1,7 @@
 use borrow.Author.Needs.{needs}
 use mathlib.Core.Path.{ap, _∙_}
 use Rattle.wire.proofs.Steps.{told-as}
-use Rattle.mapblock.specs.AskedRows.{toldMetadataRow}
+use Rattle.block_reader.specs.AskedRows.{toldMetadataRow}
 use Rattle.anowhetele.specs.Rows.{noMetadata, handedMetadata}
 use Rattle.anowhetele.proofs.rows.anow_row_metadata.Statement.{statement}
 use Rattle.anowhetele.proofs.rows.anow_row_metadata.Tie as tie

@@ -1,7 +1,7 @@
 use borrow.Author.Needs.{needs}
 use mathlib.Core.Path.{ap, _∙_}
 use Rattle.wire.proofs.Steps.{told-as}
-use Rattle.mapblock.specs.AskedRows.{toldNameRow}
+use Rattle.block_reader.specs.AskedRows.{toldNameRow}
 use Rattle.anowhetele.specs.Rows.{noName, handedName}
 use Rattle.anowhetele.proofs.rows.anow_row_name.Statement.{statement}
 use Rattle.anowhetele.proofs.rows.anow_row_name.Tie as tie

@@ -3,7 +3,7 @@ use mathlib.Core.Path.{ap, _∙_}
 use mir.Syntax.{w32}
 use mir.ValLaws.{toZ-ofZ}
 use Rattle.wire.proofs.Steps.{told-as}
-use Rattle.mapblock.specs.AskedRows.{toldObjectRow}
+use Rattle.block_reader.specs.AskedRows.{toldObjectRow}
 use Rattle.anowhetele.specs.Rows.{noObject, handedObject}
 use Rattle.anowhetele.proofs.rows.anow_row_object.Statement.{statement}
 use Rattle.anowhetele.proofs.rows.anow_row_object.Tie as tie

@@ -3,7 +3,7 @@ use mathlib.Core.Path.{ap, _∙_}
 use mir.Syntax.{w32}
 use mir.ValLaws.{toZ-ofZ}
 use Rattle.wire.proofs.Steps.{told-as}
-use Rattle.mapblock.specs.AskedRows.{toldTimerRow}
+use Rattle.block_reader.specs.AskedRows.{toldTimerRow}
 use Rattle.anowhetele.specs.Rows.{noTimer, handedTimer}
 use Rattle.anowhetele.proofs.rows.anow_row_timer.Statement.{statement}
 use Rattle.anowhetele.proofs.rows.anow_row_timer.Tie as tie

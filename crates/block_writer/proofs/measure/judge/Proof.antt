@@ -8,9 +8,9 @@ use denote.Ref.{now}
 use mathlib.Core.Path.{ap, sym, _∙_}
 use Prim.Native.Nat.{_*_, _<_}
 use Rattle.mapblock.specs.Layout.{width}
-use Rattle.mapblock.proofs.BlockAnswers.{clear-all}
+use Rattle.block_reader.proofs.BlockAnswers.{clear-all}
 use Rattle.mapblock.proofs.Firsts.{first-below}
-use Rattle.mapblock.proofs.Endings.{width-place}
+use Rattle.block_reader.proofs.Endings.{width-place}
 use Rattle.block_writer.specs.BlockParts.{BlockParts, blockParts, made}
 use Rattle.block_writer.proofs.Fitting.{fits-plain, fits-headFits, fits-narrow, fits-timed}
 use Rattle.block_writer.proofs.MadeBlock.{made-by}

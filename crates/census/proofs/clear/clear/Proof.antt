@@ -11,7 +11,7 @@ use Rattle.wire.proofs.Steps.{told-as}
 use Rattle.mapblock.specs.Layout.{all, nameRow}
 use Rattle.mapblock.specs.Rows.{nameFields}
 use Rattle.mapblock.specs.Told.{toldName}
-use Rattle.mapblock.proofs.NameWalks.{row-size, row-inside, all-none, all-refused}
+use Rattle.block_reader.proofs.NameWalks.{row-size, row-inside, all-none, all-refused}
 use Rattle.census.proofs.Cleared.{Clearing, clearing-start, clearing-none, clearing-on}
 use Rattle.census.proofs.clear.clear.Statement.{statement}
 use Rattle.census.proofs.clear.clear.Tie as tie

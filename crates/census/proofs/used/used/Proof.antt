@@ -12,7 +12,7 @@ use Rattle.wire.proofs.Steps.{told-as}
 use Rattle.mapblock.specs.Layout.{all, nameRow}
 use Rattle.mapblock.specs.Rows.{nameFields}
 use Rattle.mapblock.specs.Told.{toldName}
-use Rattle.mapblock.proofs.NameWalks.{row-size, row-inside, all-refused}
+use Rattle.block_reader.proofs.NameWalks.{row-size, row-inside, all-refused}
 use Rattle.census.proofs.UsedWalk.{Using, using-start, using-full, using-none, using-over, using-store}
 use Rattle.census.proofs.used.used.Statement.{statement}
 use Rattle.census.proofs.used.used.Tie as tie

@@ -5,7 +5,7 @@ use mir.ValLaws.{toZ-ofZ}
 use borrow.Author.Tests.{not-true, not-false}
 use Rattle.wire.proofs.Steps.{told-as}
 use Rattle.position.specs.Keys.{splitOf, toldSplit}
-use Rattle.mapblock.specs.Scan.{toldScan}
+use Rattle.block_reader.specs.Scan.{toldScan}
 use Rattle.position.specs.Parts.{goodPart}
 use Rattle.meter.proofs.Tallied.{block-bad, block-astray, block-refuses, block-found, block-put}
 use borrow.Author.Needs.{needs}

@@ -5,7 +5,7 @@ use Rattle.sheet.specs.Sheet.{rises}
 use Rattle.sheet.specs.Records.{lastOf, recordOf}
 use mathlib.Core.Path.{_≡_, refl, sym, _∙_}
 use borrow.Author.Tests.{not-true, not-false}
-use Rattle.mapblock.specs.Scan.{toldScan}
+use Rattle.block_reader.specs.Scan.{toldScan}
 use Rattle.sheet.proofs.Judging.{judged-astray, judged-falling, judged-refused, judged-taken}
 use borrow.Author.Needs.{needs}
 use Rattle.sheet.proofs.records.judge_record.Statement.{statement}
