@@ -17,7 +17,7 @@ same-length-2 : tie.Need-same-length-2
 same-length-2 c = search needs
 
 returns : tie.Need-returns
-returns c = (c .sheet-answer .ensures ∙ ap handed (c .before .before .before .before .before .tally-sheet .ensures .0), c .before .before .before .before .before .tally-sheet .ensures .1)
+returns c = let x = c .before .before .before .before .before in ((c .sheet-answer .ensures ∙ ap handed (x .tally-sheet .ensures .0 .0), x .tally-sheet .ensures .0 .1), x .tally-sheet .ensures .1)
 
 pub anow-tally-sheet-spec : {M : Type 1} → statement M
 anow-tally-sheet-spec =
