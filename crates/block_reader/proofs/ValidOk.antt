@@ -172,7 +172,7 @@ nodes-ok v n = (there, back)
 abbrev idOf : NameRow → ℕ
 idOf r = r .id
 
--- no node is stray exactly where every id is mapped
+-- no node is unmapped exactly where every id is mapped
 mapped-there : (b : Block) → firstUnmapped all b ≡ none → (i : ℕ) → i < 4096 → Has idOf (idAt b i) (b .names)
 mapped-there b h i k = used-has idOf (b .names) (idAt b i) (none-fails (λ i. unmapped all (b .names) (idAt b i)) 4096 0 h i (omega arith) k)
 

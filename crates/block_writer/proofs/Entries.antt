@@ -1,4 +1,4 @@
--- Entries of one or two bytes each, laid from the first on.
+-- Entries of one or two bytes each, put from the first on.
 use Prim.Native.Nat.{ℕ, _+_, _*_, _/_, _%_, _<_, _≤_}
 use mathlib.Core.Path.{_≡_, ap, sym, _∙_}
 use mathlib.Core.List.{List, [], _∷_, _++_, append-assoc, append-nil}
@@ -41,7 +41,7 @@ module _ (w : ℕ) where
   part-length : (l : List ℕ) (i : ℕ) → i ≤ length l → length (entryBytes w (take i l)) ≡ w * i
   part-length l i h = entries-length (take i l) ∙ rw (length-take-le i l h)
 
--- the first i entries are laid
+-- the first i entries are put
 pub record Laying (w at : ℕ) (l d out : List ℕ) (i : ℕ) : Type 0 where
   pub shape : out ≡ overwrite at (entryBytes w (take i l)) d
   pub less : i ≤ length l

@@ -86,7 +86,7 @@ module _ (p : BlockParts) (c : RowCounts) (f : fits p ≡ true) (h : some c ≡ 
     pub small : Small (p .names) × (Small (p .objects) × Small (p .timers))
     small = let j = section-rows in (names-small (held .names) (j .names), (objects-small (held .objects) (j .objects), timers-small (held .timers) (j .timers)))
 
-    -- the bytes that are laid
+    -- the bytes that are put
     bytes-are : block all .encode blockIs ≡ bytesFor p c
     bytes-are =
         let j = section-rows in

@@ -12,7 +12,7 @@ use Rattle.block_writer.specs.declared.counts.RowCounts.{RowCounts}
 use Rattle.block_writer.specs.declared.measure.Measured.{Measured}
 use Rattle.block_writer.specs.declared.measure.Measured.the-variants as measured
 
--- the bytes to be laid
+-- the bytes to be put
 abbrev pub bytesFor : BlockParts → RowCounts → List ℕ
 bytesFor p counts = blockBytes (p .head) counts (p .param0) (p .param1) (p .param2) (p .names) (p .metadata) (p .objects) (p .timers)
 

@@ -272,7 +272,7 @@ module _ (v : ℕ) (s : List ℕ) (i : ℕ) where
       either 24 v (λ h. rw (le-leb 24 v h) (two-below (drop (2 * i) s) (bytes-drop (2 * i) s b)))
       (λ h. rw (← id-old h) (content-below v (getD s i 0) (getD s (8192 + i) 0) (omega (arith, b i)) (b (8192 + i)) (λ _. b i)))
 
--- ---- strays
+-- ---- unmapped ids
 -- a block whose lists are those bytes
 module _ (b : Block) (v : ℕ) (s : List ℕ) (e : b .head .version ≡ v) (h : b .nodes ≡ listsOf (width v) s) where
   pub id-same : (i : ℕ) → i < 4096 → idAt b i ≡ idIn v s i

@@ -1,4 +1,4 @@
--- Where every id up to a bound has a mark, no node is stray.
+-- Where every id up to a bound has a mark, every node has a mapped id.
 use Prim.Native.Nat.{ℕ, _+_, _*_, _<_, _≤_}
 use mathlib.Core.Path.{_≡_, refl}
 use mathlib.Core.List.{List}

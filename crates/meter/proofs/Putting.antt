@@ -60,7 +60,7 @@ module _ (d : List ℕ) (l : Rows ones) where
 head-and-rows : (n : ℕ) (l : Rows ones) → n ≡ length l → headBytes one n ++ rowsBytes one l ≡ tally one .encode l
 head-and-rows n l e = ap (λ (i : ℕ). headBytes one i ++ rowsBytes one l) e ∙ sym (tally-bytes one l)
 
--- a tally laid over the front of a buffer
+-- a tally put over the front of a buffer
 pub tally-overwrite : (n : ℕ) (l : Rows ones) (d : List ℕ) → n ≡ length l → length (tally one .encode l) ≤ length d
     → overwrite 9 (rowsBytes one l) (stored 0 (headBytes one n) d) ≡ tally one .encode l ++ drop (length (tally one .encode l)) d
 tally-overwrite n l d e h =

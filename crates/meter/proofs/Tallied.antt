@@ -33,9 +33,9 @@ module _ (key : ℤ) (s : List ℕ) (p : Part) (d : List ℕ) where
   block-bad h = rw h (refl, refl)
 
   module _ (h : goodPart p ≡ true) where
-    pub block-astray : plain outOfRange ≡ splitOf key → Answered (plain outOfRange) d d (tallyBlockOf byOne key s p (length d))
+    pub block-out-of-range : plain outOfRange ≡ splitOf key → Answered (plain outOfRange) d d (tallyBlockOf byOne key s p (length d))
     unfolding tallyBlockOf placedAt
-    block-astray k = rw (h, ← k) (refl, refl)
+    block-out-of-range k = rw (h, ← k) (refl, refl)
 
     module _ {c : Coordinates} (k : good c ≡ splitOf key) where
       pub block-refuses : {f : Fault} {o : ℕ} → refused f o ≡ mapRead scannedOf (verdict (freeIn (replicate 65536 0)) s) → Answered (refusal (refusalNumber f) 0 o) d d (tallyBlockOf byOne key s p (length d))

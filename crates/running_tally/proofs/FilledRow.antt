@@ -26,7 +26,7 @@ use Rattle.running_tally.specs.declared.absorb.Hole.{Hole}
 use Rattle.running_tally.proofs.Counts.{count-append, count-below, below-weak, canonical-behind, totalCount-append, totalFits-limited}
 use Rattle.running_tally.proofs.RaisedRow.{passes, row-has, place-not, may-canonical}
 
--- what stands behind bytes that were laid
+-- what stands behind bytes that were put
 overwrite-behind : (at : ℕ) (b d : List ℕ) (m : ℕ) → at + length b ≤ length d → at + length b ≤ m → drop m (overwrite at b d) ≡ drop m d
 overwrite-behind at b d m h k =
     let past : at + length b + (m - (at + length b)) ≡ m = omega arith in

@@ -30,9 +30,9 @@ module _ (free : ℕ → Bool) (last : Option ℤ) (r : SheetRecord) where
   abbrev judged : Answer (Coordinates × Scanned)
   judged = mapAnswer scannedAt (judgedIn free last r)
 
-  pub judged-astray : plain outOfRange ≡ splitOf (r .key) → plain outOfRange ≡ judged
+  pub judged-out-of-range : plain outOfRange ≡ splitOf (r .key) → plain outOfRange ≡ judged
   unfolding judgedIn
-  judged-astray h = rw (sym h)
+  judged-out-of-range h = rw (sym h)
 
   module _ {c : Coordinates} (h : good c ≡ splitOf (r .key)) where
     pub judged-falling : rises last (r .key) ≡ false → plain sheetMalformed ≡ judged

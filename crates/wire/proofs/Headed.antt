@@ -62,7 +62,7 @@ module _ (m : List ℕ) (three : length m ≡ 3) (v : ℕ) (s : List ℕ) {E A :
 
 -- which of the two it is, whatever follows
 data Opening (m : List ℕ) (v : ℕ) (s : List ℕ) : Type 1 where
-  astray : (p : ℕ) → ((E A : Type 0) (e : E) (f : Format E e A) → headed m v e f .read s ≡ refused e p) → Opening m v s
+  misheaded : (p : ℕ) → ((E A : Type 0) (e : E) (f : Format E e A) → headed m v e f .read s ≡ refused e p) → Opening m v s
   opens : ((E A : Type 0) (e : E) (f : Format E e A) → headed m v e f .read s ≡ behindHead (f .read (drop 5 s))) → Opening m v s
 
 module _ (m : List ℕ) (three : length m ≡ 3) (v : ℕ) (s : List ℕ) where
@@ -70,9 +70,9 @@ module _ (m : List ℕ) (three : length m ≡ 3) (v : ℕ) (s : List ℕ) where
   opening = go (starts m s) refl (leb 2 (length (drop 3 s))) refl (eqb (fromBE 0 (take 2 (drop 3 s))) v) refl
     where
       go : (a : Bool) → starts m s ≡ a → (b : Bool) → leb 2 (length (drop 3 s)) ≡ b → (c : Bool) → eqb (fromBE 0 (take 2 (drop 3 s))) v ≡ c → Opening m v s
-      go false h b i c j = astray 0 (λ E A e f. headed-unmarked m three v s e f h)
-      go true h false i c j = astray 3 (λ E A e f. headed-unversioned m three v s e f h (sym (number-ends short 2 (drop 3 s) (leb-false _ _ i))))
-      go true h true i false j = astray 3 (λ E A e f. headed-other m three v s e f h (sym (number-done short 2 (drop 3 s) (leb-true _ _ i))) (eqb-false _ _ j))
+      go false h b i c j = misheaded 0 (λ E A e f. headed-unmarked m three v s e f h)
+      go true h false i c j = misheaded 3 (λ E A e f. headed-unversioned m three v s e f h (sym (number-ends short 2 (drop 3 s) (leb-false _ _ i))))
+      go true h true i false j = misheaded 3 (λ E A e f. headed-other m three v s e f h (sym (number-done short 2 (drop 3 s) (leb-true _ _ i))) (eqb-false _ _ j))
       go true h true i true j = opens (λ E A e f. headed-on m three v s e f h (sym (number-done short 2 (drop 3 s) (leb-true _ _ i))) (eqb-true _ _ j))
 
   -- f and g behind the same mark and version
@@ -84,7 +84,7 @@ module _ (m : List ℕ) (three : length m ≡ 3) (v : ℕ) (s : List ℕ) where
         later k (at-place q i) = at-place _ (k ∙ ap behindHead i)
 
         go : Opening m v s → Misread (headed m v d g .read s)
-        go (astray q k) = at-place q (k F B d g)
+        go (misheaded q k) = at-place q (k F B d g)
         go (opens k) =
             let y = behind-refused (f .read (drop 5 s)) (sym (k E A e f) ∙ h) in
             later (k F B d g) (more x (y .0) (y .1))
@@ -94,7 +94,7 @@ module _ (m : List ℕ) (three : length m ≡ 3) (v : ℕ) (s : List ℕ) where
     headed-done {a} {n} h = go opening
       where
         go : Opening m v s → (f .read (drop 5 s) ≡ done a (n - 5)) × (headed m v d g .read s ≡ behindHead (g .read (drop 5 s)))
-        go (astray q k) = not-done (sym (k E A e f) ∙ h)
+        go (misheaded q k) = not-done (sym (k E A e f) ∙ h)
         go (opens k) = (behind-done (f .read (drop 5 s)) a n (sym (k E A e f) ∙ h), k F B d g)
 
 -- ---- of the whole head the same is found, whatever the fault
@@ -107,7 +107,7 @@ module _ (m : List ℕ) (three : length m ≡ 3) (s : List ℕ) {E F : Type 0} (
       same-number false h = rw (number-ends e 4 (drop 5 s) (leb-false _ _ h), number-ends d 4 (drop 5 s) (leb-false _ _ h))
 
       go : Opening m 1 s → toOption (head {ends = e} m .read s) ≡ toOption (head {ends = d} m .read s)
-      go (astray p k) = ap toOption (k E ℕ e u32) ∙ toOption-is (k F ℕ d u32)
+      go (misheaded p k) = ap toOption (k E ℕ e u32) ∙ toOption-is (k F ℕ d u32)
       go (opens k) = ap toOption (k E ℕ e u32) ∙ same-number (leb 4 (length (drop 5 s))) refl ∙ toOption-is (k F ℕ d u32)
 
 -- ---- written

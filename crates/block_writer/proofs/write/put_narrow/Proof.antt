@@ -1,4 +1,4 @@
--- The invariant: the first i entries are laid, in one byte each. The measure: the number of entries from i on.
+-- The invariant: the first i entries are put, in one byte each. The measure: the number of entries from i on.
 use borrow.Author.Needs.{needs}
 use Prim.Native.Nat.{_-_}
 use mathlib.Core.Path.{_≡_}

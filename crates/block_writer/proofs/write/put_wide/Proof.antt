@@ -1,4 +1,4 @@
--- The invariant: the first i entries are laid, in two bytes each. The measure: the number of entries from i on.
+-- The invariant: the first i entries are put, in two bytes each. The measure: the number of entries from i on.
 use borrow.Author.Needs.{needs}
 use Prim.Native.Nat.{_-_}
 use mathlib.Core.Path.{_≡_}

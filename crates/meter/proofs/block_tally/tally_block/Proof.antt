@@ -7,7 +7,7 @@ use Rattle.wire.proofs.Steps.{told-as}
 use Rattle.position.specs.Keys.{splitOf, toldSplit}
 use Rattle.block_reader.specs.Scan.{toldScan}
 use Rattle.position.specs.Parts.{goodPart}
-use Rattle.meter.proofs.Tallied.{block-bad, block-astray, block-refuses, block-found, block-put}
+use Rattle.meter.proofs.Tallied.{block-bad, block-out-of-range, block-refuses, block-found, block-put}
 use borrow.Author.Needs.{needs}
 use Rattle.meter.proofs.block_tally.tally_block.Statement.{statement}
 use Rattle.meter.proofs.block_tally.tally_block.Tie as tie
@@ -35,7 +35,7 @@ enum-told : tie.Need-enum-told
 enum-told c = search needs
 
 returns-2 : tie.Need-returns-2
-returns-2 c = block-astray _ _ (c .before .before .before .before .before .before .before .args .part) (now (c .before .before .before .before .before .before .before .args .out)) (part-told (c .before .before .before .before) (not-false _ (c .before .before .before .if1 .left))) (told-as toldSplit (told (c .before .before)) (c .enum-told .given .1))
+returns-2 c = block-out-of-range _ _ (c .before .before .before .before .before .before .before .args .part) (now (c .before .before .before .before .before .before .before .args .out)) (part-told (c .before .before .before .before) (not-false _ (c .before .before .before .if1 .left))) (told-as toldSplit (told (c .before .before)) (c .enum-told .given .1))
 
 scan-requires : tie.Need-scan-requires
 scan-requires c κs = search needs

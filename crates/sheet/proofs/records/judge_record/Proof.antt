@@ -6,7 +6,7 @@ use Rattle.sheet.specs.Records.{lastOf, recordOf}
 use mathlib.Core.Path.{_≡_, refl, sym, _∙_}
 use borrow.Author.Tests.{not-true, not-false}
 use Rattle.block_reader.specs.Scan.{toldScan}
-use Rattle.sheet.proofs.Judging.{judged-astray, judged-falling, judged-refused, judged-taken}
+use Rattle.sheet.proofs.Judging.{judged-out-of-range, judged-falling, judged-refused, judged-taken}
 use borrow.Author.Needs.{needs}
 use Rattle.sheet.proofs.records.judge_record.Statement.{statement}
 use Rattle.sheet.proofs.records.judge_record.Tie as tie
@@ -28,7 +28,7 @@ enum-told : tie.Need-enum-told
 enum-told c = search needs
 
 returns : tie.Need-returns
-returns c = (refl, judged-astray _ _ (recordOf _ _) (told-as toldSplit (told (c .before .before)) (c .enum-told .given .1)))
+returns c = (refl, judged-out-of-range _ _ (recordOf _ _) (told-as toldSplit (told (c .before .before)) (c .enum-told .given .1)))
 
 is-rising-requires : tie.Need-is-rising-requires
 is-rising-requires c κs = search needs
