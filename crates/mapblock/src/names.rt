@@ -178,7 +178,7 @@ pub enum NameMappingRead {
 pub fn name_mapping(s: &[u8], ids: &mut [u8; IDS]) -> NameMappingRead
     ensures told { λ r. ⌜ toldMapping r
         ≡ mapRead shownMapping (nameMapping (freeIn (now (ids .entry))) .read (now (s .entry))) ⌝ }
-    ensures { λ r. ⌜ NameMappingMarked (now (ids .entry)) (now (ids .exit))
+    ensures marked { λ r. ⌜ NameMappingMarked (now (ids .entry)) (now (ids .exit))
         (nameMapping (freeIn (now (ids .entry))) .read (now (s .entry))) ⌝ }
 {
     let U32::Value(timestamp) = u32_at(s, 0) else {

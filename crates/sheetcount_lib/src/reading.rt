@@ -70,7 +70,7 @@ fn read_block(input: i32, size: usize, bytes: &mut [u8]) -> BytesRead
 fn read_record(input: i32, bytes: &mut [u8]) -> BytesRead
     requires { ⌜ length (now bytes) ≡ longest ⌝ }
     ensures told { λ r. ⌜ Within (length (now (bytes .entry))) r ⌝ }
-    ensures { λ r. ⌜ RecordWithin (now (bytes .exit)) r ⌝ }
+    ensures inside { λ r. ⌜ RecordWithin (now (bytes .exit)) r ⌝ }
 {
     let BytesRead::Bytes(head) = read_bytes(input, &mut bytes[..BLOCK_AT]) else {
         return BytesRead::Failed;
