@@ -150,7 +150,8 @@ pub(crate) fn count_in(
     ensures counts { λ _. ⌜
         (holdsLists version (now (lists .entry)) ≡ true
         → CountsById version (now (lists .entry)) lot at (now (counts .entry)) (now (counts .exit))) ⌝ }
-    ensures kept { λ _. ⌜ (holdsLists version (now (lists .entry)) ≡ false → now (counts .exit) ≡ now (counts .entry)) ⌝ }
+    ensures kept { λ _. ⌜ (holdsLists version (now (lists .entry)) ≡ false
+        → now (counts .exit) ≡ now (counts .entry)) ⌝ }
 {
     sized(counts);
     if NODES * width(version) + 2 * NODES <= lists.len() {
