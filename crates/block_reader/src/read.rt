@@ -85,14 +85,18 @@ fn fill(version: u8, s: &[u8], param0: &mut [u16], param1: &mut [u8], param2: &m
     ensures param2 { λ _. ⌜ now (param2 .exit)
         ≡ entries 1 4096 (drop (4096 * width version + 4096) (now (s .entry))) ⌝ }
 {
-    let w = width(version);
+    let entry = width(version);
     if version < 24 {
         fill8(s, param0);
     } else {
         fill16(s, param0);
     }
-    put_bytes(param1, 0, &s[NODES * w..NODES * w + NODES]);
-    put_bytes(param2, 0, &s[NODES * w + NODES..NODES * w + 2 * NODES]);
+    put_bytes(param1, 0, &s[NODES * entry..NODES * entry + NODES]);
+    put_bytes(
+        param2,
+        0,
+        &s[NODES * entry + NODES..NODES * entry + 2 * NODES],
+    );
 }
 
 // Fills the three lent lists of a block that is taken, and tells its head and where its sections are. A refusal leaves the lists as they were.

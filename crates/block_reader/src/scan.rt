@@ -123,7 +123,8 @@ fn opening(s: &[u8]) -> OpeningRead
     }
 }
 
-// What is read up to the end of the node data. Version 29's names stand in front, with their timestamp and number; `lists` is where the param lists start.
+// What is read up to the end of the node data. Version 29's names stand in front, with their timestamp and number;
+// `lists` is where the param lists start.
 pub struct FrontFields {
     pub version: u8,
     pub flags: u8,

@@ -16,16 +16,16 @@ const NEWLINE: u8 = 10;
 pub fn inventory(s: &[u8]) -> Reach
     ensures { λ r. ⌜ toldReach r ≡ ended (inventory .read (now (s .entry))) ⌝ }
 {
-    let mut p: usize = 0;
+    let mut at: usize = 0;
     let mut fresh = true;
-    while p < s.len() {
+    while at < s.len() {
         if fresh {
-            if mark_at(s, p, b"EndInventory\n") {
-                return Reach::End(p + END_LINE_LENGTH);
+            if mark_at(s, at, b"EndInventory\n") {
+                return Reach::End(at + END_LINE_LENGTH);
             }
         }
-        fresh = s[p] == NEWLINE;
-        p += 1;
+        fresh = s[at] == NEWLINE;
+        at += 1;
     }
     Reach::Refused {
         fault: Fault::Ends,

@@ -122,7 +122,8 @@ pub fn sized(ids: &[u8; IDS])
     let _whole: &[u8] = ids;
 }
 
-// Reads so many rows and marks their ids; on a refusal the table is as it was. That the table has the length that its type says is for callers' proofs.
+// Reads so many rows and marks their ids; on a refusal the table is as it was.
+// That the table has the length that its type says is for callers' proofs.
 pub fn name_rows(s: &[u8], count: u16, ids: &mut [u8; IDS]) -> Reach
     ensures told { λ r. ⌜ toldReach r
         ≡ ended (items (nameRow (freeIn (now (ids .entry)))) count .read (now (s .entry))) ⌝ }

@@ -39,20 +39,20 @@ pub fn width(version: u8) -> usize
 fn params(version: u8, s: &[u8]) -> Reach
     ensures { λ r. ⌜ toldReach r ≡ ended (params version .read (now (s .entry))) ⌝ }
 {
-    let w = width(version);
-    if s.len() < NODES * w {
+    let entry = width(version);
+    if s.len() < NODES * entry {
         return Reach::Refused {
             fault: Fault::Ends,
-            offset: s.len() / w * w,
+            offset: s.len() / entry * entry,
         };
     }
-    if s.len() < NODES * w + 2 * NODES {
+    if s.len() < NODES * entry + 2 * NODES {
         return Reach::Refused {
             fault: Fault::Ends,
             offset: s.len(),
         };
     }
-    Reach::End(NODES * w + 2 * NODES)
+    Reach::End(NODES * entry + 2 * NODES)
 }
 
 // Reads the two widths, and the lists behind them.

@@ -15,6 +15,19 @@ use mathlib.Core.Path.{_≡_, refl}
 use Rattle.block_reader.proofs.scan.behind_front.Statement.{statement}
 use Rattle.block_reader.proofs.scan.behind_front.Tie as tie
 
+-- places on the way, each from one that lies further on
+abbrev start : tie.After-lists → tie.Start
+start c = c .before .before .before .before .before
+
+abbrev at-shared-slice-known : tie.After-lists → tie.After-shared-slice-known
+at-shared-slice-known c = c .before .before .before .before
+
+abbrev at-lists : tie.After-rows-of → tie.After-lists
+at-lists c = c .before .before .before .before .before
+
+abbrev at-lists-2 : tie.After-struct-known2 → tie.After-lists
+at-lists-2 c = c .before .before .before .before
+
 bytes : (c : tie.After-shared-slice-known) → Bytes (now (c .before .args .s))
 bytes c i = c .shared-slice-known .given i .fits
 
@@ -52,40 +65,40 @@ enum-known-lists : tie.Need-enum-known-lists
 enum-known-lists c = search needs
 
 names-behind-requires : tie.Need-names-behind-requires
-names-behind-requires c κs = (c .before .if1 .taken, c .before .before .before .before .before .before .before .before .before .pre, lists-are (c .before .before .before .before))
+names-behind-requires c κs = (c .before .if1 .taken, start (c .before .before .before .before) .pre, lists-are (c .before .before .before .before))
 
 returns : tie.Need-returns
 returns c = search needs
 
 sub-rows-of : tie.Need-sub-rows-of
-sub-rows-of c = let r = names-room _ _ _ _ (c .before .before .before .before .before .before .before .before .before .pre .1) _ (lists-are (c .before .before .before .before)) (bytes (c .before .before .before .before .before .before .before .before)) (omega (arith, c .before .if1 .left)) in omega (arith, r)
+sub-rows-of c = let r = names-room _ _ _ _ (start (c .before .before .before .before) .pre .1) _ (lists-are (c .before .before .before .before)) (bytes (at-shared-slice-known (c .before .before .before .before))) (omega (arith, c .before .if1 .left)) in omega (arith, r)
 
 rows-of-requires : tie.Need-rows-of-requires
 rows-of-requires c κs =
-    let r = names-room _ _ _ _ (c .before .before .before .before .before .before .before .before .before .pre .1) _ (lists-are (c .before .before .before .before)) (bytes (c .before .before .before .before .before .before .before .before)) (omega (arith, c .before .if1 .left)) in
-    let l : c .before .before .before .before .before .before .before .before .before .args .front .lists ≤ length (now (c .before .before .before .before .before .before .before .before .before .args .s)) = omega (arith, front-inside _ _ _ _ (c .before .before .before .before .before .before .before .before .before .pre .1), c .before .before .before .before .before .before .before .before .before .pre .1 .ends) in
-    (omega arith, omega (arith, c .before .before .before .before .before .before .before .before .before .good .0 .0))
+    let r = names-room _ _ _ _ (start (c .before .before .before .before) .pre .1) _ (lists-are (c .before .before .before .before)) (bytes (at-shared-slice-known (c .before .before .before .before))) (omega (arith, c .before .if1 .left)) in
+    let l : start (c .before .before .before .before) .args .front .lists ≤ length (now (start (c .before .before .before .before) .args .s)) = omega (arith, front-inside _ _ _ _ (start (c .before .before .before .before) .pre .1), start (c .before .before .before .before) .pre .1 .ends) in
+    (omega arith, omega (arith, start (c .before .before .before .before) .good .0 .0))
 
 without-late-timers-requires : tie.Need-without-late-timers-requires
-without-late-timers-requires c κs = sized _ _ _ _ (c .before .before .before .before .before .before .before .before .before .before .pre .1) _ (lists-are (c .before .before .before .before .before)) (bytes (c .before .before .before .before .before .before .before .before .before)) (c .before .before .before .before .before .before .before .before .before .before .good .0 .0)
+without-late-timers-requires c κs = sized _ _ _ _ (start (at-lists c) .pre .1) _ (lists-are (c .before .before .before .before .before)) (bytes (at-lists c .before .before .before .before)) (start (at-lists c) .good .0 .0)
 
 add-ending : tie.Need-add-ending
-add-ending c = omega (arith, inside (c .before .before .before .before .before .before .before), c .before .before .before .before .before .before .before .before .before .before .before .before .good .0 .0)
+add-ending c = omega (arith, inside (at-lists (c .before .before)), start (at-lists (c .before .before)) .good .0 .0)
 
 add-ending-2 : tie.Need-add-ending-2
-add-ending-2 c = omega (arith, inside (c .before .before .before .before .before .before .before .before), c .before .before .before .before .before .before .before .before .before .before .before .before .before .good .0 .0)
+add-ending-2 c = omega (arith, inside (at-lists (c .before .before .before)), start (at-lists (c .before .before .before)) .good .0 .0)
 
 add-ending-3 : tie.Need-add-ending-3
-add-ending-3 c = omega (arith, inside (c .before .before .before .before .before .before .before .before .before), c .before .before .before .before .before .before .before .before .before .before .before .before .before .before .good .0 .0)
+add-ending-3 c = omega (arith, inside (at-lists (c .before .before .before .before)), start (at-lists (c .before .before .before .before)) .good .0 .0)
 
 ending-requires : tie.Need-ending-requires
-ending-requires c κs = (freeIn (c .before .before .before .before .before .before .before .before .before .before .before .before .before .before .before .pre .0), rw (c .before .before .before .before .without-late-timers .ensures, c .before .before .before .before .before .rows-of .ensures) (upto-new _ _ _ _ (c .before .before .before .before .before .before .before .before .before .before .before .before .before .before .before .pre .1) _ (lists-are (c .before .before .before .before .before .before .before .before .before .before)) (bytes (c .before .before .before .before .before .before .before .before .before .before .before .before .before .before)) (omega (arith, c .before .before .before .before .before .before .before .if1 .left))))
+ending-requires c κs = (freeIn (start (at-lists-2 (c .before .before .before .before .before .before)) .pre .0), rw (c .before .before .before .before .without-late-timers .ensures, c .before .before .before .before .before .rows-of .ensures) (upto-new _ _ _ _ (start (at-lists-2 (c .before .before .before .before .before .before)) .pre .1) _ (lists-are (at-lists-2 (c .before .before .before .before .before .before))) (bytes (at-lists-2 (c .before .before .before .before .before .before) .before .before .before .before)) (omega (arith, c .before .before .before .before .before .before .before .if1 .left))))
 
 returns-2 : tie.Need-returns-2
 returns-2 c = ((λ t F. no-middle t _ _ _ F (no-lists (c .before))), refl)
 
 returns-3 : tie.Need-returns-3
-returns-3 c = ((λ t F. c .ending .ensures (freeIn t) (rw (c .before .before .before .before .before .without-late-timers .ensures, c .before .before .before .before .before .before .rows-of .ensures) (upto-new t _ _ _ F _ (lists-are (c .before .before .before .before .before .before .before .before .before .before .before)) (bytes (c .before .before .before .before .before .before .before .before .before .before .before .before .before .before .before)) (omega (arith, c .before .before .before .before .before .before .before .before .if1 .left))))), refl)
+returns-3 c = ((λ t F. c .ending .ensures (freeIn t) (rw (c .before .before .before .before .before .without-late-timers .ensures, c .before .before .before .before .before .before .rows-of .ensures) (upto-new t _ _ _ F _ (lists-are (at-lists (c .before .before .before .before .before .before))) (bytes (at-lists (c .before .before .before .before .before .before) .before .before .before .before)) (omega (arith, c .before .before .before .before .before .before .before .before .if1 .left))))), refl)
 
 pub behind-front-spec : {M : Type 1} → statement M
 behind-front-spec =

@@ -18,17 +18,30 @@ use mathlib.Core.Path.{_≡_, ap, sym, _∙_}
 use Rattle.block_reader.proofs.scan.ending.Statement.{statement}
 use Rattle.block_reader.proofs.scan.ending.Tie as tie
 
+-- places on the way, each from one that lies further on
+abbrev start : tie.At-match-keys2 → tie.Start
+start c = c .before .before .before .before .before
+
+abbrev start-2 : tie.At-match-keys1 → tie.Start
+start-2 c = c .before .before .before .before .before
+
+abbrev at-match-keys2 : tie.After-first-unmapped → tie.At-match-keys2
+at-match-keys2 c = c .before .before .before .before .before
+
+abbrev at-n : tie.After-first-unmapped → tie.After-n
+at-n c = c .before .before .before .before
+
 -- the first node that is not mapped
-firstUnmapped-is : (c : tie.After-i) → let a = c .before .before .before .before .before .before .before .before .before .before .before .before .args in some (c .i .given .0 .0) ≡ firstUnmappedIn (a .scanned .head .version) (drop (a .scanned .lists) (now (a .s))) (now (a .ids))
+firstUnmapped-is : (c : tie.After-i) → let a = start (at-match-keys2 (c .before .before)) .args in some (c .i .given .0 .0) ≡ firstUnmappedIn (a .scanned .head .version) (drop (a .scanned .lists) (now (a .s))) (now (a .ids))
 firstUnmapped-is c =
-    let a = c .before .before .before .before .before .before .before .before .before .before .before .before .args in
-    let u = c .before .before .before .before .before .before .before .before .before .before .before .before .pre .1 in
+    let a = start (at-match-keys2 (c .before .before)) .args in
+    let u = start (at-match-keys2 (c .before .before)) .pre .1 in
     rw (rest-is (a .scanned .lists) (now (a .s))) at (sym (ap toldUnmapped (c .i .given .1)) ∙ c .before .before .first-unmapped .ensures)
     ∙ firstUnmapped-there (a .scanned .head .version) (now (a .s)) (now (a .ids)) (a .scanned .lists) (a .at) (u .long) (u .inside)
 
-firstUnmapped-at : (c : tie.After-i) → let a = c .before .before .before .before .before .before .before .before .before .before .before .before .args in let v = a .scanned .head .version in
+firstUnmapped-at : (c : tie.After-i) → let a = start (at-match-keys2 (c .before .before)) .args in let v = a .scanned .head .version in
     (width v * c .i .given .0 .0 < 8192) × (width v * c .i .given .0 .0 ≤ 4096 * width v)
-firstUnmapped-at c = let a = c .before .before .before .before .before .before .before .before .before .before .before .before .args in width-place (a .scanned .head .version) (c .i .given .0 .0) (omega (arith, first-below (unmarkedIn (a .scanned .head .version) (drop (a .scanned .lists) (now (a .s))) (now (a .ids))) 4096 0 (firstUnmapped-is c)))
+firstUnmapped-at c = let a = start (at-match-keys2 (c .before .before)) .args in width-place (a .scanned .head .version) (c .i .given .0 .0) (omega (arith, first-below (unmarkedIn (a .scanned .head .version) (drop (a .scanned .lists) (now (a .s))) (now (a .ids))) 4096 0 (firstUnmapped-is c)))
 
 -- the late timers that were read
 late-is : (c : tie.After-n) → let a = c .before .before .before .before .before .before .args in done tt (c .n .given .0 .0) ≡ ended (lateTimers (a .scanned .head .version) .read (drop (a .at) (now (a .s))))
@@ -51,8 +64,8 @@ enum-known-fault c = search needs
 
 add-t18 : tie.Need-add-t18
 add-t18 c =
-    let a = c .before .before .before .before .before .before .before .args in
-    let u = c .before .before .before .before .before .before .before .pre .1 in
+    let a = start-2 (c .before .before) .args in
+    let u = start-2 (c .before .before) .pre .1 in
     let e = rw (rest-is (a .at) (now (a .s))) at (sym (ap toldReach (c .before .fault .given .1)) ∙ c .before .before .before .late-timers .ensures) in
     omega (arith, length-drop (a .at) (now (a .s)), u .inside, within-ended (lateTimers (a .scanned .head .version)) (drop (a .at) (now (a .s))) e)
 
@@ -60,7 +73,7 @@ enum-known-n : tie.Need-enum-known-n
 enum-known-n c = search needs
 
 add-if1 : tie.Need-add-if1
-add-if1 c = omega (arith, late-inside (c .before .before .before .before .before .before .before .pre .1) (late-is (c .before)))
+add-if1 c = omega (arith, late-inside (start (c .before .before) .pre .1) (late-is (c .before)))
 
 add-t23 : tie.Need-add-t23
 add-t23 c = search needs
@@ -91,7 +104,7 @@ mul-t31 c = rw (c .width .ensures) (omega (arith, firstUnmapped-at (c .before .b
 
 add-t32 : tie.Need-add-t32
 add-t32 c =
-    let u = c .before .before .before .before .before .before .before .before .before .before .before .before .before .before .pre .1 in
+    let u = start (at-match-keys2 (c .before .before .before .before)) .pre .1 in
     rw (c .width .ensures) (omega (arith, firstUnmapped-at (c .before .before) .1, u .long, u .inside))
 
 enum-told : tie.Need-enum-told
@@ -99,33 +112,33 @@ enum-told c = search needs
 
 with-late-timers-requires : tie.Need-with-late-timers-requires
 with-late-timers-requires c κs =
-    let a = c .before .before .before .before .before .before .before .before .before .before .before .before .args in
+    let a = start (at-match-keys2 (c .before .before)) .args in
     let s = now (a .s) in
-    let b : Bytes s = λ i. c .before .before .before .before .before .before .before .before .before .before .before .shared-slice-known .given i .fits in
-    ((λ l. late-long _ _ (drop (a .at) s) (bytes-drop (a .at) s b) (late-is (c .before .before .before .before .before .before)) l), omega (arith, late-inside (c .before .before .before .before .before .before .before .before .before .before .before .before .pre .1) (late-is (c .before .before .before .before .before .before)), c .before .before .before .before .before .before .before .before .before .before .before .before .good .0 .0))
+    let b : Bytes s = λ i. at-match-keys2 (c .before .before) .before .before .before .before .shared-slice-known .given i .fits in
+    ((λ l. late-long _ _ (drop (a .at) s) (bytes-drop (a .at) s b) (late-is (c .before .before .before .before .before .before)) l), omega (arith, late-inside (start (at-match-keys2 (c .before .before)) .pre .1) (late-is (c .before .before .before .before .before .before)), start (at-match-keys2 (c .before .before)) .good .0 .0))
 
 add-t34 : tie.Need-add-t34
-add-t34 c = omega (arith, late-inside (c .before .before .before .before .before .before .before .before .before .before .before .before .before .pre .1) (late-is (c .before .before .before .before .before .before .before)), c .before .before .before .before .before .before .before .before .before .before .before .before .before .good .0 .0)
+add-t34 c = omega (arith, late-inside (start (at-match-keys2 (c .before .before .before)) .pre .1) (late-is (at-n (c .before .before .before))), start (at-match-keys2 (c .before .before .before)) .good .0 .0)
 
 returns-2 : tie.Need-returns-2
 returns-2 c =
-    let a = c .before .before .before .before .before .before .before .args in
+    let a = start-2 (c .before .before) .args in
     let e = rw (rest-is (a .at) (now (a .s))) at (sym (ap toldReach (c .before .fault .given .1)) ∙ c .before .before .before .late-timers .ensures) in
     λ free u. late-refused u e
 
 returns-3 : tie.Need-returns-3
 returns-3 c =
-    let b : Bytes (now (c .before .before .before .before .before .before .before .before .before .before .before .before .before .before .args .s)) = λ i. c .before .before .before .before .before .before .before .before .before .before .before .before .before .shared-slice-known .given i .fits in
-    λ free u. rw (c .width .ensures) (late-firstUnmapped u (late-is (c .before .before .before .before .before .before .before .before)) b (c .before .before .before .before .before .before .if1 .left) (firstUnmapped-is (c .before .before)))
+    let b : Bytes (now (start (at-match-keys2 (c .before .before .before .before)) .args .s)) = λ i. at-match-keys2 (c .before .before .before .before) .before .before .before .before .shared-slice-known .given i .fits in
+    λ free u. rw (c .width .ensures) (late-firstUnmapped u (late-is (at-n (c .before .before .before .before))) b (c .before .before .before .before .before .before .if1 .left) (firstUnmapped-is (c .before .before)))
 
 returns-4 : tie.Need-returns-4
 returns-4 c =
-    let a = c .before .before .before .before .before .before .before .before .before .before .before .before .before .args in
-    let q = c .before .before .before .before .before .before .before .before .before .before .before .before .before .pre .1 in
-    let b : Bytes (now (a .s)) = λ i. c .before .before .before .before .before .before .before .before .before .before .before .before .shared-slice-known .given i .fits in
+    let a = start (at-match-keys2 (c .before .before .before)) .args in
+    let q = start (at-match-keys2 (c .before .before .before)) .pre .1 in
+    let b : Bytes (now (a .s)) = λ i. at-match-keys2 (c .before .before .before) .before .before .before .before .shared-slice-known .given i .fits in
     let e = rw (rest-is (a .scanned .lists) (now (a .s))) at (sym (ap toldUnmapped (c .before .enum-told .given .1)) ∙ c .before .before .before .first-unmapped .ensures)
     ∙ firstUnmapped-there (a .scanned .head .version) (now (a .s)) (now (a .ids)) (a .scanned .lists) (a .at) (q .long) (q .inside) in
-    λ free u. rw (c .with-late-timers .ensures) (late-done u (late-is (c .before .before .before .before .before .before .before)) b (c .before .before .before .before .before .if1 .left) e)
+    λ free u. rw (c .with-late-timers .ensures) (late-done u (late-is (at-n (c .before .before .before))) b (c .before .before .before .before .before .if1 .left) e)
 
 pub ending-spec : {M : Type 1} → statement M
 ending-spec =

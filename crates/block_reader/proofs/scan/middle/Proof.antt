@@ -14,20 +14,36 @@ use mathlib.Core.Path.{_≡_, ap, sym, _∙_}
 use Rattle.block_reader.proofs.scan.middle.Statement.{statement}
 use Rattle.block_reader.proofs.scan.middle.Tie as tie
 
+-- places on the way, each from one that lies further on
+abbrev start : tie.After-known-told2 → tie.Start
+start c = c .before .before .before .before .before
+
+abbrev at-known-told2 : tie.After-known-told3 → tie.After-known-told2
+at-known-told2 c = c .before .before .before .before .before
+
+abbrev at-known-told2-2 : tie.After-known-told4 → tie.After-known-told2
+at-known-told2-2 c = c .before .before .before .before .before
+
+abbrev at-known-told4 : tie.After-known-told5 → tie.After-known-told4
+at-known-told4 c = c .before .before .before .before .before
+
+abbrev at-known-told4-2 : tie.After-known-told6 → tie.After-known-told4
+at-known-told4-2 c = c .before .before .before .before .before
+
 metadata-is : (c : tie.After-metadata) → let a = c .before .before .before .before .args in done tt (c .metadata .given .0 .0) ≡ ended (metadata (a .version) .read (now (a .s)))
 metadata-is c = sym (ap toldReach (c .metadata .given .1)) ∙ c .before .before .metadata-list .ensures
 
 metadata-in : (c : tie.After-metadata) → c .metadata .given .0 .0 ≤ length (now (c .before .before .before .before .args .s))
 metadata-in c = within-ended (metadata (c .before .before .before .before .args .version)) (now (c .before .before .before .before .args .s)) (metadata-is c)
 
-timers-are : (c : tie.After-timer) → let a = c .before .before .before .before .before .before .before .before .before .args in
+timers-are : (c : tie.After-timer) → let a = start (c .before .before .before .before) .args in
     done (c .timer .given .0 .0) (c .timer .given .0 .1 .0) ≡ mapRead timerByte (earlyTimers (a .version) .read (drop (c .before .before .before .before .before .metadata .given .0 .0) (now (a .s))))
-timers-are c = rw (rest-is (c .before .before .before .before .before .metadata .given .0 .0) (now (c .before .before .before .before .before .before .before .before .before .args .s))) at (sym (ap toldEarly (c .timer .given .1)) ∙ c .before .before .early-timers .ensures)
+timers-are c = rw (rest-is (c .before .before .before .before .before .metadata .given .0 .0) (now (start (c .before .before .before .before) .args .s))) at (sym (ap toldEarly (c .timer .given .1)) ∙ c .before .before .early-timers .ensures)
 
-timers-in : (c : tie.After-timer) → c .before .before .before .before .before .metadata .given .0 .0 + c .timer .given .0 .1 .0 ≤ length (now (c .before .before .before .before .before .before .before .before .before .args .s))
+timers-in : (c : tie.After-timer) → c .before .before .before .before .before .metadata .given .0 .0 + c .timer .given .0 .1 .0 ≤ length (now (start (c .before .before .before .before) .args .s))
 timers-in c =
-    let s = now (c .before .before .before .before .before .before .before .before .before .args .s) in
-    omega (arith, metadata-in (c .before .before .before .before .before), length-drop (c .before .before .before .before .before .metadata .given .0 .0) s, told-in timerByte (earlyTimers (c .before .before .before .before .before .before .before .before .before .args .version)) (drop (c .before .before .before .before .before .metadata .given .0 .0) s) (timers-are c))
+    let s = now (start (c .before .before .before .before) .args .s) in
+    omega (arith, metadata-in (c .before .before .before .before .before), length-drop (c .before .before .before .before .before .metadata .given .0 .0) s, told-in timerByte (earlyTimers (start (c .before .before .before .before) .args .version)) (drop (c .before .before .before .before .before .metadata .given .0 .0) s) (timers-are c))
 
 metadata-list-requires : tie.Need-metadata-list-requires
 metadata-list-requires c κs = search needs
@@ -55,10 +71,10 @@ enum-known-fault-2 c = search needs
 
 add-t21 : tie.Need-add-t21
 add-t21 c =
-    let s = now (c .before .before .before .before .before .before .before .before .before .before .args .s) in
+    let s = now (start (at-known-told2 c) .args .s) in
     let a = c .before .before .before .before .before .before .metadata .given .0 .0 in
     let e = rw (rest-is a s) at (sym (ap toldEarly (c .before .fault2 .given .1)) ∙ c .before .before .before .early-timers .ensures) in
-    omega (arith, metadata-in (c .before .before .before .before .before .before), length-drop a s, told-in timerByte (earlyTimers (c .before .before .before .before .before .before .before .before .before .before .args .version)) (drop a s) e)
+    omega (arith, metadata-in (c .before .before .before .before .before .before), length-drop a s, told-in timerByte (earlyTimers (start (at-known-told2 c) .args .version)) (drop a s) e)
 
 enum-known-timer : tie.Need-enum-known-timer
 enum-known-timer c = search needs
@@ -86,8 +102,8 @@ add-t29 c = omega (arith, timers-in (c .before .before .before .before .before .
 
 add-t30 : tie.Need-add-t30
 add-t30 c =
-    let s = now (c .before .before .before .before .before .before .before .before .before .before .before .before .before .before .before .args .s) in
-    let a = c .before .before .before .before .before .before .before .before .before .before .before .metadata .given .0 .0 + c .before .before .before .before .before .before .timer .given .0 .1 .0 in
+    let s = now (start (at-known-told2-2 (at-known-told4 c)) .args .s) in
+    let a = at-known-told2-2 (at-known-told4 c) .before .metadata .given .0 .0 + c .before .before .before .before .before .before .timer .given .0 .1 .0 in
     let e = rw (rest-is a s) at (sym (ap toldReach (c .before .fault3 .given .1)) ∙ c .before .before .before .object-list .ensures) in
     omega (arith, timers-in (c .before .before .before .before .before .before), length-drop a s, within-ended objects (drop a s) e)
 
@@ -99,21 +115,21 @@ returns c = middle-no-metadata _ _ (sym (ap toldReach (c .before .fault .given .
 
 returns-2 : tie.Need-returns-2
 returns-2 c =
-    let s = now (c .before .before .before .before .before .before .before .before .before .before .args .s) in
+    let s = now (start (at-known-told2 c) .args .s) in
     let e = rw (rest-is (c .before .before .before .before .before .before .metadata .given .0 .0) s) at (sym (ap toldEarly (c .before .fault2 .given .1)) ∙ c .before .before .before .early-timers .ensures) in
     middle-no-early _ s (metadata-is (c .before .before .before .before .before .before)) e
 
 returns-3 : tie.Need-returns-3
 returns-3 c =
-    let s = now (c .before .before .before .before .before .before .before .before .before .before .before .before .before .before .before .args .s) in
-    let e = rw (rest-is (c .before .before .before .before .before .before .before .before .before .before .before .metadata .given .0 .0 + c .before .before .before .before .before .before .timer .given .0 .1 .0) s) at (sym (ap toldReach (c .before .fault3 .given .1)) ∙ c .before .before .before .object-list .ensures) in
-    middle-no-objects _ s (metadata-is (c .before .before .before .before .before .before .before .before .before .before .before)) (timers-are (c .before .before .before .before .before .before)) e
+    let s = now (start (at-known-told2-2 (at-known-told4 c)) .args .s) in
+    let e = rw (rest-is (at-known-told2-2 (at-known-told4 c) .before .metadata .given .0 .0 + c .before .before .before .before .before .before .timer .given .0 .1 .0) s) at (sym (ap toldReach (c .before .fault3 .given .1)) ∙ c .before .before .before .object-list .ensures) in
+    middle-no-objects _ s (metadata-is (at-known-told2-2 (at-known-told4 c) .before)) (timers-are (c .before .before .before .before .before .before)) e
 
 returns-4 : tie.Need-returns-4
 returns-4 c =
-    let s = now (c .before .before .before .before .before .before .before .before .before .before .before .before .before .before .before .args .s) in
-    let e = rw (rest-is (c .before .before .before .before .before .before .before .before .before .before .before .metadata .given .0 .0 + c .before .before .before .before .before .before .timer .given .0 .1 .0) s) at (sym (ap toldReach (c .before .objects .given .1)) ∙ c .before .before .before .object-list .ensures) in
-    middle-done _ s (metadata-is (c .before .before .before .before .before .before .before .before .before .before .before)) (timers-are (c .before .before .before .before .before .before)) e (λ i. c .before .before .before .before .before .before .before .before .before .before .before .before .before .before .shared-slice-known .given i .fits)
+    let s = now (start (at-known-told2-2 (at-known-told4-2 c)) .args .s) in
+    let e = rw (rest-is (at-known-told2-2 (at-known-told4-2 c) .before .metadata .given .0 .0 + c .before .before .before .before .before .before .timer .given .0 .1 .0) s) at (sym (ap toldReach (c .before .objects .given .1)) ∙ c .before .before .before .object-list .ensures) in
+    middle-done _ s (metadata-is (at-known-told2-2 (at-known-told4-2 c) .before)) (timers-are (c .before .before .before .before .before .before)) e (λ i. at-known-told2-2 (at-known-told4-2 c) .before .before .before .before .shared-slice-known .given i .fits)
 
 pub middle-spec : {M : Type 1} → statement M
 middle-spec =

@@ -15,6 +15,13 @@ use Rattle.block_reader.proofs.Fronts.{NamesRead, opened-in, nodes-two,
 use Rattle.block_reader.proofs.scan.named_front.Statement.{statement}
 use Rattle.block_reader.proofs.scan.named_front.Tie as tie
 
+-- places on the way, each from one that lies further on
+abbrev at-match-keys2 : tie.At-match2-keys2 → tie.At-match-keys2
+at-match-keys2 c = c .before .before .before .before .before
+
+abbrev at-match2-keys1 : tie.After-unmark → tie.At-match2-keys1
+at-match2-keys1 c = c .before .before .before .before .before
+
 abbrev start : tie.After-name-mapping → tie.Start
 start c = c .before .before .before .before
 
@@ -91,10 +98,10 @@ unmark-requires : tie.Need-unmark-requires
 unmark-requires c κs = search needs
 
 add-t29 : tie.Need-add-t29
-add-t29 c = omega (arith, names-in (names (c .before .before .before .before .before .before .before .before .before)))
+add-t29 c = omega (arith, names-in (names (at-match2-keys1 c .before .before .before .before)))
 
 add-t31 : tie.Need-add-t31
-add-t31 c = omega (arith, nodes-in (names (c .before .before .before .before .before .before .before .before .before)) (nodes-told (c .before .before .before .before .before .before) (c .before .before .before .before .fault2 .given .1)))
+add-t31 c = omega (arith, nodes-in (names (at-match2-keys1 c .before .before .before .before)) (nodes-told (c .before .before .before .before .before .before) (c .before .before .before .before .fault2 .given .1)))
 
 enum-known-m : tie.Need-enum-known-m
 enum-known-m c = search needs
@@ -117,10 +124,10 @@ returns c =
     names-stop _ _ _ (start d .pre .1) (start d .pre .0) (marked d) (told d (c .before .fault .given .1))
 
 returns-2 : tie.Need-returns-2
-returns-2 c = named-stops (names (c .before .before .before .before .before .before .before .before .before)) (nodes-told (c .before .before .before .before .before .before) (c .before .before .before .before .fault2 .given .1)) (rw rest-is at (c .unmark .ensures))
+returns-2 c = named-stops (names (at-match2-keys1 c .before .before .before .before)) (nodes-told (c .before .before .before .before .before .before) (c .before .before .before .before .fault2 .given .1)) (rw rest-is at (c .unmark .ensures))
 
 returns-3 : tie.Need-returns-3
-returns-3 c = named-told (names (c .before .before .before .before .before .before)) (λ i. c .before .before .before .before .before .before .before .before .before .before .before .shared-slice-known .given i .fits) (nodes-told (c .before .before .before) (c .before .m .given .1))
+returns-3 c = named-told (names (c .before .before .before .before .before .before)) (λ i. at-match-keys2 (c .before .before) .before .before .before .before .shared-slice-known .given i .fits) (nodes-told (c .before .before .before) (c .before .m .given .1))
 
 pub named-front-spec : {M : Type 1} → statement M
 named-front-spec =

@@ -15,14 +15,14 @@ use Rattle.mapblock.proofs.inventory.inventory.Statement.{statement}
 use Rattle.mapblock.proofs.inventory.inventory.Tie as tie
 
 abbrev Inv-loop : tie.InvT-loop
-Inv-loop s p₀ fresh₀ t4 p fresh = later p (through fresh (drop p s)) ≡ through true s
+Inv-loop s at₀ fresh₀ t4 at fresh = later at (through fresh (drop at s)) ≡ through true s
 
 abbrev μ-loop : tie.MeasureT-loop
-μ-loop s p₀ fresh₀ t4 p fresh = length s - p
+μ-loop s at₀ fresh₀ t4 at fresh = length s - at
 
--- the end line stands at p
+-- the end line stands at the place
 marked : (c : tie.Then2 Inv-loop μ-loop)
-    → starts endLine (drop (c .before .before .before .before .before .loop .p) (now (c .before .before .before .before .before .before .before .args .s))) ≡ true
+    → starts endLine (drop (c .before .before .before .before .before .loop .at) (now (c .before .before .before .before .before .before .before .args .s))) ≡ true
 marked c = sym (c .before .mark-at .ensures) ∙ c .if2 .taken
 
 loop-holds : tie.Need-loop-holds Inv-loop μ-loop
@@ -37,18 +37,18 @@ mark-at-requires c κs = search needs
 add-t10 : tie.Need-add-t10 Inv-loop μ-loop
 add-t10 c =
     let b = c .before .before .before .before .before in
-    omega (arith, line-fits (now (b .before .before .args .s)) (b .loop .p) (marked c))
+    omega (arith, line-fits (now (b .before .before .args .s)) (b .loop .at) (marked c))
 
 returns : tie.Need-returns Inv-loop μ-loop
 returns c =
     let l = c .before .before .before .before .before .loop in
-    inventory-ended _ (sym (l .inv) ∙ line-here _ (l .p) (omega arith) (c .before .before .before .if1 .taken) (marked c))
+    inventory-ended _ (sym (l .inv) ∙ line-here _ (l .at) (omega arith) (c .before .before .before .if1 .taken) (marked c))
 
 shared-slice-read-fresh : tie.Need-shared-slice-read-fresh Inv-loop μ-loop
 shared-slice-read-fresh c = search needs
 
-add-p : tie.Need-add-p Inv-loop μ-loop
-add-p c = search needs
+add-at : tie.Need-add-at Inv-loop μ-loop
+add-at c = search needs
 
 loop-less : tie.Need-loop-less Inv-loop μ-loop
 loop-less c = search needs
@@ -57,12 +57,12 @@ loop-again : tie.Need-loop-again Inv-loop μ-loop
 loop-again c =
     let l = c .before .before .before .loop in
     ⊎-elim
-    (λ w. sym (line-other _ (l .p) (omega arith) (w .0 .taken) (sym (w .2 .ensures) ∙ w .3 .left)) ∙ l .inv)
-    (λ w. sym (line-inside _ (l .p) (omega arith) (w .left)) ∙ l .inv)
+    (λ w. sym (line-other _ (l .at) (omega arith) (w .0 .taken) (sym (w .2 .ensures) ∙ w .3 .left)) ∙ l .inv)
+    (λ w. sym (line-inside _ (l .at) (omega arith) (w .left)) ∙ l .inv)
     (c .before .if1 .came)
 
 returns-2 : tie.Need-returns-2 Inv-loop μ-loop
-returns-2 c = let l = c .before .loop in inventory-ended _ (sym (l .inv) ∙ line-none _ (l .p) (l .fresh) (omega arith))
+returns-2 c = let l = c .before .loop in inventory-ended _ (sym (l .inv) ∙ line-none _ (l .at) (l .fresh) (omega arith))
 
 pub inventory-spec : {M : Type 1} → statement M
 inventory-spec =
@@ -76,7 +76,7 @@ inventory-spec =
     add-t10
     returns
     shared-slice-read-fresh
-    add-p
+    add-at
     loop-less
     loop-again
     returns-2)

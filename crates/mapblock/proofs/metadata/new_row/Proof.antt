@@ -17,6 +17,16 @@ use Rattle.mapblock.proofs.MetadataRows.{count-ends, variables-refused,
 use Rattle.mapblock.proofs.metadata.new_row.Statement.{statement}
 use Rattle.mapblock.proofs.metadata.new_row.Tie as tie
 
+-- places on the way, each from one that lies further on
+abbrev start : tie.After-known-told → tie.Start
+start c = c .before .before .before .before .before
+
+abbrev at-known-told : tie.After-known-told2 → tie.After-known-told
+at-known-told c = c .before .before .before .before .before
+
+abbrev at-known-told-2 : tie.After-known-told3 → tie.After-known-told
+at-known-told-2 c = c .before .before .before .before .before
+
 -- the count, and that it lies in the bytes
 count : (c : tie.After-known-told) → num 4 .read (drop 2 (now (c .before .before .before .before .before .args .s))) ≡ done (c .before .count .given .0 .0) 4
 count c = by-number 4 _ toldU32 (c .before .before .before .u32-at .ensures) (c .before .count .given .1)
@@ -29,34 +39,34 @@ no-variables : (c : tie.After-known-told2) → let b = c .before .before .before
     let a = b .before .before .before .before .args in
     refused (c .before .fault .given .0 .0) (c .before .fault .given .0 .1 .0) ≡ ended (times (b .count .given .0 .0) (variableFor (a .values) (a .version)) .read (drop 6 (now (a .s))))
 no-variables c =
-    let s = now (c .before .before .before .before .before .before .before .before .before .before .args .s) in
+    let s = now (start (at-known-told c) .args .s) in
     rw (rest-is 6 s) at (sym (ap toldReach (c .before .fault .given .1)) ∙ c .before .before .before .variables .ensures)
 
 some-variables : (c : tie.After-known-told3) → let b = c .before .before .before .before .before .before in
     let a = b .before .before .before .before .args in
     done tt (c .before .n .given .0 .0) ≡ ended (times (b .count .given .0 .0) (variableFor (a .values) (a .version)) .read (drop 6 (now (a .s))))
 some-variables c =
-    let s = now (c .before .before .before .before .before .before .before .before .before .before .args .s) in
+    let s = now (start (at-known-told-2 c) .args .s) in
     rw (rest-is 6 s) at (sym (ap toldReach (c .before .n .given .1)) ∙ c .before .before .before .variables .ensures)
 
-variables-in : (c : tie.After-known-told3) → 6 + c .before .n .given .0 .0 ≤ length (now (c .before .before .before .before .before .before .before .before .before .before .args .s))
+variables-in : (c : tie.After-known-told3) → 6 + c .before .n .given .0 .0 ≤ length (now (start (at-known-told-2 c) .args .s))
 variables-in c = omega (arith, six (c .before .before .before .before .before), rw length-drop at (within-ended (times _ _) _ (some-variables c)))
 
 -- the inventory: refused, or read
 no-inventory : (c : tie.After-known-told4) → let b = c .before .before .before .before .before .before in
-    let s = now (b .before .before .before .before .before .before .before .before .before .args .s) in
+    let s = now (start (b .before .before .before .before) .args .s) in
     refused (c .before .fault2 .given .0 .0) (c .before .fault2 .given .0 .1 .0) ≡ ended (inventory .read (drop (6 + b .n .given .0 .0) s))
 no-inventory c =
     let b = c .before .before .before .before .before .before in
-    let s = now (b .before .before .before .before .before .before .before .before .before .args .s) in
+    let s = now (start (b .before .before .before .before) .args .s) in
     rw (rest-is (6 + b .n .given .0 .0) s) at (sym (ap toldReach (c .before .fault2 .given .1)) ∙ c .before .before .before .inventory .ensures)
 
 some-inventory : (c : tie.After-known-told5) → let b = c .before .before .before .before .before .before in
-    let s = now (b .before .before .before .before .before .before .before .before .before .args .s) in
+    let s = now (start (b .before .before .before .before) .args .s) in
     done tt (c .before .m .given .0 .0) ≡ ended (inventory .read (drop (6 + b .n .given .0 .0) s))
 some-inventory c =
     let b = c .before .before .before .before .before .before in
-    let s = now (b .before .before .before .before .before .before .before .before .before .args .s) in
+    let s = now (start (b .before .before .before .before) .args .s) in
     rw (rest-is (6 + b .n .given .0 .0) s) at (sym (ap toldReach (c .before .m .given .1)) ∙ c .before .before .before .inventory .ensures)
 
 u32-at-requires : tie.Need-u32-at-requires

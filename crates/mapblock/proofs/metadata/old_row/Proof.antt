@@ -13,15 +13,19 @@ use Rattle.mapblock.proofs.MetadataRows.{kind-ends, content-ends, conte
 use Rattle.mapblock.proofs.metadata.old_row.Statement.{statement}
 use Rattle.mapblock.proofs.metadata.old_row.Tie as tie
 
+-- places on the way, each from one that lies further on
+abbrev start : tie.After-known-told → tie.Start
+start c = c .before .before .before .before .before
+
 -- the type; the bytes that end in the content; the content
 kind : (c : tie.After-known-told) → num 2 .read (drop 2 (now (c .before .before .before .before .before .args .s))) ≡ done (c .before .kind .given .0 .0) 2
 kind c = by-number 2 _ toldU16 (c .before .before .before .u16-at .ensures) (c .before .kind .given .1)
 
-no-content : (c : tie.After-known-told2) → let s = now (c .before .before .before .before .before .before .before .before .before .args .s) in
+no-content : (c : tie.After-known-told2) → let s = now (start (c .before .before .before .before) .args .s) in
     text 2 .read (drop 4 s) ≡ refused fault.Ends (c .before .p .given .0 .0)
 no-content c = by-counted 2 _ (toldRun 2 _) (c .before .before .before .run16-at .ensures) (c .before .p .given .1)
 
-content : (c : tie.After-known-told3) → let s = now (c .before .before .before .before .before .before .before .before .before .args .s) in
+content : (c : tie.After-known-told3) → let s = now (start (c .before .before .before .before) .args .s) in
     let n = c .before .n .given .0 .0 in
     text 2 .read (drop 4 s) ≡ done (take n (drop 2 (drop 4 s))) (2 + n)
 content c = by-counted 2 _ (toldRun 2 _) (c .before .before .before .run16-at .ensures) (c .before .n .given .1)
@@ -57,12 +61,12 @@ add-t18 c = omega (arith, rw length-drop at (within (text 2) _ (content c)))
 
 returns-2 : tie.Need-returns-2
 returns-2 c =
-    let p = c .before .before .before .before .before .before .before .before .before .pre in
+    let p = start (c .before .before .before .before) .pre in
     content-ends _ _ _ (p .1) (p .0) (kind (c .before .before .before .before)) (no-content c)
 
 returns-3 : tie.Need-returns-3
 returns-3 c =
-    let p = c .before .before .before .before .before .before .before .before .before .pre in
+    let p = start (c .before .before .before .before) .pre in
     content-done _ _ _ (p .1) (p .0) (kind (c .before .before .before .before)) (content c)
 
 pub old-row-spec : {M : Type 1} → statement M

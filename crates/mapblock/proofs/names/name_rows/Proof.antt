@@ -18,6 +18,16 @@ Inv-loop s count ids₀ rest₀ at₀ left₀ ids rest at left = Named ids₀ s 
 abbrev μ-loop : tie.MeasureT-loop
 μ-loop s count ids₀ rest₀ at₀ left₀ ids rest at left = left
 
+-- places on the way, each from one that lies further on
+abbrev start : tie.In-loop Inv-loop μ-loop → tie.Start Inv-loop μ-loop
+start c = c .before .before .before .before .before
+
+abbrev at-In-loop : tie.After-known-told Inv-loop μ-loop → tie.In-loop Inv-loop μ-loop
+at-In-loop c = c .before .before .before .before .before
+
+abbrev at-In-loop-2 : tie.After-known-told2 Inv-loop μ-loop → tie.In-loop Inv-loop μ-loop
+at-In-loop-2 c = c .before .before .before .before .before
+
 sized-requires : tie.Need-sized-requires Inv-loop μ-loop
 sized-requires c κs = search needs
 
@@ -38,14 +48,14 @@ unmark-requires c κs = search needs
 
 add-t19 : tie.Need-add-t19 Inv-loop μ-loop
 add-t19 c =
-    let l = c .before .before .before .before .before .before .before .before .loop in
-    omega (arith, named-place (l .inv) (sym (ap toldName (c .before .before .before .fault .given .1)) ∙ c .before .before .before .before .before .new-name-row .ensures (freeIn (now (c .before .before .before .before .before .before .before .before .before .before .before .before .args .ids))) (l .inv .seen) (l .inv .tabled)))
+    let l = at-In-loop (c .before .before) .before .loop in
+    omega (arith, named-place (l .inv) (sym (ap toldName (c .before .before .before .fault .given .1)) ∙ c .before .before .before .before .before .new-name-row .ensures (freeIn (now (start (at-In-loop (c .before .before)) .args .ids))) (l .inv .seen) (l .inv .tabled)))
 
 returns : tie.Need-returns Inv-loop μ-loop
 returns c =
-    let l = c .before .before .before .before .before .before .before .before .loop in
-    let a = c .before .before .before .before .before .before .before .before .before .before .before .before .args in
-    told-marked (now (a .ids)) (now (a .s)) (a .count) (l .inv .whole) (named-refused (l .inv) (c .before .before .before .before .before .before .before .loop-test .taken) (sym (ap toldName (c .before .before .before .fault .given .1)) ∙ c .before .before .before .before .before .new-name-row .ensures (freeIn (now (c .before .before .before .before .before .before .before .before .before .before .before .before .args .ids))) (l .inv .seen) (l .inv .tabled)) (c .unmark .ensures ∙ named-front (l .inv)))
+    let l = at-In-loop (c .before .before) .before .loop in
+    let a = start (at-In-loop (c .before .before)) .args in
+    told-marked (now (a .ids)) (now (a .s)) (a .count) (l .inv .whole) (named-refused (l .inv) (at-In-loop (c .before .before) .loop-test .taken) (sym (ap toldName (c .before .before .before .fault .given .1)) ∙ c .before .before .before .before .before .new-name-row .ensures (freeIn (now (start (at-In-loop (c .before .before)) .args .ids))) (l .inv .seen) (l .inv .tabled)) (c .unmark .ensures ∙ named-front (l .inv)))
 
 enum-known-row : tie.Need-enum-known-row Inv-loop μ-loop
 enum-known-row c = search needs
@@ -58,21 +68,21 @@ element-write-ids c = search needs
 
 sub-rest : tie.Need-sub-rest Inv-loop μ-loop
 sub-rest c =
-    let l = c .before .before .before .before .before .before .before .loop in
-    named-inside (l .inv) (sym (ap toldName (c .before .before .row .given .1)) ∙ c .before .before .before .before .new-name-row .ensures (freeIn (now (c .before .before .before .before .before .before .before .before .before .before .before .args .ids))) (l .inv .seen) (l .inv .tabled))
+    let l = at-In-loop-2 (c .before) .before .loop in
+    named-inside (l .inv) (sym (ap toldName (c .before .before .row .given .1)) ∙ c .before .before .before .before .new-name-row .ensures (freeIn (now (start (at-In-loop-2 (c .before)) .args .ids))) (l .inv .seen) (l .inv .tabled))
 
 part-rest-start : tie.Need-part-rest-start Inv-loop μ-loop
 part-rest-start c =
-    let l = c .before .before .before .before .before .before .before .loop in
-    named-inside (l .inv) (sym (ap toldName (c .before .before .row .given .1)) ∙ c .before .before .before .before .new-name-row .ensures (freeIn (now (c .before .before .before .before .before .before .before .before .before .before .before .args .ids))) (l .inv .seen) (l .inv .tabled))
+    let l = at-In-loop-2 (c .before) .before .loop in
+    named-inside (l .inv) (sym (ap toldName (c .before .before .row .given .1)) ∙ c .before .before .before .before .new-name-row .ensures (freeIn (now (start (at-In-loop-2 (c .before)) .args .ids))) (l .inv .seen) (l .inv .tabled))
 
 part-rest-end : tie.Need-part-rest-end Inv-loop μ-loop
 part-rest-end c = search needs
 
 add-at : tie.Need-add-at Inv-loop μ-loop
 add-at c =
-    let l = c .before .before .before .before .before .before .before .before .loop in
-    omega (arith, named-place (l .inv) (sym (ap toldName (c .before .before .before .row .given .1)) ∙ c .before .before .before .before .before .new-name-row .ensures (freeIn (now (c .before .before .before .before .before .before .before .before .before .before .before .before .args .ids))) (l .inv .seen) (l .inv .tabled)))
+    let l = at-In-loop-2 (c .before .before) .before .loop in
+    omega (arith, named-place (l .inv) (sym (ap toldName (c .before .before .before .row .given .1)) ∙ c .before .before .before .before .before .new-name-row .ensures (freeIn (now (start (at-In-loop-2 (c .before .before)) .args .ids))) (l .inv .seen) (l .inv .tabled)))
 
 sub-left : tie.Need-sub-left Inv-loop μ-loop
 sub-left c = search needs
@@ -82,8 +92,8 @@ loop-less c = search needs
 
 loop-again : tie.Need-loop-again Inv-loop μ-loop
 loop-again c =
-    let l = c .before .before .before .before .before .before .before .before .loop in
-    named-on (l .inv) (c .before .before .before .before .before .before .before .loop-test .taken) (sym (ap toldName (c .before .before .before .row .given .1)) ∙ c .before .before .before .before .before .new-name-row .ensures (freeIn (now (c .before .before .before .before .before .before .before .before .before .before .before .before .args .ids))) (l .inv .seen) (l .inv .tabled)) (search needs)
+    let l = at-In-loop-2 (c .before .before) .before .loop in
+    named-on (l .inv) (at-In-loop-2 (c .before .before) .loop-test .taken) (sym (ap toldName (c .before .before .before .row .given .1)) ∙ c .before .before .before .before .before .new-name-row .ensures (freeIn (now (start (at-In-loop-2 (c .before .before)) .args .ids))) (l .inv .seen) (l .inv .tabled)) (search needs)
 
 returns-2 : tie.Need-returns-2 Inv-loop μ-loop
 returns-2 c = let a = c .before .before .before .before .before .args in told-marked (now (a .ids)) (now (a .s)) (a .count) (c .before .loop .inv .whole) (named-end (c .before .loop .inv) (c .loop-test .left))

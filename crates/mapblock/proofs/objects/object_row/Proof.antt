@@ -15,17 +15,36 @@ use mathlib.Core.Path.{_≡_, refl}
 use Rattle.mapblock.proofs.objects.object_row.Statement.{statement}
 use Rattle.mapblock.proofs.objects.object_row.Tie as tie
 
+-- places on the way, each from one that lies further on
+abbrev start : tie.After-known-told → tie.Start
+start c = c .before .before .before .before .before
+
+abbrev at-known-told : tie.After-s32-at2 → tie.After-known-told
+at-known-told c = c .before .before .before .before .before
+
+abbrev at-s32-at2 : tie.At-match4-keys1 → tie.After-s32-at2
+at-s32-at2 c = c .before .before .before .before .before
+
+abbrev at-s32-at2-2 : tie.At-match4-keys2 → tie.After-s32-at2
+at-s32-at2-2 c = c .before .before .before .before .before
+
+abbrev at-match4-keys1 : tie.After-p → tie.At-match4-keys1
+at-match4-keys1 c = c .before .before .before .before .before
+
+abbrev at-match4-keys1-2 : tie.After-n → tie.At-match4-keys1
+at-match4-keys1-2 c = c .before .before .before .before .before
+
 -- the four numbers in front
 kind-is : (c : tie.After-kind) → u8 {ends = fault.Ends} .read (now (c .before .before .before .before .args .s)) ≡ done (c .kind .given .0 .0) 1
 kind-is c = by-number 1 _ toldU8 (c .before .before .u8-at .ensures) (c .kind .given .1)
 
-x-is : (c : tie.After-x) → s32 {ends = fault.Ends} .read (drop 1 (now (c .before .before .before .before .before .before .before .before .args .s))) ≡ done (c .x .given .0 .0) 4
+x-is : (c : tie.After-x) → s32 {ends = fault.Ends} .read (drop 1 (now (start (c .before .before .before) .args .s))) ≡ done (c .x .given .0 .0) 4
 x-is c = by-signed 4 half32 refl _ toldS32 (c .before .before .s32-at .ensures) (c .x .given .1)
 
-y-is : (c : tie.After-y) → s32 {ends = fault.Ends} .read (drop 5 (now (c .before .before .before .before .before .before .before .before .before .before .before .before .args .s))) ≡ done (c .y .given .0 .0) 4
+y-is : (c : tie.After-y) → s32 {ends = fault.Ends} .read (drop 5 (now (start (at-known-told (c .before .before)) .args .s))) ≡ done (c .y .given .0 .0) 4
 y-is c = by-signed 4 half32 refl _ toldS32 (c .before .before .s32-at2 .ensures) (c .y .given .1)
 
-z-is : (c : tie.After-z) → s32 {ends = fault.Ends} .read (drop 9 (now (c .before .before .before .before .before .before .before .before .before .before .before .before .before .before .before .before .args .s))) ≡ done (c .z .given .0 .0) 4
+z-is : (c : tie.After-z) → s32 {ends = fault.Ends} .read (drop 9 (now ((start (at-known-told (at-s32-at2 (c .before)))) .args .s))) ≡ done (c .z .given .0 .0) 4
 z-is c = by-signed 4 half32 refl _ toldS32 (c .before .before .s32-at3 .ensures) (c .z .given .1)
 
 u8-at-requires : tie.Need-u8-at-requires
@@ -62,7 +81,7 @@ enum-told-3 : tie.Need-enum-told-3
 enum-told-3 c = search needs
 
 returns-3 : tie.Need-returns-3
-returns-3 c = object-no-y _ (kind-is (c .before .before .before .before .before .before .before .before)) (x-is (c .before .before .before .before)) (by-signed 4 half32 refl _ toldS32 (c .before .before .s32-at2 .ensures) (c .enum-told3 .given .1))
+returns-3 c = object-no-y _ (kind-is (at-known-told (c .before .before) .before)) (x-is (c .before .before .before .before)) (by-signed 4 half32 refl _ toldS32 (c .before .before .s32-at2 .ensures) (c .enum-told3 .given .1))
 
 s32-at-requires-3 : tie.Need-s32-at-requires-3
 s32-at-requires-3 c κs = search needs
@@ -74,7 +93,7 @@ enum-told-4 : tie.Need-enum-told-4
 enum-told-4 c = search needs
 
 returns-4 : tie.Need-returns-4
-returns-4 c = object-no-z _ (kind-is (c .before .before .before .before .before .before .before .before .before .before .before .before)) (x-is (c .before .before .before .before .before .before .before .before)) (y-is (c .before .before .before .before)) (by-signed 4 half32 refl _ toldS32 (c .before .before .s32-at3 .ensures) (c .enum-told4 .given .1))
+returns-4 c = object-no-z _ (kind-is (at-known-told (at-s32-at2-2 (c .before)) .before)) (x-is (at-s32-at2-2 (c .before) .before .before)) (y-is (c .before .before .before .before)) (by-signed 4 half32 refl _ toldS32 (c .before .before .s32-at3 .ensures) (c .enum-told4 .given .1))
 
 run16-at-requires : tie.Need-run16-at-requires
 run16-at-requires c κs = search needs
@@ -84,7 +103,7 @@ enum-known-p c = search needs
 
 add-t20 : tie.Need-add-t20
 add-t20 c =
-    let s = now (c .before .before .before .before .before .before .before .before .before .before .before .before .before .before .before .before .before .before .before .before .before .args .s) in
+    let s = now ((start (at-known-told (at-s32-at2 (at-match4-keys1 (c .before))))) .args .s) in
     omega (arith, told-behind (prefixed 2) 13 s (by-counted 2 (drop 13 s) (toldRun 2 (drop 13 s)) (c .before .before .before .run16-at .ensures) (c .before .p .given .1)) (read-behind s32 9 s (z-is (c .before .before .before .before .before)) (lit< tt)))
 
 enum-known-n : tie.Need-enum-known-n
@@ -92,16 +111,16 @@ enum-known-n c = search needs
 
 add-t22 : tie.Need-add-t22
 add-t22 c =
-    let s = now (c .before .before .before .before .before .before .before .before .before .before .before .before .before .before .before .before .before .before .before .before .before .args .s) in
+    let s = now ((start (at-known-told (at-s32-at2 (at-match4-keys1-2 (c .before))))) .args .s) in
     omega (arith, told-behind (prefixed 2) 13 s (by-counted 2 (drop 13 s) (toldRun 2 (drop 13 s)) (c .before .before .before .run16-at .ensures) (c .before .n .given .1)) (read-behind s32 9 s (z-is (c .before .before .before .before .before)) (lit< tt)))
 
 returns-5 : tie.Need-returns-5
-returns-5 c = object-no-content _ (kind-is (c .before .before .before .before .before .before .before .before .before .before .before .before .before .before .before .before .before)) (x-is (c .before .before .before .before .before .before .before .before .before .before .before .before .before)) (y-is (c .before .before .before .before .before .before .before .before .before)) (z-is (c .before .before .before .before .before)) (by-counted 2 _ (toldRun 2 _) (c .before .before .before .run16-at .ensures) (c .before .p .given .1))
+returns-5 c = object-no-content _ (kind-is ((at-known-told (at-s32-at2 (at-match4-keys1 (c .before)))) .before)) (x-is (at-s32-at2 (at-match4-keys1 (c .before)) .before .before)) (y-is (at-match4-keys1 (c .before) .before .before .before)) (z-is (c .before .before .before .before .before)) (by-counted 2 _ (toldRun 2 _) (c .before .before .before .run16-at .ensures) (c .before .p .given .1))
 
 returns-6 : tie.Need-returns-6
 returns-6 c =
-    rw (toZ-ofZ w32 _ (record { sfits = c .before .before .before .before .before .before .before .before .before .before .before .before .known-told2 .given .0 .1 }), toZ-ofZ w32 _ (record { sfits = c .before .before .before .before .before .before .before .before .known-told3 .given .0 .1 }), toZ-ofZ w32 _ (record { sfits = c .before .before .before .before .known-told4 .given .0 .1 }))
-    (object-done _ (kind-is (c .before .before .before .before .before .before .before .before .before .before .before .before .before .before .before .before .before)) (x-is (c .before .before .before .before .before .before .before .before .before .before .before .before .before)) (y-is (c .before .before .before .before .before .before .before .before .before)) (z-is (c .before .before .before .before .before)) (by-counted 2 _ (toldRun 2 _) (c .before .before .before .run16-at .ensures) (c .before .n .given .1)))
+    rw (toZ-ofZ w32 _ (record { sfits = at-s32-at2 (at-match4-keys1-2 (c .before)) .before .known-told2 .given .0 .1 }), toZ-ofZ w32 _ (record { sfits = at-match4-keys1-2 (c .before) .before .before .known-told3 .given .0 .1 }), toZ-ofZ w32 _ (record { sfits = c .before .before .before .before .known-told4 .given .0 .1 }))
+    (object-done _ (kind-is ((at-known-told (at-s32-at2 (at-match4-keys1-2 (c .before)))) .before)) (x-is (at-s32-at2 (at-match4-keys1-2 (c .before)) .before .before)) (y-is (at-match4-keys1-2 (c .before) .before .before .before)) (z-is (c .before .before .before .before .before)) (by-counted 2 _ (toldRun 2 _) (c .before .before .before .run16-at .ensures) (c .before .n .given .1)))
 
 pub object-row-spec : {M : Type 1} → statement M
 object-row-spec =
