@@ -22,7 +22,18 @@ ghost use Rattle.mapblock.specs.Layout.{all};
 ghost use Rattle.mapblock.specs.Block.{verdict};
 ghost use Rattle.block_reader.specs.Sections.{scannedOf};
 ghost use Rattle.mapblock.specs.Table.{clearTable};
+ghost use Rattle.census.specs.NameOrder.{SortedFrom};
 ghost use Rattle.census.specs.Census.{Census};
+
+// Puts the first n places in the order of their names.
+fn sort_first(names: &[u8], places: &mut [usize], n: usize, scratch: &mut [usize])
+    requires { ⌜ (n ≤ length (now places)) × (n ≤ length (now scratch)) ⌝ }
+    ensures kept { λ _. ⌜ length (now (places .exit)) ≡ length (now (places .entry)) ⌝ }
+    ensures sorted { λ _. ⌜ SortedFrom (now (names .entry)) (take n (now (places .entry)))
+        (take n (now (places .exit))) ⌝ }
+{
+    sort(names, &mut places[..n], scratch);
+}
 
 // Counts the nodes of a block that stand in a part by content id, and puts the places of the names that they use in order, at the front of
 // `places`; tells how many these are. The block stands at `at`, and `scanned` is what the scan found in it. The counters must be clear before,
@@ -65,6 +76,6 @@ pub fn take_census(
     count_in(head.version, lists, at, part.lot, counts);
     let n = used(names, counts, places);
     sized(places);
-    sort(names, places, n, scratch);
+    sort_first(names, places, n, scratch);
     n
 }

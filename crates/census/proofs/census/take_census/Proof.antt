@@ -13,13 +13,13 @@ use Rattle.census.proofs.census.take_census.Statement.{statement}
 use Rattle.census.proofs.census.take_census.Tie as tie
 
 -- the places of the calls, and where the function starts, from the last call and from the test of the span
-abbrev tested : tie.After-sort → tie.Else1
+abbrev tested : tie.After-sort-first → tie.Else1
 tested c = c .before .before .before .before .before .before .before .before .before .before .before .before .before
 
-abbrev sliced : tie.After-sort → tie.After-slice-of2
+abbrev sliced : tie.After-sort-first → tie.After-slice-of2
 sliced c = c .before .before .before .before .before .before .before .before .before .before
 
-abbrev counted : tie.After-sort → tie.After-count-in
+abbrev counted : tie.After-sort-first → tie.After-count-in
 counted c = c .before .before .before .before .before .before .before .before
 
 abbrev entry : tie.After-has → tie.Start
@@ -61,8 +61,8 @@ used-requires c κs = search needs
 sized-requires-3 : tie.Need-sized-requires-3
 sized-requires-3 c κs = search needs
 
-sort-requires : tie.Need-sort-requires
-sort-requires c κs = (omega (arith, c .before .before .sized3 .ensures, c .before .before .before .before .used .ensures .0), omega (arith, c .before .before .before .before .before .before .before .before .before .before .before .before .before .before .before .before .sized2 .ensures, c .before .before .before .before .used .ensures .0))
+sort-first-requires : tie.Need-sort-first-requires
+sort-first-requires c κs = (omega (arith, c .before .before .sized3 .ensures, c .before .before .before .before .used .ensures .0), omega (arith, c .before .before .before .before .before .before .before .before .before .before .before .before .before .before .before .before .sized2 .ensures, c .before .before .before .before .used .ensures .0))
 
 returns-2 : tie.Need-returns-2
 returns-2 c =
@@ -71,13 +71,13 @@ returns-2 c =
     let u = c .before .before .before .before .before .used .ensures in (
       u .0,
       (
-        c .sort .ensures .0 ∙ c .before .before .before .sized3 .ensures,
+        c .sort-first .ensures .0 ∙ c .before .before .before .sized3 .ensures,
         (
           λ out. no-true (sym out ∙ within (tested c)),
           λ b n reads shows clear. census-some (now (a .block)) (a .part) (a .at) (block-bytes x) reads shows clear (within (tested c)) (sliced c .before .slice-of .ensures .bytes) (sliced c .slice-of2 .ensures .bytes) record {
             counts = counted c .count-in .ensures .0;
             uses = λ l r f. used-places _ _ r f (u .1);
-            sorts = c .sort .ensures .1;
+            sorts = c .sort-first .ensures .1;
           },
         ),
       ),
@@ -96,5 +96,5 @@ take-census-spec =
     count-in-requires
     used-requires
     sized-requires-3
-    sort-requires
+    sort-first-requires
     returns-2)
