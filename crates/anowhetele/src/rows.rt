@@ -39,10 +39,10 @@ fn no_name(answer: AnowAnswer) -> AnowNameRow
 
 // Tells of the front row of names.
 #[no_mangle]
-pub extern "C" fn anow_row_name(part: &[u8]) -> AnowNameRow
-    ensures { λ r. ⌜ r ≡ handedName (nameRowOf (now (part .entry))) ⌝ }
+pub extern "C" fn anow_row_name(section: &[u8]) -> AnowNameRow
+    ensures { λ r. ⌜ r ≡ handedName (nameRowOf (now (section .entry))) ⌝ }
 {
-    match name_row_of(part) {
+    match name_row_of(section) {
         NameRowAnswer::Row { row, length: n } => {
             let name = row.name;
             AnowNameRow {
@@ -85,10 +85,10 @@ fn no_metadata(answer: AnowAnswer) -> AnowMetadataRow
 
 // Tells of the front row of metadata.
 #[no_mangle]
-pub extern "C" fn anow_row_metadata(version: u8, part: &[u8]) -> AnowMetadataRow
-    ensures { λ r. ⌜ r ≡ handedMetadata (metadataRowOf version (now (part .entry))) ⌝ }
+pub extern "C" fn anow_row_metadata(version: u8, section: &[u8]) -> AnowMetadataRow
+    ensures { λ r. ⌜ r ≡ handedMetadata (metadataRowOf version (now (section .entry))) ⌝ }
 {
-    match metadata_row_of(version, part) {
+    match metadata_row_of(version, section) {
         MetadataRowAnswer::Row { row, length: n } => {
             let content = row.content;
             let rows = row.rows;
@@ -135,10 +135,10 @@ fn no_object(answer: AnowAnswer) -> AnowObjectRow
 
 // Tells of the front row of static objects.
 #[no_mangle]
-pub extern "C" fn anow_row_object(part: &[u8]) -> AnowObjectRow
-    ensures { λ r. ⌜ r ≡ handedObject (objectRowOf (now (part .entry))) ⌝ }
+pub extern "C" fn anow_row_object(section: &[u8]) -> AnowObjectRow
+    ensures { λ r. ⌜ r ≡ handedObject (objectRowOf (now (section .entry))) ⌝ }
 {
-    match object_row_of(part) {
+    match object_row_of(section) {
         ObjectRowAnswer::Row { row, length: n } => {
             let content = row.content;
             AnowObjectRow {
@@ -178,10 +178,10 @@ fn no_timer(answer: AnowAnswer) -> AnowTimerRow
 
 // Tells of the front row of timers.
 #[no_mangle]
-pub extern "C" fn anow_row_timer(part: &[u8]) -> AnowTimerRow
-    ensures { λ r. ⌜ r ≡ handedTimer (timerRowOf (now (part .entry))) ⌝ }
+pub extern "C" fn anow_row_timer(section: &[u8]) -> AnowTimerRow
+    ensures { λ r. ⌜ r ≡ handedTimer (timerRowOf (now (section .entry))) ⌝ }
 {
-    match timer_row_of(part) {
+    match timer_row_of(section) {
         TimerRowAnswer::Row { row, length: n } => AnowTimerRow {
             answer: done(n),
             position: row.position as u32,

@@ -46,8 +46,8 @@ refuses-on (refusal n r o) x y f h = f n r o h
 
 -- ---- a step, taken apart
 module _ (p : Part) (w : State byOne) (r : SheetRecord) where
-  step-took : (v : State byOne) → stepOf byOne p w r ≡ good v → (x : Placed) × (judgeRecord (w .last) r ≡ good x) × (taking byOne p w (r .key) x ≡ v)
-  step-took v h = go (judgeRecord (w .last) r) refl
+  step-taken : (v : State byOne) → stepOf byOne p w r ≡ good v → (x : Placed) × (judgeRecord (w .last) r ≡ good x) × (taking byOne p w (r .key) x ≡ v)
+  step-taken v h = go (judgeRecord (w .last) r) refl
     where
       go : (a : Answer Placed) → judgeRecord (w .last) r ≡ a → (x : Placed) × (judgeRecord (w .last) r ≡ good x) × (taking byOne p w (r .key) x ≡ v)
       go (good x) e = let z : good (taking byOne p w (r .key) x) ≡ good v = sym (step-good byOne p w r e) ∙ h in (x, e, cc)
@@ -102,38 +102,38 @@ module _ (p : Part) (w : State byOne) (s : List ℕ) where
       framed (done r n) f = stepped r n f (stepOf byOne p w r) refl
 
   -- one that is taken
-  pub record Parsed (v : State byOne) (n : ℕ) : Type 0 where
+  pub record RecordTaken (v : State byOne) (n : ℕ) : Type 0 where
     pub taken : SheetRecord
     pub reads : frame .read s ≡ done taken n
     pub block : Placed
     pub judged : judgeRecord (w .last) taken ≡ good block
     pub state : taking byOne p w (taken .key) block ≡ v
 
-  pub took : {v : State byOne} {n : ℕ} → takeOf byOne p w s ≡ good (v, n) → Parsed v n
-  took {v} {n} h = framed (frame .read s) refl
+  pub record-taken : {v : State byOne} {n : ℕ} → takeOf byOne p w s ≡ good (v, n) → RecordTaken v n
+  record-taken {v} {n} h = framed (frame .read s) refl
     where
-      stepped : (r : SheetRecord) (m : ℕ) → frame .read s ≡ done r m → (b : Answer (State byOne)) → stepOf byOne p w r ≡ b → Parsed v n
+      stepped : (r : SheetRecord) (m : ℕ) → frame .read s ≡ done r m → (b : Answer (State byOne)) → stepOf byOne p w r ≡ b → RecordTaken v n
       stepped r m f (refusal x y z) e = no-good (sym (take-refused f e) ∙ h)
       stepped r m f (good u) e =
           let z : _≡_ {A = Answer (State byOne × ℕ)} (good (u, m)) (good (v, n)) = sym (take-good f e) ∙ h in
           let y : _≡_ {A = State byOne × ℕ} (u, m) (v, n) = cc in
           let same : u ≡ v = ap (λ (x : State byOne × ℕ). x .0) y in
           let end : m ≡ n = ap (λ (x : State byOne × ℕ). x .1) y in
-          let x = step-took p w r v (e ∙ ap good same) in
+          let x = step-taken p w r v (e ∙ ap good same) in
           record { taken = r; reads = f ∙ ap (done r) end; block = x .0; judged = x .1; state = x .2 }
 
-      framed : (x : Read Misframed SheetRecord) → frame .read s ≡ x → Parsed v n
+      framed : (x : Read Misframed SheetRecord) → frame .read s ≡ x → RecordTaken v n
       framed (refused e q) f = no-good (sym (take-misframed f) ∙ h)
       framed (done r m) f = stepped r m f (stepOf byOne p w r) refl
 
   module _ {v : State byOne} {n : ℕ} (h : takeOf byOne p w s ≡ good (v, n)) where
     pub take-number : v .records ≡ suc (w .records)
-    take-number = sym (ap (λ (u : State byOne). u .records) (took h .state))
+    take-number = sym (ap (λ (u : State byOne). u .records) (record-taken h .state))
 
     -- what follows it is answered from the next state on
     pub from-good : (room k : ℕ) → Bytes s → Canonical ones (w .rows) → answerFrom p room w (suc k) s ≡ answerFrom p room v k (drop n s)
     from-good room k b c =
-        let x = took h in
+        let x = record-taken h in
         record-on byOne p room k s b (x .reads) w c (x .judged) ∙ ap (λ (u : State byOne). answerFrom p room u k (drop n s)) (x .state)
 
 -- ---- what is told of it

@@ -20,7 +20,7 @@ use Rattle.meter.specs.declared.stream.Step.{Step}
 use Rattle.meter.specs.declared.stream.Step.the-variants as steps
 use Rattle.meter.proofs.Taking.{refuses-lent, refuses-on, StepTold}
 use Rattle.sheetcount_lib.proofs.Sheetcount.{NextBytes, next-bytes, counted-refused}
-use Rattle.sheetcount_lib.specs.Reading.{longest, Ready, Counted, Ended}
+use Rattle.sheetcount_lib.specs.Reading.{longest, Ready, SheetCounted, Ended}
 
 -- behind some records, in the bytes s: the state from which the others are counted, in whatever follows
 pub record Reached (count left : ℕ) (t : List ℕ) (q : Progress) : Type 0 where
@@ -60,7 +60,7 @@ module _ {count : ℕ} {t₀ bytes t ids counts : List ℕ} {left : ℕ} {q : Pr
   told e = subst (λ (c : Step). StepMatches t′ c (nextOf at s)) e (y at steps-on .0)
 
   -- a record is refused, and so are all
-  pub going-stop : {r : SheetAnswer} → a ≡ steps.Stop r → (d : List ℕ) → Counted (countedFrom count (noRecords byOne)) d d r
+  pub going-stop : {r : SheetAnswer} → a ≡ steps.Stop r → (d : List ℕ) → SheetCounted (countedFrom count (noRecords byOne)) d d r
   going-stop {r} e d = record {
     s = g .reached .s ++ s;
     bytes = bytes-append (g .reached .s) s (g .reached .bytes) b;
@@ -96,7 +96,7 @@ module _ {count : ℕ} {t₀ bytes t ids counts : List ℕ} {left : ℕ} {q : Pr
 
 -- all are taken, and some bytes follow
 pub going-end : {count : ℕ} {t₀ bytes t ids counts : List ℕ} {left : ℕ} {q : Progress} → Going count t₀ bytes t ids counts left q → left ≤ 0 → (d e : List ℕ) (r : SheetAnswer) → Ended t q d e r
-    → Counted (countedFrom count (noRecords byOne)) d e r
+    → SheetCounted (countedFrom count (noRecords byOne)) d e r
 going-end {count} {left = left} g h d e r y =
     let x = g .reached in
     let none : left ≡ 0 = omega arith in

@@ -31,7 +31,7 @@ use Rattle.sheetcount_lib.specs.Program.{everything, maxBlockLength, max
 use Rattle.sheet.proofs.RecordSteps.{records-end, records-more, sheet-misframed}
 use Rattle.sheet.proofs.SheetTaken.{ok-head, record-valid}
 use Rattle.meter.proofs.Streaming.{then-same, then-then, more, more-is, frames, frames-first, finishing, finishing-none, step-good, taking-canonical}
-use Rattle.meter.proofs.Taking.{take-misframed, take-refused, take-good, took, take-number, from-refused, from-good}
+use Rattle.meter.proofs.Taking.{take-misframed, take-refused, take-good, record-taken, take-number, from-refused, from-good}
 use Rattle.meter.proofs.SheetPuts.{blocksTally, from-head}
 
 -- ---- a record's first twelve bytes, by the fields as the leaves tell them
@@ -146,7 +146,7 @@ module _ (w : State byOne) (s : List ℕ) where
 
 next-canonical : (w : State byOne) (s : List ℕ) {v : State byOne} {n : ℕ} → Bytes s → Canonical ones (w .rows) → takeOf byOne everything w s ≡ good (v, n) → Canonical ones (v .rows)
 next-canonical w s {n = n} b c h =
-    let x = took everything w s h in
+    let x = record-taken everything w s h in
     subst (λ (u : State byOne). Canonical ones (u .rows)) (x .state)
     (taking-canonical byOne everything w (x .taken .key) (x .block) (record-valid (w .last) (x .taken) (x .block) (frame .backward s (x .taken) n b (x .reads) .ok) (x .judged)) c)
 
@@ -167,7 +167,7 @@ counted-within (suc k) w s b c h = framed (frame .read s) refl (λ v n. counted-
     taken : (r : SheetRecord) (n m : ℕ) → frame .read s ≡ done r n → blockLengthOf (w .records) s ≡ good m → (a : Answer (State byOne × ℕ)) → takeOf byOne everything w s ≡ a → Behind → countedFrom (suc k) w s ≡ answerFrom everything maxTallyLength w (suc k) s
     taken r n m f g (refusal x y z) t ih = counted-refused w s k (next-take w s g ∙ t) ∙ sym (from-refused everything w s maxTallyLength k t)
     taken r n m f g (good (v, q)) t ih =
-        counted-on w s k (next-take w s g ∙ t) ∙ ih v q (next-canonical w s b c t) (h .1 (took everything w s t .taken) q (took everything w s t .reads)) ∙ sym (from-good everything w s t maxTallyLength k b c)
+        counted-on w s k (next-take w s g ∙ t) ∙ ih v q (next-canonical w s b c t) (h .1 (record-taken everything w s t .taken) q (record-taken everything w s t .reads)) ∙ sym (from-good everything w s t maxTallyLength k b c)
 
     framed : (x : Read Misframed SheetRecord) → frame .read s ≡ x → Behind → countedFrom (suc k) w s ≡ answerFrom everything maxTallyLength w (suc k) s
     framed (refused e p) f ih =
@@ -206,7 +206,7 @@ next-bytes w s {v} {n} b h = go (blockLengthOf (w .records) s) refl
     go (refusal x y z) e = no-good (sym (next-unread w s e) ∙ h)
     go (good m) e =
         let t = sym (next-take w s e) ∙ h in
-        let x = took everything w s t in
+        let x = record-taken everything w s t in
         let r = x .taken in
         let ok = frame .backward s r n b (x .reads) .ok in
         let maxCount = length-most (w .records) (length (r .block)) s b (e ∙ ap good (sym (stated-length (w .records) s m r n b (x .reads) e))) in
@@ -251,7 +251,7 @@ good-within (suc k) w s t b h = next (nextOf w s) refl (λ v n. good-within k v 
 
         rest : (r : SheetRecord) (o : ℕ) → frame .read s ≡ done r o → AllWithin k (drop o s)
         rest r o q =
-            let x = took everything w s (sym (next-take w s f) ∙ e) in
+            let x = record-taken everything w s (sym (next-take w s f) ∙ e) in
             let z : _≡_ {A = Read Misframed SheetRecord} (done (x .taken) n) (done r o) = sym (x .reads) ∙ q in
             let same : n ≡ o = cc in
             subst (λ (i : ℕ). AllWithin k (drop i s)) same (ih v n g)

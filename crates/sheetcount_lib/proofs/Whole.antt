@@ -21,7 +21,7 @@ use Rattle.meter.specs.declared.stream.Progress.{Progress}
 use Rattle.sheet.proofs.SheetTaken.{ok-head}
 use Rattle.meter.proofs.Carried.{begun-carried}
 use Rattle.sheetcount_lib.proofs.Sheetcount.{behind-head, headless}
-use Rattle.sheetcount_lib.specs.Reading.{Counted, IfRead}
+use Rattle.sheetcount_lib.specs.Reading.{SheetCounted, IfRead}
 use Rattle.sheetcount_lib.specs.declared.reading.SheetRead.{SheetRead}
 use Rattle.sheetcount_lib.specs.declared.reading.SheetRead.the-variants as sheetReads
 
@@ -43,14 +43,14 @@ module _ (room spare : ℕ) (r : room ≡ maxTallyLength) (p : spare ≡ maxTall
 
 -- ---- the head, the records and the end
 -- the head is none
-pub counted-headless : (s d : List ℕ) → Bytes s → none ≡ toOption (sheetHead .read s) → Counted sheetcountOf d d (sheets.Malformed 0)
+pub counted-headless : (s d : List ℕ) → Bytes s → none ≡ toOption (sheetHead .read s) → SheetCounted sheetcountOf d d (sheets.Malformed 0)
 counted-headless s d b e = go (toOption-none (sheetHead .read s) e)
   where
-    go : Misread (sheetHead .read s) → Counted sheetcountOf d d (sheets.Malformed 0)
+    go : Misread (sheetHead .read s) → SheetCounted sheetcountOf d d (sheets.Malformed 0)
     go (at-place p h) = record { s = s; bytes = b; answered = rw (headless s h) (refl, refl) }
 
 -- what is counted behind the head of a sheet that states n records is what the program makes of the sheet
-pub counted-behind : (n : ℕ) → n < 256 ^ 4 → {d e : List ℕ} (r : SheetAnswer) → Counted (countedFrom n (noRecords byOne)) d e r → Counted sheetcountOf d e r
+pub counted-behind : (n : ℕ) → n < 256 ^ 4 → {d e : List ℕ} (r : SheetAnswer) → SheetCounted (countedFrom n (noRecords byOne)) d e r → SheetCounted sheetcountOf d e r
 counted-behind n h {d} {e} r x = record {
   s = sheetHead .encode n ++ x .s;
   bytes = bytes-append (sheetHead .encode n) (x .s) (sheetHead .bytes n (ok-head n h)) (x .bytes);

@@ -62,7 +62,7 @@ pub record Ready (bytes out spare ids counts : List ℕ) : Type 0 where
   pub counts-clear : counts ≡ clearTable
 
 -- there are bytes s of which the answer, and what the output then holds, are what f makes of them
-pub record Counted (f : List ℕ → Answer (List ℕ)) (before after : List ℕ) (r : SheetAnswer) : Type 0 where
+pub record SheetCounted (f : List ℕ → Answer (List ℕ)) (before after : List ℕ) (r : SheetAnswer) : Type 0 where
   pub s : List ℕ
   pub bytes : Bytes s
   pub answered : Answered (toldSheet r) before after (f s)
@@ -70,4 +70,4 @@ pub record Counted (f : List ℕ → Answer (List ℕ)) (before after : List ℕ
 -- they are the program's, whatever the output held before
 pub record CountedAs (out : List ℕ) (r : SheetAnswer) : Type 0 where
   pub before : List ℕ
-  pub into : Counted sheetcountOf before out r
+  pub into : SheetCounted sheetcountOf before out r

@@ -25,7 +25,7 @@ ghost use Rattle.meter.specs.Counting.{byOne};
 ghost use Rattle.meter.specs.Streaming.{noRecords};
 ghost use Rattle.meter.specs.Progress.{Carries};
 ghost use Rattle.sheetcount_lib.specs.Program.{maxBlockLength, maxTallyLength, countedFrom, sheetcountOf};
-ghost use Rattle.sheetcount_lib.specs.Reading.{longest, Within, RecordWithin, IfRead, Ended, Ready, Counted, CountedAs};
+ghost use Rattle.sheetcount_lib.specs.Reading.{longest, Within, RecordWithin, IfRead, Ended, Ready, SheetCounted, CountedAs};
 
 // How many bytes were read, which are fewer than were asked for only where the input ends; or that a read failed.
 enum BytesRead {
@@ -123,7 +123,7 @@ fn take_all(
         × Carries (now spare) progress (noRecords byOne) ⌝ }
     ensures spare { λ _. ⌜ length (now (spare .exit)) ≡ length (now (spare .entry)) ⌝ }
     ensures told { λ r. ⌜
-        IfRead (Counted (countedFrom count (noRecords byOne)) (now (out .entry)) (now (out .exit))) r ⌝ }
+        IfRead (SheetCounted (countedFrom count (noRecords byOne)) (now (out .entry)) (now (out .exit))) r ⌝ }
 {
     let mut left = count;
     let mut now = progress;
@@ -161,7 +161,7 @@ fn read_sheet(
 ) -> SheetRead
     requires { ⌜ Ready (now bytes) (now out) (now spare) (now ids) (now counts)
         × Carries (now spare) progress (noRecords byOne) ⌝ }
-    ensures { λ r. ⌜ IfRead (Counted sheetcountOf (now (out .entry)) (now (out .exit))) r ⌝ }
+    ensures { λ r. ⌜ IfRead (SheetCounted sheetcountOf (now (out .entry)) (now (out .exit))) r ⌝ }
 {
     let BytesRead::Bytes(got) = read_bytes(input, &mut bytes[..HEAD_LENGTH]) else {
         return SheetRead::Failed;
@@ -195,7 +195,7 @@ fn count_into(
     scratch: &mut [usize; NODES],
 ) -> SheetRead
     requires { ⌜ Ready (now bytes) (now out) (now spare) (now ids) (now counts) ⌝ }
-    ensures { λ r. ⌜ IfRead (Counted sheetcountOf (now (out .entry)) (now (out .exit))) r ⌝ }
+    ensures { λ r. ⌜ IfRead (SheetCounted sheetcountOf (now (out .entry)) (now (out .exit))) r ⌝ }
 {
     match start(Part::EVERYTHING, out.len(), spare.len()) {
         StartAnswer::BadPart => SheetRead::Answer(SheetAnswer::BadPart),

@@ -1,5 +1,5 @@
-// Rows of a tally, from the front of a part: the front row's count, its name as a part of what was given, and the rows behind it handed on
-// as what remains. A call that hands back a part hands back an empty one when refused; its number is asked by the row's own question.
+// Rows of a tally, from the front: the front row's count, its name as a slice of what was given, and the rows behind it handed on
+// as what remains. A call that hands back a slice hands back an empty one when refused; its number is asked by the row's own question.
 use wire::fields::Run;
 use wire::fields::U64;
 use wire::fields::run16_at;
@@ -64,13 +64,13 @@ pub enum RowAnswer {
 }
 
 // Tells the front row's count and its length. Whether rows are in order is asked of the whole tally.
-pub fn row_of(part: &[u8]) -> RowAnswer
-    ensures { λ r. ⌜ toldFront r ≡ mapAnswer shownRow (frontOf one (now (part .entry))) ⌝ }
+pub fn row_of(rows: &[u8]) -> RowAnswer
+    ensures { λ r. ⌜ toldFront r ≡ mapAnswer shownRow (frontOf one (now (rows .entry))) ⌝ }
 {
-    if part.len() == 0 {
+    if rows.len() == 0 {
         return RowAnswer::NoSuchRow;
     }
-    match front_row(part) {
+    match front_row(rows) {
         RowRead::Row { size: n, count } => RowAnswer::Row {
             count,
             length: n + ROW_OVERHEAD,
@@ -80,25 +80,25 @@ pub fn row_of(part: &[u8]) -> RowAnswer
 }
 
 // Gives the name in the front row.
-pub fn name_of(part: &[u8]) -> &[u8]
-    ensures told { λ r. ⌜ now r ≡ bytesOf (λ (x : TallyRow one × ℕ). x .0 .name) (frontOf one (now (part .entry))) ⌝ }
-    ensures place { λ r. ⌜ ptr r ≡ placeIn (part .entry) (startTold (λ _. 2) (frontOf one (now (part .entry)))) ⌝ }
+pub fn name_of(rows: &[u8]) -> &[u8]
+    ensures told { λ r. ⌜ now r ≡ bytesOf (λ (x : TallyRow one × ℕ). x .0 .name) (frontOf one (now (rows .entry))) ⌝ }
+    ensures place { λ r. ⌜ ptr r ≡ placeIn (rows .entry) (startTold (λ _. 2) (frontOf one (now (rows .entry)))) ⌝ }
 {
-    match front_row(part) {
-        RowRead::Row { size: n, count: _ } => &part[NAME_AT..n + NAME_AT],
-        RowRead::Malformed => &part[..0],
+    match front_row(rows) {
+        RowRead::Row { size: n, count: _ } => &rows[NAME_AT..n + NAME_AT],
+        RowRead::Malformed => &rows[..0],
     }
 }
 
 // Gives what remains behind the front row.
-pub fn behind_row(part: &[u8]) -> &[u8]
-    ensures told { λ r. ⌜ now r ≡ rowsBehind (now (part .entry)) (frontOf one (now (part .entry))) ⌝ }
+pub fn behind_row(rows: &[u8]) -> &[u8]
+    ensures told { λ r. ⌜ now r ≡ rowsBehind (now (rows .entry)) (frontOf one (now (rows .entry))) ⌝ }
     ensures place { λ r. ⌜ ptr r
-        ≡ placeIn (part .entry) (startTold (λ (x : TallyRow one × ℕ). x .1) (frontOf one (now (part .entry)))) ⌝ }
+        ≡ placeIn (rows .entry) (startTold (λ (x : TallyRow one × ℕ). x .1) (frontOf one (now (rows .entry)))) ⌝ }
 {
-    match front_row(part) {
-        RowRead::Row { size: n, count: _ } => &part[n + ROW_OVERHEAD..],
-        RowRead::Malformed => &part[..0],
+    match front_row(rows) {
+        RowRead::Row { size: n, count: _ } => &rows[n + ROW_OVERHEAD..],
+        RowRead::Malformed => &rows[..0],
     }
 }
 

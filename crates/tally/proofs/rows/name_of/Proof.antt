@@ -18,7 +18,7 @@ use Rattle.tally.proofs.rows.name_of.Statement.{statement}
 use Rattle.tally.proofs.rows.name_of.Tie as tie
 
 -- the row that was read
-front : (c : tie.After-known-told) → toldRow (now (c .before .before .before .before .before .args .part)) (rows.Row (c .before .n .given .0 .0) (c .before .n .given .0 .1 .0)) ≡ toOption (row one [] .read (now (c .before .before .before .before .before .args .part)))
+front : (c : tie.After-known-told) → toldRow (now (c .before .before .before .before .before .args .rows)) (rows.Row (c .before .n .given .0 .0) (c .before .n .given .0 .1 .0)) ≡ toOption (row one [] .read (now (c .before .before .before .before .before .args .rows)))
 front c = told-as (toldRow _) (c .before .before .before .front-row .ensures) (c .before .n .given .1)
 
 front-row-requires : tie.Need-front-row-requires
@@ -28,7 +28,7 @@ enum-known-n : tie.Need-enum-known-n
 enum-known-n c = search needs
 
 add-result : tie.Need-add-result
-add-result c = omega (arith, row-inside (now (c .before .before .before .before .before .args .part)) (c .before .n .given .0 .0) (c .before .n .given .0 .1 .0) (front c))
+add-result c = omega (arith, row-inside (now (c .before .before .before .before .before .args .rows)) (c .before .n .given .0 .0) (c .before .n .given .0 .1 .0) (front c))
 
 sub-result : tie.Need-sub-result
 sub-result c = search needs
@@ -37,7 +37,7 @@ part-result-start : tie.Need-part-result-start
 part-result-start c = search needs
 
 part-result-end : tie.Need-part-result-end
-part-result-end c = omega (arith, row-inside (now (c .before .before .before .before .before .args .part)) (c .before .n .given .0 .0) (c .before .n .given .0 .1 .0) (front c))
+part-result-end c = omega (arith, row-inside (now (c .before .before .before .before .before .args .rows)) (c .before .n .given .0 .0) (c .before .n .given .0 .1 .0) (front c))
 
 enum-told : tie.Need-enum-told
 enum-told c = search needs
@@ -47,13 +47,13 @@ slice-aggregate-result c = search needs
 
 returns : tie.Need-returns
 returns c =
-    let s = c .before .before .before .before .before .before .args .part in
+    let s = c .before .before .before .before .before .before .args .rows in
     let is = sym (front-is (now s) (c .before .before .n .given .0 .0) (c .before .before .n .given .0 .1 .0) (front (c .before))) in
     (name-part (c .before .before .n .given .0 .0) (now s) ∙ ap (bytesOf (λ (x : TallyRow one × ℕ). x .0 .name)) is, place-is s (ap (startTold (λ (x : TallyRow one × ℕ). 2)) is))
 
 returns-2 : tie.Need-returns-2
 returns-2 c =
-    let s = c .before .before .before .before .before .args .part in
+    let s = c .before .before .before .before .before .args .rows in
     let none = told-as (toldRow (now s)) (c .before .before .before .front-row .ensures) (c .before .enum-told .given .1) in
     (front-isnt (now s) none (λ (x : TallyRow one × ℕ). x .0 .name), place-first s (front-first (now s) none (λ (x : TallyRow one × ℕ). 2)))
 
