@@ -1,4 +1,4 @@
--- Rows as a host is handed them: the answer with the row's length, the values of its fields, and where its runs stand in the part; all 0 on a refusal.
+-- Rows as a host is handed them: the answer with the row's length, the values of its fields, and where its runs stand in the bytes given; all 0 on a refusal.
 use Prim.Native.Nat.{ℕ}
 use lib.IntN.{pos}
 use Rattle.wire.specs.Answer.{Answer, good, refusal}

@@ -84,7 +84,7 @@ Refusal (good a) = ⊥
 Refusal (refusal n r o) = Unit {0}
 
 module _ {A : Type 0} (s : RefT (List ℕ)) where
-  -- the part that an answer tells, and the front of s, with no bytes, where it tells none
+  -- the slice that an answer tells, and the front of s, with no bytes, where it tells none
   pub part-told : (which : A → Range) {a : A} {y : Answer A} {r : RefT (List ℕ)} → good a ≡ y → IsSlice s (which a) r → IsSlice s (rangeTold which y) r
   part-told which {r = r} h k = subst (λ (x : Answer A). IsSlice s (rangeTold which x) r) h k
 

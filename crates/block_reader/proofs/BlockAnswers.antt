@@ -19,7 +19,7 @@ use Rattle.mapblock.specs.Params.{listsOf}
 use Rattle.block_reader.specs.Sections.{scannedOf}
 use Rattle.mapblock.specs.Table.{freeIn}
 use Rattle.mapblock.specs.Numbers.{refusalNumber}
-use Rattle.block_reader.specs.Questions.{areWhole, blockAnswer, blockOf, shown, sectionsOf, readOf, lists, ListsHold, partsOf}
+use Rattle.block_reader.specs.Questions.{areWhole, blockAnswer, blockOf, shown, sectionsOf, readOf, lists, ListsHold, sectionRangesOf}
 use Rattle.mapblock.specs.declared.fault.Fault.{Fault}
 use Rattle.wire.specs.declared.ranges.Range.{Range}
 use Rattle.mapblock.specs.declared.head.Sections.{Sections}
@@ -87,15 +87,15 @@ module _ (s : List ℕ) where
     pub objects : Inside (x .objects)
     pub timers : Inside (x .timers)
 
-  inside-by : (r : Read Fault Block) → verdict all s ≡ r → Bytes s → AllInside (partsOf (mapAnswer shown (blockAnswer r)))
+  inside-by : (r : Read Fault Block) → verdict all s ≡ r → Bytes s → AllInside (sectionRangesOf (mapAnswer shown (blockAnswer r)))
   inside-by (done b n) e y =
       let k = sections-are-rows s b n y e in
       record { names = k .names .inside; metadata = k .metadata .inside; objects = k .objects .inside; timers = k .timers .inside }
   inside-by (refused f p) e y = record { names = omega arith; metadata = omega arith; objects = omega arith; timers = omega arith }
 
-  pub parts-inside : {x : Sections} → Bytes s → x ≡ partsOf (sectionsOf s) → AllInside x
+  pub ranges-inside : {x : Sections} → Bytes s → x ≡ sectionRangesOf (sectionsOf s) → AllInside x
   unfolding blockOf
-  parts-inside y h = subst⁻¹ AllInside h (inside-by (verdict all s) refl y)
+  ranges-inside y h = subst⁻¹ AllInside h (inside-by (verdict all s) refl y)
 
 -- ---- the reader; a, b and c are the lengths of the lists lent
 pub whole-are : {a b c : ℕ} → areWhole a b c ≡ true → (a ≡ 4096) × (b ≡ 4096) × (c ≡ 4096)

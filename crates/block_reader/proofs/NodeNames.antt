@@ -55,7 +55,7 @@ module _ (s : List ℕ) (id : ℕ) where
       go true h = part-holds s (p ++ rowHead r) (r .name) (encodeItems (nameRow all) (r ∷ seen) l ++ q) (at + 4) here start
       go false h = h
 
--- bytes about a part that holds r
+-- bytes about a range that holds r
 split-at : (s : List ℕ) (p : Range) {r : List ℕ} → Holds s p r → s ≡ take (p .start) s ++ (r ++ drop (p .length) (drop (p .start) s))
 split-at s p h =
     sym (take-append-drop (p .start) s)

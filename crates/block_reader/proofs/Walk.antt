@@ -134,7 +134,7 @@ timer-asked = record {
 }
 
 -- ---- a block that is taken
--- a section's rows, held in its part
+-- a section's rows, held in its range
 section : {A : Type 0} {item : List A → Form A} {Good : A → Type 0} {s : List ℕ} {p : Range} (l : List A) → Bytes s → Holds s p (encodeItems item [] l) → Each Good l
     → Held item Good (bytesIn s p) l
 section {s = s} {p = p} l w h g = record { are-bytes = bytes-take (p .length) (drop (p .start) s) (bytes-drop (p .start) s w); seen = []; rows = h .bytes; each = g }

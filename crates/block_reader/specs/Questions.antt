@@ -68,9 +68,9 @@ abbrev pub ReadInto : List ℕ → Answer (Head × Sections) → Nodes → Nodes
 ReadInto s told before after = (told ≡ mapAnswer shown (readInto s before)) × ListsHold (readInto s before) before after
 
 -- where the sections are; nowhere when refused
-abbrev pub partsOf : Answer (Head × Sections) → Sections
-partsOf (good x) = x .1
-partsOf (refusal n r o) = record { names = noRange; metadata = noRange; objects = noRange; timers = noRange }
+abbrev pub sectionRangesOf : Answer (Head × Sections) → Sections
+sectionRangesOf (good x) = x .1
+sectionRangesOf (refusal n r o) = record { names = noRange; metadata = noRange; objects = noRange; timers = noRange }
 
 -- ---- the name of a node
 -- the name that an id has in the rows

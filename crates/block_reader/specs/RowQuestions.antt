@@ -1,4 +1,4 @@
--- Rows from the front of a part: document 01, 'Reading, looking, writing' and 'Order'. The front row is judged alone, so never 5, 6 or 8.
+-- Rows from the front of bytes: document 01, 'Reading, looking, writing' and 'Order'. The front row is judged alone, so never 5, 6 or 8.
 use Prim.Native.Nat.{ℕ}
 use mathlib.Core.Bool.{cond}
 use mathlib.Core.List.{List, []}
@@ -15,7 +15,7 @@ use Rattle.mapblock.specs.declared.metadata.MetadataFields.{MetadataFields}
 use Rattle.mapblock.specs.declared.objects.ObjectFields.{ObjectFields}
 use Rattle.mapblock.specs.declared.timers.TimerFields.{TimerFields}
 
--- 16 for an empty part, then what the reader says of the row
+-- 16 where there are no bytes, then what the reader says of the row
 abbrev pub frontRow : {A : Type 0} → List ℕ → Read Fault A → Answer (A × ℕ)
 frontRow s r = cond (eqb (length s) 0) (plain noSuch) (answerOf r)
 

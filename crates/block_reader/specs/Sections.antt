@@ -1,5 +1,5 @@
 -- Where things stand in a block: document 01, 'Reading, looking, writing'. A section is the run of a list's rows without count; the rows stand
--- at the end of their list. A part is told by its start and its length in the caller's block.
+-- at the end of their list. A section is told by its start and its length in the caller's block.
 use Prim.Native.Nat.{ℕ, _+_, _-_}
 use mathlib.Core.Bool.{cond}
 use mathlib.Core.List.{[]}

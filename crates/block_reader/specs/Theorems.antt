@@ -100,8 +100,8 @@ endLineAt l i = lineStart l i && starts endLine (drop i l)
 abbrev pub FirstEndLine : Type 0
 FirstEndLine = (l : List ℕ) (n : ℕ) → (through true l ≡ some n) ↔ ((k : ℕ) × (n ≡ k + 13) × (endLineAt l k ≡ true) × ((i : ℕ) → i < k → endLineAt l i ≡ false))
 
--- ---- parts of the caller's block: document 01, 'Reading, looking, writing'
--- the part p lies in s, and holds the bytes r
+-- ---- ranges of the caller's block: document 01, 'Reading, looking, writing'
+-- the range p lies in s, and holds the bytes r
 pub record Holds (s : List ℕ) (p : Range) (r : List ℕ) : Type 0 where
   pub inside : p .start + p .length ≤ length s
   pub bytes : bytesIn s p ≡ r
@@ -139,11 +139,11 @@ pub record RunsAreThere : Type 0 where
 abbrev pub rowShown : {A B : Type 0} → Form A → (A → B) → A → B × ℕ
 rowShown f fields r = (fields r, length (f .encode r))
 
--- The run that comes back of each row, where a part is walked by its row question and what remains, is these bytes.
+-- The run that comes back of each row, where bytes are walked by their row question and what remains, is these bytes.
 abbrev pub RunsWalked : {A B : Type 0} → (List ℕ → Answer (B × ℕ)) → (B → Range) → (A → List ℕ) → List ℕ → List A → Type 0
 RunsWalked {B = B} ask run bytes s rows = walk (λ p. rowsBehind p (ask p)) (λ p. bytesIn p (rangeTold (λ (x : B × ℕ). run (x .0)) (ask p))) (length rows) s ≡ map bytes rows
 
--- a part of names, of metadata in the version v, of static objects
+-- rows of names, of metadata in the version v, of static objects
 pub record NamesWalked (s : List ℕ) (l : List NameRow) : Type 0 where
   pub rows : GivesRows nameRowOf (rowShown (nameRow all []) nameFields) s l
   pub name : RunsWalked nameRowOf (λ (f : NameFields). f .name) (λ (r : NameRow). r .name) s l

@@ -20,7 +20,7 @@ ghost use Rattle.mapblock.specs.Params.{entries};
 ghost use Rattle.block_reader.specs.Sections.{scannedOf};
 ghost use Rattle.wire.specs.Ranges.{IsSlice};
 ghost use Rattle.block_reader.specs.Scan.{toldScan};
-ghost use Rattle.block_reader.specs.Questions.{areWhole, lists, ReadInto, sectionsOf, partsOf, toldRead, toldSections};
+ghost use Rattle.block_reader.specs.Questions.{areWhole, lists, ReadInto, sectionsOf, sectionRangesOf, toldRead, toldSections};
 
 // Judges a block by itself: all ids are free.
 pub(crate) fn judge(block: &[u8]) -> ScanRead
@@ -142,14 +142,14 @@ pub fn sections(block: &[u8]) -> SectionsAnswer
 }
 
 // Tells where the sections are: nowhere in a block that is refused.
-fn parts(block: &[u8]) -> Sections
-    ensures { λ r. ⌜ r ≡ partsOf (sectionsOf (now (block .entry))) ⌝ }
+fn section_ranges(block: &[u8]) -> Sections
+    ensures { λ r. ⌜ r ≡ sectionRangesOf (sectionsOf (now (block .entry))) ⌝ }
 {
     match sections(block) {
         SectionsAnswer::Block {
             head: _,
-            sections: found,
-        } => found,
+            sections: ranges,
+        } => ranges,
         SectionsAnswer::Refused {
             fault: _,
             offset: _,
@@ -159,36 +159,36 @@ fn parts(block: &[u8]) -> Sections
 
 // Gives the rows of names as a slice of the block, empty when it is refused.
 pub fn names_section(block: &[u8]) -> &[u8]
-    ensures { λ r. ⌜ IsSlice (block .entry) (partsOf (sectionsOf (now (block .entry))) .names) r ⌝ }
+    ensures { λ r. ⌜ IsSlice (block .entry) (sectionRangesOf (sectionsOf (now (block .entry))) .names) r ⌝ }
 {
-    let found = parts(block);
-    let names = found.names;
+    let ranges = section_ranges(block);
+    let names = ranges.names;
     slice_of(block, names)
 }
 
 // Gives the rows of metadata in the same way.
 pub fn metadata_section(block: &[u8]) -> &[u8]
-    ensures { λ r. ⌜ IsSlice (block .entry) (partsOf (sectionsOf (now (block .entry))) .metadata) r ⌝ }
+    ensures { λ r. ⌜ IsSlice (block .entry) (sectionRangesOf (sectionsOf (now (block .entry))) .metadata) r ⌝ }
 {
-    let found = parts(block);
-    let metadata = found.metadata;
+    let ranges = section_ranges(block);
+    let metadata = ranges.metadata;
     slice_of(block, metadata)
 }
 
 // Gives the rows of static objects in the same way.
 pub fn objects_section(block: &[u8]) -> &[u8]
-    ensures { λ r. ⌜ IsSlice (block .entry) (partsOf (sectionsOf (now (block .entry))) .objects) r ⌝ }
+    ensures { λ r. ⌜ IsSlice (block .entry) (sectionRangesOf (sectionsOf (now (block .entry))) .objects) r ⌝ }
 {
-    let found = parts(block);
-    let objects = found.objects;
+    let ranges = section_ranges(block);
+    let objects = ranges.objects;
     slice_of(block, objects)
 }
 
 // Gives the rows of timers in the same way.
 pub fn timers_section(block: &[u8]) -> &[u8]
-    ensures { λ r. ⌜ IsSlice (block .entry) (partsOf (sectionsOf (now (block .entry))) .timers) r ⌝ }
+    ensures { λ r. ⌜ IsSlice (block .entry) (sectionRangesOf (sectionsOf (now (block .entry))) .timers) r ⌝ }
 {
-    let found = parts(block);
-    let timers = found.timers;
+    let ranges = section_ranges(block);
+    let timers = ranges.timers;
     slice_of(block, timers)
 }

@@ -416,13 +416,13 @@ fn names_behind(s: &[u8], front: FrontFields, middle: MiddleFields, ids: &mut [u
             count,
             length: n,
         } => {
-            let found = without_late_timers(
+            let scanned = without_late_timers(
                 front,
                 middle,
                 timestamp,
                 rows_of(at, NAMES_HEAD_LENGTH, n),
             );
-            let r = ending(s, found, at + n, ids);
+            let r = ending(s, scanned, at + n, ids);
             unmark(&s[at + NAMES_HEAD_LENGTH..], count, ids);
             r
         }
@@ -452,10 +452,10 @@ fn behind_front(s: &[u8], front: FrontFields, ids: &mut [u8; IDS]) -> ScanRead
                 NAMES_HEAD_LENGTH,
                 front.lists - BESIDE_NAMES_LENGTH,
             );
-            let found = without_late_timers(front, lists, front.timestamp, names);
+            let scanned = without_late_timers(front, lists, front.timestamp, names);
             ending(
                 s,
-                found,
+                scanned,
                 end + lists.metadata + lists.early + lists.objects,
                 ids,
             )
@@ -470,10 +470,10 @@ pub fn scan(s: &[u8], ids: &mut [u8; IDS]) -> ScanRead
 {
     match front(s, ids) {
         FrontRead::Refused { fault, offset } => ScanRead::Refused { fault, offset },
-        FrontRead::Fields(found) => {
-            let r = behind_front(s, found, ids);
+        FrontRead::Fields(fields) => {
+            let r = behind_front(s, fields, ids);
             // Version 29's names are unmarked; before it there are none here.
-            unmark(&s[NAME_ROWS_AT..], found.count, ids);
+            unmark(&s[NAME_ROWS_AT..], fields.count, ids);
             r
         }
     }

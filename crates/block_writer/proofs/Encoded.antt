@@ -1,4 +1,4 @@
--- The bytes that the code lays are those of the block that the parts make.
+-- The bytes that the code puts are those of the block that the parts make.
 use Prim.Native.Nat.{ℕ, suc}
 use mathlib.Core.Path.{_≡_, refl, ap₂, _∙_}
 use mathlib.Core.List.{List, [], _∷_, _++_}

@@ -16,14 +16,14 @@ use Rattle.wire.proofs.Steps.{number-done, number-ends}
 use Rattle.wire.proofs.Joints.{refine-all}
 use Rattle.mapblock.specs.Inventory.{Form}
 use Rattle.mapblock.specs.Layout.{all, unused, unmapped, nameRow}
-use Rattle.mapblock.specs.MetadataChecks.{variableFor, metadataRowFor}
+use Rattle.mapblock.specs.MetadataChecks.{metadataRowFor}
 use Rattle.mapblock.specs.Rows.{nameFields, metadataFields}
 use Rattle.mapblock.specs.declared.names.NameFields.{NameFields}
 use Rattle.mapblock.specs.declared.metadata.MetadataFields.{MetadataFields}
 use Rattle.mapblock.specs.declared.fault.Fault.{Fault}
 use Rattle.mapblock.specs.declared.fault.Fault.the-variants as fault
 use Rattle.mapblock.proofs.Readings.{num}
-use Rattle.block_writer.specs.Frames.{nameFrame, variableFrame, metadataFrame, timerFrame}
+use Rattle.block_writer.specs.Frames.{nameFrame, metadataFrame, timerFrame}
 use Rattle.block_writer.specs.BlockParts.{given}
 use Rattle.block_writer.specs.Sections.{frameOf, lengthRead}
 use Rattle.block_writer.specs.declared.frames.SectionKind.{SectionKind}
@@ -111,7 +111,7 @@ name-told s h = long-told nameFields nameFrame s (rw (name-alone s) at h)
 -- ---- metadata
 pub metadata-told : (v : ℕ) (s : List ℕ) {r : Read Fault MetadataFields} → r ≡ mapRead (metadataFields v) (metadataRowFor false v .read s)
     → lengthRead r ≡ Long (metadataFrame v) s
-unfolding metadataRowFor variableFor metadataFrame variableFrame
+unfolding metadataFrame
 metadata-told v s h = long-told (metadataFields v) (metadataFrame v) s h
 
 -- ---- timers

@@ -2,7 +2,7 @@
 use Prim.Native.Nat.{ℕ}
 use mathlib.Core.Path.{_≡_, ap}
 use mathlib.Core.List.{List, []}
-use mathlib.Core.Bool.{Bool, cond}
+use mathlib.Core.Bool.{Bool, false, cond}
 use native.Mathlib.Omega.{arith}
 use lib.Dec.{leb, eqb}
 use Rattle.wire.specs.Format.{nothing, refine, _⨾_}
@@ -11,10 +11,11 @@ use Rattle.wire.proofs.Looser.{Looser, looser-self, looser-refine, looser-trans
 use Rattle.mapblock.specs.Inventory.{Form, inventory}
 use Rattle.mapblock.specs.Data.{NameRow, MetadataRow, TimerRow, NameMapping, Timers, noTimers, nameMappingShape, timersShape}
 use Rattle.mapblock.specs.Layout.{since, before, all, unused, unmapped, position, newPosition, nameRow, variable, metadataRow, timerRow, nameMapping, metadata, earlyTimers, lateTimers}
+use Rattle.mapblock.specs.MetadataChecks.{variableFor, metadataRowFor}
 use Rattle.mapblock.specs.Numbers as numbers
 use Rattle.mapblock.specs.declared.fault.Fault.{Fault}
 use Rattle.mapblock.specs.declared.fault.Fault.the-variants as fault
-use Rattle.block_writer.specs.Frames.{nameFrame, variableFrame, metadataFrame, timerFrame}
+use Rattle.block_writer.specs.Frames.{nameFrame, metadataFrame, timerFrame}
 
 -- a fault with another number than 1 is not for want of bytes
 pub other : (f : Fault) → (numbers.refusalNumber f ≡ 1 → ⊥) → f ≡ fault.Ends → ⊥
@@ -29,8 +30,8 @@ unfolding nameRow nameFrame
 name-looser free seen =
     looser-iso _ _ _ _ _ _ (looser-both (looser-refine (unmapped free seen) fault.IdTwice u16 (other fault.IdTwice (λ z. omega arith))) (looser-self (prefixed 2))) _ _ _ _
 
-pub variable-looser : (v : ℕ) → Looser (variable v) (variableFrame v)
-unfolding variable variableFrame
+pub variable-looser : (v : ℕ) → Looser (variable v) (variableFor false v)
+unfolding variable variableFor
 variable-looser v =
     looser-iso _ _ _ _ _ _
     (looser-both (looser-self (prefixed 2))
@@ -43,13 +44,13 @@ position-looser key seen =
     looser-trans (looser-refine (unused key all seen) fault.PositionTwice position (other fault.PositionTwice (λ z. omega arith))) (looser-refine (λ p. leb p 4095) fault.PositionAbove u16 (other fault.PositionAbove (λ z. omega arith)))
 
 pub metadata-looser : (v : ℕ) (seen : List MetadataRow) → Looser (metadataRow v seen) (metadataFrame v)
-unfolding metadataRow metadataFrame
+unfolding metadataRow metadataFrame metadataRowFor
 metadata-looser v seen =
     looser-iso _ _ _ _ _ _
     (looser-both (position-looser (λ (r : MetadataRow). r .position) seen)
     (looser-both (looser-self (only (before 23 v) 0 u16))
     (looser-both (looser-self (only (before 23 v) [] (prefixed 2)))
-    (looser-both (looser-cond (since 23 v) (looser-listed (λ _. variable v) (λ _. variableFrame v) (λ _. variable-looser v) 4) (looser-self (nothing [])))
+    (looser-both (looser-cond (since 23 v) (looser-listed (λ _. variable v) (λ _. variableFor false v) (λ _. variable-looser v) 4) (looser-self (nothing [])))
     (looser-self (only (since 23 v) [] inventory))))))
     _ _ _ _
 

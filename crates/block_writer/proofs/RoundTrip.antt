@@ -22,6 +22,7 @@ use Rattle.wire.proofs.Looser.{Looser, looser-self, looser-items, looser-ok}
 use Rattle.mapblock.specs.Inventory.{Form}
 use Rattle.mapblock.specs.Data.{NameRow, MetadataRow, ObjectRow, TimerRow, Block}
 use Rattle.mapblock.specs.Layout.{all, isVersion, nameRow, metadataRow, objectRow, timerRow, opening, front, steps}
+use Rattle.mapblock.specs.MetadataChecks.{metadataRowFor}
 use Rattle.mapblock.specs.Block.{block, verdict}
 use Rattle.mapblock.specs.Valid.{NameGood, MetadataGood, ObjectGood, TimerGood, Valid}
 use Rattle.block_reader.specs.Theorems.{RowsIn}
@@ -66,7 +67,7 @@ unfolding nameFrame iso _⨾_
 name-long r = number-long 2 (r .id) _ (lit< tt)
 
 metadata-long : (v : ℕ) (r : MetadataRow) → 0 < length (metadataFrame v .encode r)
-unfolding metadataFrame iso _⨾_
+unfolding metadataFrame metadataRowFor iso _⨾_
 metadata-long v r = number-long 2 (r .position) _ (lit< tt)
 
 object-long : (r : ObjectRow) → 0 < length (objectRow .encode r)

@@ -16,7 +16,7 @@ use Rattle.wire.specs.Read.{Read, done, refused}
 use Rattle.wire.specs.Format.{OkItems, encodeItems}
 use Rattle.mapblock.specs.Inventory.{Form}
 use Rattle.mapblock.specs.declared.fault.Fault.{Fault}
-use Rattle.block_writer.specs.Frames.{rowThen, rowsIn}
+use Rattle.block_writer.specs.Frames.{wholeRowThen, rowsIn}
 
 module _ {A : Type 0} (f : Form A) where
   -- ---- one step
@@ -71,7 +71,7 @@ module _ {A : Type 0} (f : Form A) where
   rows-made (suc k) s l b h = go (eqb (length s) 0) refl (f .read s) refl h (λ n m. rows-made k (drop n s) m (bytes-drop n s b))
     where
       go : (c : Bool) → eqb (length s) 0 ≡ c → (r : Read Fault A) → f .read s ≡ r
-          → cond c (some []) (rowThen r λ n. rowsIn f k (drop n s)) ≡ some l
+          → cond c (some []) (wholeRowThen r λ n. rowsIn f k (drop n s)) ≡ some l
           → ((n : ℕ) (m : List A) → rowsIn f k (drop n s) ≡ some m → Made k (drop n s) m) → Made (suc k) s l
       go true e r d g ih = made-none (eqb-true (length s) 0 e) g
       go false e (done a n) d g ih =

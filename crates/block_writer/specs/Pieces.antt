@@ -1,4 +1,4 @@
--- The bytes of a block as the code lays them, from the sections' bytes and the number of their rows: document 01, 'Block layout', as mapblock's
+-- The bytes of a block as the code puts them, from the sections' bytes and the number of their rows: document 01, 'Block layout', as mapblock's
 -- Layout.antt has it.
 use Prim.Native.Nat.{ℕ}
 use mathlib.Core.Bool.{cond}

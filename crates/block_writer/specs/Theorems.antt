@@ -15,7 +15,7 @@ use Rattle.wire.specs.Ranges.{bytesIn}
 use Rattle.block_writer.specs.BlockParts.{BlockParts, WellTyped, blockParts}
 use Rattle.block_writer.specs.Write.{writeOf}
 
--- what the reader hands out of the bytes s, which it takes with the block b: head, lists, and sections as parts of s
+-- what the reader hands out of the bytes s, which it takes with the block b: head, lists, and sections as slices of s
 abbrev pub handedOut : List ℕ → Block → BlockParts
 handedOut s b =
     blockParts (b .head) (b .nodes .param0) (b .nodes .param1) (b .nodes .param2)

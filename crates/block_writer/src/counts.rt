@@ -19,7 +19,7 @@ pub enum RowCountsRead {
     NotWhole,
 }
 
-// This counts the rows of the four sections: the writer puts each count before its rows.
+// Counts the rows of the four sections: the writer puts each count before its rows.
 pub(crate) fn count_all(
     version: u8,
     names: &[u8],

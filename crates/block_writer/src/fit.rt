@@ -6,7 +6,7 @@ ghost use mathlib.Core.Path.{_≡_};
 ghost use mathlib.Core.List.{[]};
 ghost use Rattle.block_writer.specs.BlockParts.{headFits, allBelow, param0Fits, timersFit, blockParts, fits};
 
-// This tells whether the head has no value that its version does not carry, and that could not be read back.
+// Tells whether the head has no value that its version does not carry, and that could not be read back.
 fn head_fits(head: Head) -> bool
     ensures { λ r. ⌜ r ≡ headFits head ⌝ }
 {
@@ -21,7 +21,7 @@ fn head_fits(head: Head) -> bool
     head.timer == 0
 }
 
-// This tells whether all entries are bytes.
+// Tells whether all entries are bytes.
 fn all_bytes(entries: &[u16]) -> bool
     ensures { λ r. ⌜ r ≡ allBelow 256 (now (entries .entry)) ⌝ }
 {
@@ -35,7 +35,7 @@ fn all_bytes(entries: &[u16]) -> bool
     true
 }
 
-// This tells whether param0 has the version's width: up to version 23 its entries are bytes.
+// Tells whether param0 has the version's width: up to version 23 its entries are bytes.
 fn param0_fits(version: u8, param0: &[u16]) -> bool
     ensures { λ r. ⌜ r ≡ param0Fits version (now (param0 .entry)) ⌝ }
 {
@@ -45,7 +45,7 @@ fn param0_fits(version: u8, param0: &[u16]) -> bool
     all_bytes(param0)
 }
 
-// This tells whether timers may stand in the block, or there are none.
+// Tells whether timers may stand in the block, or there are none.
 fn timers_fit(head: Head, timers: &[u8]) -> bool
     ensures { λ r. ⌜ r ≡ timersFit head (now (timers .entry)) ⌝ }
 {
@@ -60,7 +60,7 @@ fn timers_fit(head: Head, timers: &[u8]) -> bool
     timers.len() == 0
 }
 
-// This tells whether head, lists and timers fit together.
+// Tells whether head, lists and timers fit together.
 pub(crate) fn fit(head: Head, param0: &[u16], param1: &[u8], param2: &[u8], timers: &[u8]) -> bool
     ensures { λ r. ⌜ r ≡ fits (blockParts head (now (param0 .entry)) (now (param1 .entry)) (now (param2 .entry))
         [] [] [] (now (timers .entry))) ⌝ }

@@ -26,7 +26,7 @@ pub enum Frame {
     NotWhole,
 }
 
-// This finds the length of a timer's row, which is the same for all.
+// Finds the length of a timer's row, which is the same for all.
 fn timer_frame(s: &[u8]) -> Frame
     ensures { λ r. ⌜ toldFrame r ≡ lengthRead (timerFrame .read (now (s .entry))) ⌝ }
 {
@@ -37,7 +37,7 @@ fn timer_frame(s: &[u8]) -> Frame
     }
 }
 
-// This finds the length of a section's front row, so that the rows can be counted.
+// Finds the length of a section's front row, so that the rows can be counted.
 fn front_row(section: SectionKind, version: u8, s: &[u8]) -> Frame
     ensures { λ r. ⌜ toldFrame r ≡ lengthRead (frameOf section version .read (now (s .entry))) ⌝ }
 {
@@ -76,7 +76,7 @@ pub enum RowCount {
     NotWhole,
 }
 
-// This counts the rows of a section to its end.
+// Counts the rows of a section to its end.
 pub(crate) fn row_count(section: SectionKind, version: u8, s: &[u8]) -> RowCount
     ensures { λ r. ⌜ toldRows r ≡ Option·map length (sectionRows (frameOf section version) (now (s .entry))) ⌝ }
 {

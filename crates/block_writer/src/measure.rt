@@ -35,7 +35,7 @@ ghost use Rattle.block_writer.specs.Sections.{Rows, SectionRows};
 ghost use Rattle.block_writer.specs.Measured.{MeasuredAs};
 ghost use Rattle.block_writer.specs.Judging.{verdictOn, Small, timersEarly, timersLate, timersOn, openingLength, listsLength, MappingJudged, FrontJudged, EndingJudged, RestJudged, Judgeable, BlockJudged, firstUnmappedAmong};
 
-// This tells what was said of bytes from a place so many bytes before them.
+// Tells what was said of bytes from a place so many bytes before them.
 fn shift(at: usize, r: Reach) -> Reach
     requires { ⌜ InReach (at + reach (toldReach r)) ⌝ }
     ensures { λ q. ⌜ toldReach q ≡ shift at (λ u. u) (toldReach r) ⌝ }
@@ -49,7 +49,7 @@ fn shift(at: usize, r: Reach) -> Reach
     }
 }
 
-// This judges timestamp and names, and marks their ids.
+// Judges timestamp and names, and marks their ids.
 fn judge_name_mapping(names: &[u8], count: u16, ids: &mut [u8; IDS]) -> Reach
     ensures told { λ r. ⌜ ((x : NameMapping) → x .timestamp < 4294967296
         → Rows nameFrame (now (names .entry)) count (x .names)
@@ -59,7 +59,7 @@ fn judge_name_mapping(names: &[u8], count: u16, ids: &mut [u8; IDS]) -> Reach
     shift(NAMES_HEAD_LENGTH, name_rows(names, count, ids))
 }
 
-// This judges the metadata list.
+// Judges the metadata list.
 fn judge_metadata(version: u8, list: &[u8], count: u16) -> Reach
     ensures told { λ r. ⌜ ((l : List MetadataRow) → Rows (metadataFrame version) (now (list .entry)) count l
         → toldReach r ≡ verdictOn (metadata version) l) ⌝ }
@@ -71,7 +71,7 @@ fn judge_metadata(version: u8, list: &[u8], count: u16) -> Reach
     )
 }
 
-// This judges a count of timers and their rows.
+// Judges a count of timers and their rows.
 fn judge_timers(version: u8, timers: &[u8], count: u16) -> Reach
     ensures told { λ r. ⌜ ((l : List TimerRow) → Rows timerFrame (now (timers .entry)) count l
         → toldReach r ≡ verdictOn (listed 2 timerRow) l) ⌝ }
@@ -80,7 +80,7 @@ fn judge_timers(version: u8, timers: &[u8], count: u16) -> Reach
     shift(2, rows(ListKind::Timers, version, timers, count))
 }
 
-// This judges version 24's timer byte, and its timers where that is 1.
+// Judges version 24's timer byte, and its timers where that is 1.
 fn judge_timers_24(head: Head, timers: &[u8], count: u16) -> Reach
     ensures told { λ r. ⌜ ((l : List TimerRow) → Rows timerFrame (now (timers .entry)) count l
         → toldReach r ≡ verdictOn (earlyTimers 24) (timersOn head l)) ⌝ }
@@ -98,7 +98,7 @@ fn judge_timers_24(head: Head, timers: &[u8], count: u16) -> Reach
     shift(1, judge_timers(24, timers, count))
 }
 
-// This judges what follows the metadata: version 24's timers, version 23's byte.
+// Judges what follows the metadata: version 24's timers, version 23's byte.
 fn judge_early_timers(head: Head, timers: &[u8], count: u16) -> Reach
     ensures told { λ r. ⌜ ((l : List TimerRow) → Rows timerFrame (now (timers .entry)) count l
         → headFits head ≡ true → timersFit head (now (timers .entry)) ≡ true
@@ -114,7 +114,7 @@ fn judge_early_timers(head: Head, timers: &[u8], count: u16) -> Reach
     Reach::End(0)
 }
 
-// This judges the timers at the end, from version 25 on.
+// Judges the timers at the end, from version 25 on.
 fn judge_late_timers(head: Head, timers: &[u8], count: u16) -> Reach
     ensures told { λ r. ⌜ ((l : List TimerRow) → Rows timerFrame (now (timers .entry)) count l → headFits head ≡ true
         → toldReach r ≡ verdictOn (lateTimers (head .version)) (timersLate head l)) ⌝ }
@@ -126,7 +126,7 @@ fn judge_late_timers(head: Head, timers: &[u8], count: u16) -> Reach
     shift(1, judge_timers(head.version, timers, count))
 }
 
-// This judges what stands behind the static objects: names before version 29, and the timers at the end.
+// Judges what stands behind the static objects: names before version 29, and the timers at the end.
 fn judge_ending(
     head: Head,
     counts: RowCounts,
@@ -152,7 +152,7 @@ fn judge_ending(
     shift(n, judge_late_timers(head, timers, counts.timers))
 }
 
-// This judges what follows the node data; of static objects the reader refuses none.
+// Judges what follows the node data; of static objects the reader refuses none.
 fn judge_rest(
     head: Head,
     counts: RowCounts,
@@ -184,21 +184,21 @@ fn judge_rest(
     shift(at, judge_ending(head, counts, names, timers, ids))
 }
 
-// This tells how many bytes step 1 has.
+// Tells how many bytes step 1 has.
 fn opening_length(version: u8) -> usize
     ensures { λ r. ⌜ r ≡ openingLength version ⌝ }
 {
     if version < 27 { 2 } else { 4 }
 }
 
-// This tells how many bytes the param lists have.
+// Tells how many bytes the param lists have.
 fn lists_length(version: u8) -> usize
     ensures { λ r. ⌜ r ≡ listsLength version ⌝ }
 {
     NODES * width(version) + 2 * NODES
 }
 
-// This judges the block up to the end of the node data. In version 29 it marks the ids of the names.
+// Judges the block up to the end of the node data. In version 29 it marks the ids of the names.
 fn judge_front(head: Head, names: &[u8], count: u16, ids: &mut [u8; IDS]) -> Reach
     requires { ⌜ Small (now names) ⌝ }
     ensures told { λ r. ⌜ ((l : List NameRow) (n : Nodes) → Rows nameFrame (now (names .entry)) count l
@@ -219,7 +219,7 @@ fn judge_front(head: Head, names: &[u8], count: u16, ids: &mut [u8; IDS]) -> Rea
     Reach::End(n + nodes)
 }
 
-// This finds the first node whose content id is not marked as mapped.
+// Finds the first node whose content id is not marked as mapped.
 fn first_unmapped(version: u8, param0: &[u16], param2: &[u8], ids: &[u8; IDS]) -> FirstUnmapped
     requires { ⌜ (length (now param0) ≡ 4096) × (length (now param2) ≡ 4096)
         × (param0Fits version (now param0) ≡ true) ⌝ }
@@ -236,7 +236,7 @@ fn first_unmapped(version: u8, param0: &[u16], param2: &[u8], ids: &[u8; IDS]) -
     FirstUnmapped::None
 }
 
-// This judges the whole block: its front, its rest, and then the content ids, which the reader tests last.
+// Judges the whole block: its front, its rest, and then the content ids, which the reader tests last.
 fn judge(
     head: Head,
     counts: RowCounts,
@@ -282,7 +282,7 @@ pub enum Measured {
     Refused { fault: Fault, offset: usize },
 }
 
-// This measures the block that head, lists and sections make, before a byte of it is written.
+// Measures the block that head, lists and sections make, before a byte of it is written.
 pub(crate) fn measure(
     head: Head,
     param0: &[u16],

@@ -1,4 +1,4 @@
-// The writer: it measures, and then lays the bytes of the block into a lent buffer. A function that lays a piece answers where the piece ends.
+// The writer: it measures, and then puts the bytes of the block into a lent buffer. A function that puts a piece answers where the piece ends.
 use crate::counts::RowCounts;
 use crate::measure::Measured;
 use crate::measure::measure;
@@ -23,7 +23,7 @@ ghost use Rattle.block_writer.specs.BlockParts.{blockParts};
 ghost use Rattle.block_writer.specs.Write.{writeOf, toldWrite};
 ghost use Rattle.block_writer.specs.Pieces.{openingBytes, listBytes, mappingBytes, entryBytes, nodesBytes, metadataBytes, earlyBytes, lateBytes, frontBytes, restBytes, blockBytes};
 
-// This lays step 1: version, flags, and from version 27 on the lighting.
+// Puts step 1: version, flags, and from version 27 on the lighting.
 fn put_opening(out: &mut [u8], head: Head) -> usize
     requires { ⌜ length (openingBytes head) ≤ length (now out) ⌝ }
     ensures { λ r. ⌜ PutAt 0 (openingBytes head) (now (out .entry)) (now (out .exit)) r ⌝ }
@@ -37,7 +37,7 @@ fn put_opening(out: &mut [u8], head: Head) -> usize
     4
 }
 
-// This lays a count, and the rows.
+// Puts a count, and the rows.
 fn put_list(out: &mut [u8], at: usize, count: u16, rows: &[u8]) -> usize
     requires { ⌜ at + length (listBytes count (now rows)) ≤ length (now out) ⌝ }
     ensures { λ r. ⌜ PutAt at (listBytes count (now (rows .entry))) (now (out .entry)) (now (out .exit)) r ⌝ }
@@ -47,7 +47,7 @@ fn put_list(out: &mut [u8], at: usize, count: u16, rows: &[u8]) -> usize
     at + 2 + rows.len()
 }
 
-// This lays the same behind a byte.
+// Puts the same behind a byte.
 fn put_byte_and_list(out: &mut [u8], at: usize, byte: u8, count: u16, rows: &[u8]) -> usize
     requires { ⌜ at + length (toBE 1 byte ++ listBytes count (now rows)) ≤ length (now out) ⌝ }
     ensures { λ r. ⌜ PutAt at (toBE 1 byte ++ listBytes count (now (rows .entry)))
@@ -57,7 +57,7 @@ fn put_byte_and_list(out: &mut [u8], at: usize, byte: u8, count: u16, rows: &[u8
     put_list(out, at + 1, count, rows)
 }
 
-// This lays timestamp and names.
+// Puts timestamp and names.
 fn put_name_mapping(out: &mut [u8], at: usize, timestamp: u32, count: u16, rows: &[u8]) -> usize
     requires { ⌜ at + length (mappingBytes timestamp count (now rows)) ≤ length (now out) ⌝ }
     ensures { λ r. ⌜ PutAt at (mappingBytes timestamp count (now (rows .entry)))
@@ -67,7 +67,7 @@ fn put_name_mapping(out: &mut [u8], at: usize, timestamp: u32, count: u16, rows:
     put_byte_and_list(out, at + 4, 0, count, rows)
 }
 
-// This lays param0 in two bytes each. Its bounds were tested once.
+// Puts param0 in two bytes each. Its bounds were tested once.
 fn put_wide(out: &mut [u8], at: usize, param0: &[u16])
     requires { ⌜ at + length (entryBytes 2 (now param0)) ≤ length (now out) ⌝ }
     ensures { λ _. ⌜ now (out .exit) ≡ overwrite at (entryBytes 2 (now (param0 .entry))) (now (out .entry)) ⌝ }
@@ -80,7 +80,7 @@ fn put_wide(out: &mut [u8], at: usize, param0: &[u16])
     }
 }
 
-// This lays the same in one byte each.
+// Puts the same in one byte each.
 fn put_narrow(out: &mut [u8], at: usize, param0: &[u16])
     requires { ⌜ at + length (entryBytes 1 (now param0)) ≤ length (now out) ⌝ }
     ensures { λ _. ⌜ now (out .exit) ≡ overwrite at (entryBytes 1 (now (param0 .entry))) (now (out .entry)) ⌝ }
@@ -92,7 +92,7 @@ fn put_narrow(out: &mut [u8], at: usize, param0: &[u16])
     }
 }
 
-// This lays param0 in the version's width.
+// Puts param0 in the version's width.
 fn put_param0(out: &mut [u8], at: usize, version: u8, param0: &[u16]) -> usize
     requires { ⌜ at + length (entryBytes (width version) (now param0)) ≤ length (now out) ⌝ }
     ensures { λ r. ⌜ PutAt at (entryBytes (width version) (now (param0 .entry)))
@@ -106,7 +106,7 @@ fn put_param0(out: &mut [u8], at: usize, version: u8, param0: &[u16]) -> usize
     at + 2 * param0.len()
 }
 
-// This lays bytes as they are.
+// Puts bytes as they are.
 fn put_run(out: &mut [u8], at: usize, run: &[u8]) -> usize
     requires { ⌜ at + length (now run) ≤ length (now out) ⌝ }
     ensures { λ r. ⌜ PutAt at (now (run .entry)) (now (out .entry)) (now (out .exit)) r ⌝ }
@@ -115,7 +115,7 @@ fn put_run(out: &mut [u8], at: usize, run: &[u8]) -> usize
     at + run.len()
 }
 
-// This lays the two widths, and the three lists.
+// Puts the two widths, and the three lists.
 fn put_nodes(
     out: &mut [u8],
     at: usize,
@@ -135,7 +135,7 @@ fn put_nodes(
     put_run(out, second, param2)
 }
 
-// This lays the metadata list. Version 22's list version is a u16.
+// Puts the metadata list. Version 22's list version is a u16.
 fn put_metadata(out: &mut [u8], at: usize, version: u8, count: u16, rows: &[u8]) -> usize
     requires { ⌜ at + length (metadataBytes version count (now rows)) ≤ length (now out) ⌝ }
     ensures { λ r. ⌜ PutAt at (metadataBytes version count (now (rows .entry)))
@@ -149,7 +149,7 @@ fn put_metadata(out: &mut [u8], at: usize, version: u8, count: u16, rows: &[u8])
     put_byte_and_list(out, at, list_version, count, rows)
 }
 
-// This lays what follows the metadata: version 24's timer byte and timers, version 23's 0.
+// Puts what follows the metadata: version 24's timer byte and timers, version 23's 0.
 fn put_early(out: &mut [u8], at: usize, head: Head, count: u16, rows: &[u8]) -> usize
     requires { ⌜ at + length (earlyBytes (head .version) (head .timer) count (now rows)) ≤ length (now out) ⌝ }
     ensures { λ r. ⌜ PutAt at (earlyBytes (head .version) (head .timer) count (now (rows .entry)))
@@ -169,7 +169,7 @@ fn put_early(out: &mut [u8], at: usize, head: Head, count: u16, rows: &[u8]) -> 
     at
 }
 
-// This lays the timers at the end, from version 25 on.
+// Puts the timers at the end, from version 25 on.
 fn put_late(out: &mut [u8], at: usize, version: u8, count: u16, rows: &[u8]) -> usize
     requires { ⌜ at + length (lateBytes version count (now rows)) ≤ length (now out) ⌝ }
     ensures { λ r. ⌜ PutAt at (lateBytes version count (now (rows .entry))) (now (out .entry)) (now (out .exit)) r ⌝ }
@@ -180,7 +180,7 @@ fn put_late(out: &mut [u8], at: usize, version: u8, count: u16, rows: &[u8]) -> 
     put_byte_and_list(out, at, TIMER_ROW_LENGTH_BYTE, count, rows)
 }
 
-// This lays timestamp and names where they stand here: in front in version 29, behind in those before.
+// Puts timestamp and names where they stand here: in front in version 29, behind in those before.
 fn put_name_mapping_if(
     here: bool,
     out: &mut [u8],
@@ -199,7 +199,7 @@ fn put_name_mapping_if(
     at
 }
 
-// This lays steps 1 to 4.
+// Puts steps 1 to 4.
 fn put_front(
     out: &mut [u8],
     head: Head,
@@ -227,7 +227,7 @@ fn put_front(
     put_nodes(out, named, head.version, param0, param1, param2)
 }
 
-// This lays steps 5 to 8.
+// Puts steps 5 to 8.
 fn put_rest(
     out: &mut [u8],
     at: usize,
@@ -258,7 +258,7 @@ fn put_rest(
     put_late(out, fourth, head.version, counts.timers, timers)
 }
 
-// This lays the whole block at the front of the buffer.
+// Puts the whole block at the front of the buffer.
 fn put_block(
     out: &mut [u8],
     head: Head,
@@ -292,7 +292,7 @@ pub enum WriteAnswer {
     NoRoom,
 }
 
-// This writes the block that head, lists and sections make to the front of a lent buffer. A refusal leaves the buffer as it was.
+// Writes the block that head, lists and sections make to the front of a lent buffer. A refusal leaves the buffer as it was.
 pub fn write(
     head: Head,
     param0: &[u16],

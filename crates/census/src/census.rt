@@ -36,8 +36,9 @@ fn sort_first(names: &[u8], places: &mut [usize], n: usize, scratch: &mut [usize
 }
 
 // Counts the nodes of a block that stand in a part by content id, and puts the places of the names that they use in order, at the front of
-// `places`; tells how many these are. The block stands at `at`, and `scanned` is what the scan found in it. The counters must be clear before,
-// and `clear` makes them so again. `scratch` is a table to work in: what it holds afterwards is open.
+// `places`; tells how many these are. The block stands at `at`, and `scanned` is what the scan told of it. This is an inner function: of
+// whatever tables it promises that a block outside the span leaves the counters as they were, and of clear counters the census; `clear` makes
+// them so again. `scratch` is a table to work in: what it holds afterwards is open.
 pub fn take_census(
     block: &[u8],
     scanned: Scanned,

@@ -130,7 +130,7 @@ fn count_clip(version: u8, lists: &[u8], clip: Clip, counts: &mut [u16; IDS])
     }
 }
 
-// A table has the length that its type says, and its counters fit; this says so to proofs, and does nothing.
+// Tells proofs that a table has the length that its type says, and that its counters fit. It does nothing.
 fn sized(counts: &[u16; IDS])
     ensures { λ _. ⌜ Table (now (counts .entry)) ⌝ }
 {

@@ -9,7 +9,7 @@ ghost use lib.ListN.{length};
 ghost use Rattle.wire.specs.Store.{overwrite};
 ghost use Rattle.census.specs.UsedNames.{usedOf};
 
-// A table of places has the length that its type says; this says so to proofs, and does nothing.
+// Tells proofs that a table of places has the length that its type says. It does nothing.
 pub(crate) fn sized(places: &[usize; NODES])
     ensures { λ _. ⌜ length (now (places .entry)) ≡ 4096 ⌝ }
 {

@@ -227,7 +227,7 @@ stored-whole b d h =
     let fits : 0 + length b ≤ length d = omega arith in
     stored-fits 0 b d fits ∙ rw (zero-add, drop-of-length-le d all, append-nil)
 
--- a part of 4,096 bytes, stored over a list of as many
+-- a slice of 4,096 bytes, stored over a list of as many
 pub stored-part : (s d : List ℕ) (from to at : ℕ) → from ≡ at → to ≡ at + 4096 → at + 4096 ≤ length s → length d ≡ 4096
     → stored 0 (take (to - from) (drop from s)) d ≡ entries 1 4096 (drop at s)
 stored-part s d from to at p q h k =

@@ -118,7 +118,7 @@ module _ {k : ListKind} {v count : ℕ} {s rest t : List ℕ} {at left : ℕ} (w
       let x = ended-done (rowAfter k v (w .reading .seen) .read rest) (walk-told e) in
       rw (rest-is n rest) record { reading = reading-on (w .reading) h (x .1); marked = m .marked (w .reading .seen) (x .0) n (w .marked) (x .1) }
 
--- ---- lists, by where they end: r is the answer for the part behind n bytes and y the case that the code is in
+-- ---- lists, by where they end: r is the answer for the bytes behind the first n and y the case that the code is in
 part-told : {A : Type 0} (f : Form A) (n : ℕ) (s : List ℕ) {x : Read Fault A} {r y : Reach} → x ≡ shift n (λ a. a) (f .read (drop n s))
     → toldReach r ≡ ended (f .read (take (length s - n) (drop n s))) → r ≡ y → shift n (λ a. a) (toldReach y) ≡ ended x
 part-told {A} f n s h e q = ap (λ (i : Reach). shift n (λ a. a) (toldReach i)) (sym q) ∙ ap (shift n (λ a. a)) (rw (rest-is n s) at e) ∙ go (f .read (drop n s)) ∙ ap ended (sym h)

@@ -32,7 +32,7 @@ use Rattle.meter.proofs.CountedBlock.{standing-amount}
 
 module _ (s : List ℕ) {c t : List ℕ} {w : Scanned} {v : RunningTally} {b : Block} {R : Rows ones} (p : Part) (at : Coordinates) (y : Bytes s) (a : Adds s w c t v b R) where
   valid : Valid b
-  valid = scanned-valid s y (a .found .taken) (a .found .shows)
+  valid = scanned-valid s y (a .scanned .taken) (a .scanned .shows)
 
   -- the counters c₁ and the places are the block's census
   module _ (names : List ℕ) (c₁ : List ℕ) (places : List ℕ) (rows : NameRun names (b .names)) (x : Census p at b names c₁ places) where
@@ -65,4 +65,4 @@ module _ (s : List ℕ) {c t : List ℕ} {w : Scanned} {v : RunningTally} {b : B
   pub added-block : {names c₁ c₂ places t′ : List ℕ} {r : RunningTally} → names ≡ bytesIn s (w .sections .names) → Census p at b (bytesIn s (w .sections .names)) c₁ places
       → (Absorbs names c₁ places t v R → Absorbed t t′ r R (plus ones (countedNames names c₁ places) R)) → c₂ ≡ unmarked c₁ (allRows names) → Added c₂ t t′ r R (withBlock p at b R)
   added-block {names} {c₁} {places = places} n x =
-      added names c₁ places (subst (λ (l : List ℕ). NameRun l (b .names)) (sym n) (scanned-names s y (a .found .taken) (a .found .shows))) (subst (λ (l : List ℕ). Census p at b l c₁ places) (sym n) x)
+      added names c₁ places (subst (λ (l : List ℕ). NameRun l (b .names)) (sym n) (scanned-names s y (a .scanned .taken) (a .scanned .shows))) (subst (λ (l : List ℕ). Census p at b l c₁ places) (sym n) x)

@@ -1,4 +1,4 @@
--- The tally of a list of nodes: its rows are as a tally has them, they count what the nodes count, and they are few and light enough.
+-- The tally of a list of nodes: its rows are as a tally has them, they count what the nodes count, and they keep the limits of rows and counts.
 use Prim.Native.Nat.{ℕ, suc, _<_, _≤_}
 use mathlib.Core.Path.{_≡_, refl, sym, ap, _∙_}
 use mathlib.Core.Bool.{Bool, true, false, cond}

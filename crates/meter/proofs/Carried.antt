@@ -105,7 +105,7 @@ module _ {ids counts t : List ℕ} {q : Progress} {w : State byOne} (s : Steps i
 
     pub may-step : Adds block f counts t (q .tally) (taken .block) (w .rows)
     may-step = record {
-      found = h .2 .1;
+      scanned = h .2 .1;
       clear = s .counts-clear;
       runs = s .carries .runs;
       totalFits = omega (arith, s .carries .totalFits, s .number);

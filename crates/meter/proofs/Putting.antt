@@ -116,7 +116,7 @@ module _ {s : List ℕ} {w : Scanned} {b : Block} (p : Part) (at : Coordinates) 
 
   pub put-absorbed : (t : List ℕ) {t′ c₂ : List ℕ} {u r : RunningTally} → u ≡ none → ((R : Rows ones) → Adds s w clearTable t u b R → Added c₂ t t′ r R (withBlock p at b R)) → Absorbed t t′ r [] rows
   put-absorbed t {t′} {u = u} {r = r} e g =
-      let start : Adds s w clearTable t u b [] = record { found = f; clear = refl; runs = subst (λ (v : RunningTally). Runs t v []) (sym e) (runs-empty t); totalFits = lit< tt; rowsFit = lit< tt } in
+      let start : Adds s w clearTable t u b [] = record { scanned = f; clear = refl; runs = subst (λ (v : RunningTally). Runs t v []) (sym e) (runs-empty t); totalFits = lit< tt; rowsFit = lit< tt } in
       subst (Absorbed t t′ r []) (plus-unit ones rows (rows-canonical byOne p (placed at b ∷ []) (scanned-valid s y (f .taken) (f .shows), tt))) (g [] start .absorbed)
 
   pub put-few : length rows ≤ 4096

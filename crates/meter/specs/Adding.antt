@@ -18,9 +18,9 @@ use Rattle.sheet.specs.Placed.{placed}
 use Rattle.mapblock.specs.Table.{clearTable}
 use Rattle.sheet.specs.Records.{ScannedAs}
 
--- the block b, which the scan found in s, may be added to the rows R by clear counters
+-- the block b, which was scanned in s, may be added to the rows R by clear counters
 pub record Adds (s : List ℕ) (w : Scanned) (counts t : List ℕ) (v : RunningTally) (b : Block) (R : Rows ones) : Type 0 where
-  pub found : ScannedAs s w b
+  pub scanned : ScannedAs s w b
   pub clear : counts ≡ clearTable
   pub runs : Runs t v R
   pub totalFits : totalCount R + 4096 < countLimit

@@ -19,7 +19,7 @@ use Rattle.meter.specs.declared.stream.Step.{Step}
 use Rattle.meter.specs.declared.stream.Step.the-variants as steps
 
 -- ---- between records
--- The spare t carries the state: its rows are the running tally, and few and light enough for one record more.
+-- The spare t carries the state: its rows are the running tally, with room in the limits of rows and counts for one record more.
 pub record Carries (t : List ℕ) (progress : Progress) (state : State byOne) : Type 0 where
   pub last : lastOf (progress .last) ≡ state .last
   pub records : progress .records ≡ state .records

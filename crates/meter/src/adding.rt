@@ -20,7 +20,7 @@ ghost use Rattle.meter.specs.Adding.{Adds, Added, withBlock};
 // again by the block's names.
 pub(crate) fn add_block(
     block: &[u8],
-    found: Scanned,
+    scanned: Scanned,
     at: Coordinates,
     part: Part,
     counts: &mut [u16; IDS],
@@ -32,11 +32,11 @@ pub(crate) fn add_block(
     ensures kept { λ _. ⌜ length (now (buffer .exit)) ≡ length (now (buffer .entry)) ⌝ }
     ensures told { λ r. ⌜
         ((b : Block) (R : Rows ones)
-        → Adds (now (block .entry)) found (now (counts .entry)) (now (buffer .entry)) running b R
+        → Adds (now (block .entry)) scanned (now (counts .entry)) (now (buffer .entry)) running b R
         → Added (now (counts .exit)) (now (buffer .entry)) (now (buffer .exit)) r R (withBlock part at b R)) ⌝ }
 {
-    let n = take_census(block, found, at, part, counts, places, scratch);
-    let sections = found.sections;
+    let n = take_census(block, scanned, at, part, counts, places, scratch);
+    let sections = scanned.sections;
     let names = slice_of(block, sections.names);
     let used: &[usize] = places;
     let r = absorb(names, counts, &used[..n], buffer, running);

@@ -30,16 +30,16 @@ pub enum BlockAnswer {
     NoRoom,
 }
 
-// The tally of a block that the scan found. Where it has no room nothing is written: the rows are measured first.
+// Writes the tally of a block that was scanned. Where it has no room nothing is written: the rows are measured first.
 fn put_tally(
     block: &[u8],
-    found: Scanned,
+    scanned: Scanned,
     at: Coordinates,
     part: Part,
     out: &mut [u8],
 ) -> BlockAnswer
-    requires { ⌜ ((b : Block) × ScannedAs (now block) found b) ⌝ }
-    ensures { λ r. ⌜ ((b : Block) → ScannedAs (now (block .entry)) found b
+    requires { ⌜ ((b : Block) × ScannedAs (now block) scanned b) ⌝ }
+    ensures { λ r. ⌜ ((b : Block) → ScannedAs (now (block .entry)) scanned b
         → PutAs part at b (now (out .entry)) (now (out .exit)) r) ⌝ }
 {
     let mut counts = [0u16; IDS];
@@ -50,7 +50,7 @@ fn put_tally(
     }
     let w = add_block(
         block,
-        found,
+        scanned,
         at,
         part,
         &mut counts,

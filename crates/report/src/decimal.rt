@@ -5,7 +5,7 @@ ghost use lib.ListN.{length};
 ghost use Rattle.wire.specs.Store.{stored};
 ghost use Rattle.report.specs.Text.{decimal};
 
-// This puts the digits at a place of a buffer, where they fit, and tells how many they are.
+// Puts the digits at a place of a buffer, where they fit, and tells how many they are.
 pub(crate) fn put_decimal(out: &mut [u8], at: usize, n: u64) -> usize
     ensures told { λ r. ⌜ r ≡ length (decimal n) ⌝ }
     ensures out { λ _. ⌜ now (out .exit) ≡ stored at (decimal n) (now (out .entry)) ⌝ }
@@ -16,7 +16,7 @@ pub(crate) fn put_decimal(out: &mut [u8], at: usize, n: u64) -> usize
     k
 }
 
-// This tells how many digits a number has, so that a line can be measured before it is put.
+// Tells how many digits a number has, so that a line can be measured before it is put.
 pub(crate) fn decimal_length(n: u64) -> usize
     ensures { λ r. ⌜ r ≡ length (decimal n) ⌝ }
 {

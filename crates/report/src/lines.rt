@@ -24,7 +24,7 @@ const COUNT_AT: usize = 11;
 // What a line has beside its digits and its name: a space and a newline.
 const MARKS: usize = 2;
 
-// This tells whether the lines of rows fit into a room.
+// Tells whether the lines of rows fit into a room.
 fn lines_fit(rows: &[u8], room: usize) -> bool
     ensures { λ r. ⌜ LinesFit (now (rows .entry)) room r ⌝ }
 {
@@ -43,7 +43,7 @@ fn lines_fit(rows: &[u8], room: usize) -> bool
     }
 }
 
-// This puts the count, a space, the name and a newline at a place, and tells where they end.
+// Puts the count, a space, the name and a newline at a place, and tells where they end.
 fn put_line(out: &mut [u8], at: usize, name: &[u8], count: u64) -> usize
     requires { ⌜ at + length (line (record { name = now name; count = count })) ≤ length (now out) ⌝ }
     ensures { λ r. ⌜ PutAt at (line (record { name = now (name .entry); count = count }))
@@ -57,7 +57,7 @@ fn put_line(out: &mut [u8], at: usize, name: &[u8], count: u64) -> usize
     end + 1
 }
 
-// This puts the lines of rows from a place on, and tells where they end.
+// Puts the lines of rows from a place on, and tells where they end.
 fn put_lines(out: &mut [u8], from: usize, rows: &[u8]) -> usize
     requires { ⌜ HasRoom from (now rows) (length (now out)) ⌝ }
     ensures { λ r. ⌜ LinesPut from (now (rows .entry)) (now (out .entry)) (now (out .exit)) r ⌝ }
@@ -73,7 +73,7 @@ fn put_lines(out: &mut [u8], from: usize, rows: &[u8]) -> usize
     }
 }
 
-// This puts `TLY 1 rows N` and a newline at the front, and tells where they end.
+// Puts `TLY 1 rows N` and a newline at the front, and tells where they end.
 fn put_opening(out: &mut [u8], rows: u32) -> usize
     requires { ⌜ length (opening rows) ≤ length (now out) ⌝ }
     ensures { λ r. ⌜ PutAt 0 (opening rows) (now (out .entry)) (now (out .exit)) r ⌝ }
@@ -84,7 +84,7 @@ fn put_opening(out: &mut [u8], rows: u32) -> usize
     end + 1
 }
 
-// This puts the text of a tally: a line with the number of rows, and a line for each. It measures the text before it puts a byte.
+// Puts the text of a tally: a line with the number of rows, and a line for each. It measures the text before it puts a byte.
 pub fn tally_text(t: &[u8], out: &mut [u8]) -> TextAnswer
     ensures { λ r. ⌜ Answered (toldText r) (now (out .entry)) (now (out .exit))
         (tallyTextOf (length (now (out .entry))) (now (t .entry))) ⌝ }

@@ -13,7 +13,7 @@ const REFUSED: usize = 8;
 
 const RECORD: usize = 8;
 
-// This puts the text of a refusal: `refused N record R`, and a newline.
+// Puts the text of a refusal: `refused N record R`, and a newline.
 pub fn refusal_text(number: u32, index: u32, out: &mut [u8]) -> TextAnswer
     ensures { λ r. ⌜ Answered (toldText r) (now (out .entry)) (now (out .exit))
         (refusalTextOf (length (now (out .entry))) number index) ⌝ }

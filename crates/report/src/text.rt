@@ -10,7 +10,7 @@ pub enum TextAnswer {
     NoRoom,
 }
 
-// This tells the length of the text that was put; 0 where none was.
+// Tells the length of the text that was put; 0 where none was.
 pub fn put_length(answer: TextAnswer) -> usize
     ensures { λ r. ⌜ r ≡ lengthPut answer ⌝ }
 {

@@ -4,6 +4,7 @@ use libc::STDIN_FILENO;
 use libc::STDOUT_FILENO;
 use sheetcount_lib::run;
 
+// Runs the program with the standard descriptors.
 fn main() {
     run(STDIN_FILENO, STDOUT_FILENO, STDERR_FILENO);
 }

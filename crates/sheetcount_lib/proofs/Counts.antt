@@ -21,7 +21,7 @@ use Rattle.sheetcount_lib.specs.declared.reading.BytesRead.the-variants 
 pub within : {room n : ℕ} {r : BytesRead} → Within room r → r ≡ bytesReads.Bytes n → n ≤ room
 within {room} h e = subst (Within room) e h
 
--- into a part of a buffer no more than was asked for
+-- into a slice of a buffer no more than was asked for
 pub within-part : (k : ℕ) (s : List ℕ) {n : ℕ} {r : BytesRead} → Within (length (take k s)) r → r ≡ bytesReads.Bytes n → n ≤ k
 within-part k s {n} h e =
     let z : n ≤ length (take k s) = within h e in

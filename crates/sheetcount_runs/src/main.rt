@@ -3,20 +3,20 @@
 use libc::STDOUT_FILENO;
 use sheetcount_lib::run;
 
-// A line that says which run follows.
+// Prints a line that says which run follows.
 fn say(name: &[u8]) {
     io::write_all(STDOUT_FILENO, name);
     io::write_all(STDOUT_FILENO, b"\n");
 }
 
-// A run over a file, or over a descriptor that is not open where there is no such file.
+// Runs the program over a file, or over a descriptor that is not open where there is no such file.
 fn run_file(name: &[u8], output: i32, errors: i32) {
     let input = os::open_read(name);
     run(input, output, errors);
     libc::close(input);
 }
 
-// What the run writes to either descriptor is to be seen.
+// Runs the program over the file that an argument names, and shows what it writes to either descriptor.
 fn run_argument(i: usize) {
     let mut name = io::buffer();
     let n = os::arg(i, &mut name);
@@ -24,7 +24,7 @@ fn run_argument(i: usize) {
     run_file(&name[..n], STDOUT_FILENO, STDOUT_FILENO);
 }
 
-// What is written to which descriptor, and where one of them is not open.
+// Runs the program with descriptors that are not open, to show what is written to the others.
 fn run_unopened() {
     say(b"no errors");
     run_file(b"one_record.sheet", STDOUT_FILENO, -1);
@@ -38,7 +38,7 @@ fn run_unopened() {
     run_file(b"missing.sheet", STDOUT_FILENO, -1);
 }
 
-// A device with no room for the result.
+// Runs the program with a device that has no room for the result.
 fn run_full() {
     say(b"a full device");
     let full = os::open_append(b"/dev/full");
@@ -46,6 +46,7 @@ fn run_full() {
     libc::close(full);
 }
 
+// Runs the program over the file of each argument, and then where nothing can be read or written.
 fn main() {
     let count = os::arg_count();
     let mut i = 1;

@@ -13,7 +13,7 @@ use Rattle.wire.specs.Bytes.{Bytes, bytes-drop}
 use Rattle.wire.specs.Format.{items, items-length}
 use Rattle.wire.specs.Formats.{headLength}
 use Rattle.tally.specs.Tally.{TallyKind, TallyRows, whole, row, rowsOf, one}
-use Rattle.tally.specs.Operations.{withRows, checkOf, rowsPart}
+use Rattle.tally.specs.Operations.{withRows, checkOf, rowBytesOf}
 use Rattle.tally.specs.Walks.{isSome, takes}
 use Rattle.tally.proofs.Held.{opened, whole-some}
 
@@ -65,14 +65,14 @@ module _ (t : List ℕ) where
   pub check-long : Bytes t → {n : ℕ} → good n ≡ checkOf one t → headLength ≤ length t
   check-long b h = let c = checked one t h in opened one t (c .l) b (c .is) .long
 
-  pub rows-there : {n : ℕ} → good n ≡ checkOf one t → drop headLength t ≡ bytesOf (λ s. s) (rowsPart one t)
+  pub rows-there : {n : ℕ} → good n ≡ checkOf one t → drop headLength t ≡ bytesOf (λ s. s) (rowBytesOf one t)
   rows-there h = rw (checked one t h .is)
 
-  pub rows-start : {n : ℕ} → good n ≡ checkOf one t → headLength ≡ startTold (λ (s : List ℕ). headLength) (rowsPart one t)
+  pub rows-start : {n : ℕ} → good n ≡ checkOf one t → headLength ≡ startTold (λ (s : List ℕ). headLength) (rowBytesOf one t)
   rows-start h = rw (checked one t h .is)
 
-  pub rows-nowhere : plain tallyMalformed ≡ checkOf one t → [] ≡ bytesOf (λ s. s) (rowsPart one t)
+  pub rows-nowhere : plain tallyMalformed ≡ checkOf one t → [] ≡ bytesOf (λ s. s) (rowBytesOf one t)
   rows-nowhere h = rw (unchecked one t h)
 
-  pub rows-first : plain tallyMalformed ≡ checkOf one t → 0 ≡ startTold (λ (s : List ℕ). headLength) (rowsPart one t)
+  pub rows-first : plain tallyMalformed ≡ checkOf one t → 0 ≡ startTold (λ (s : List ℕ). headLength) (rowBytesOf one t)
   rows-first h = rw (unchecked one t h)

@@ -1,4 +1,4 @@
--- The row at the front of a part, as the code reads it: the name behind its length, then the count.
+-- The row at the front of bytes, as the code reads it: the name behind its length, then the count.
 use Prim.Native.Nat.{ℕ, _+_, _-_, _^_, _<_, _≤_}
 use mathlib.Core.Path.{_≡_, refl, ap, sym, _∙_}
 use mathlib.Core.Bool.{Bool, true, false, cond}

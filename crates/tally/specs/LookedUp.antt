@@ -63,7 +63,7 @@ abbrev pub LookedUp : List ℕ → List ℕ → Lookup → Type 0
 LookedUp s n (lookups.Present at count) = (at + (length n + 10) ≤ length s) × ((L : Rows ones) → Holds one s L → RowPresent n at count L)
 LookedUp s n (lookups.Absent at) = (at ≤ length s) × ((L : Rows ones) → Holds one s L → RowAbsent n at L)
 
--- ---- a row inserted in front of the first n bytes of a part
+-- ---- a row inserted in front of the first n bytes of a buffer
 abbrev pub rowInserted : ℕ → Row ℕ → List ℕ → List ℕ
 rowInserted n r d = fields one .encode r ++ (take n d ++ drop (n + length (fields one .encode r)) d)
 

@@ -22,11 +22,11 @@ module _ (k : TallyKind) where
   abbrev pub checkOf : List ℕ → Answer ℕ
   checkOf s = withRows (rowsOf k s) λ r. good (length r)
 
-  -- the rows of a tally, as the part of its bytes behind the head
-  abbrev pub rowsPart : List ℕ → Answer (List ℕ)
-  rowsPart s = withRows (rowsOf k s) λ r. good (drop headLength s)
+  -- the rows of a tally, as its bytes behind the head
+  abbrev pub rowBytesOf : List ℕ → Answer (List ℕ)
+  rowBytesOf s = withRows (rowsOf k s) λ r. good (drop headLength s)
 
-  -- the front row of a part, judged alone, and its length; 16 for an empty part
+  -- the front row of bytes, judged alone, and its length; 16 where there are no bytes
   abbrev pub frontOf : List ℕ → Answer (TallyRow k × ℕ)
   frontOf s = cond (eqb (length s) 0) (plain noSuch) (withRows (toOption (row k [] .read s)) good)
 

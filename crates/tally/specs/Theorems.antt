@@ -12,7 +12,7 @@ use Rattle.wire.specs.Answer.{Answer, good, refusal, mapAnswer, bytesOf, lent, 
 use Rattle.wire.specs.Walk.{GivesRows}
 use Rattle.tally.specs.Rows.{Counts, Rows, plus, countIn, Canonical}
 use Rattle.tally.specs.Tally.{TallyKind, TallyRow, TallyRows, fields, tally, rowsOf, countable}
-use Rattle.tally.specs.Operations.{rowsPart, frontOf, mergeOf}
+use Rattle.tally.specs.Operations.{rowBytesOf, frontOf, mergeOf}
 
 -- ---- Bytes are a tally exactly where they are those of rows as a tally has them, which can be counted.
 abbrev pub WellFormed : TallyKind → Type 0
@@ -26,7 +26,7 @@ rowShown k r = (r, length (fields k .encode r))
 
 -- The question for the front row, asked of a tally's rows and then each time of what remains, gives them one after the other and then 16.
 abbrev pub WalkGivesRows : TallyKind → Type 0
-WalkGivesRows k = (t : List ℕ) (l : TallyRows k) → Bytes t → rowsOf k t ≡ some l → GivesRows (frontOf k) (rowShown k) (bytesOf (λ p. p) (rowsPart k t)) l
+WalkGivesRows k = (t : List ℕ) (l : TallyRows k) → Bytes t → rowsOf k t ≡ some l → GivesRows (frontOf k) (rowShown k) (bytesOf (λ p. p) (rowBytesOf k t)) l
 
 -- ---- Sums add, name by name; rows as a tally has them are determined by their counts; so order and grouping of sums are free.
 pub record Sums (S : Counts) : Type 0 where

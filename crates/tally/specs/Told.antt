@@ -21,7 +21,7 @@ abbrev pub toldRow : List ℕ → RowRead → Option (Row ℕ × ℕ)
 toldRow s (rows.Row n c) = some (record { name = take n (drop 2 s); count = c }, n + 10)
 toldRow s rows.Malformed = none
 
--- of the front row its count and its length are told; its name comes back as a part
+-- of the front row its count and its length are told; its name comes back as a slice
 abbrev pub shownRow : Row ℕ × ℕ → ℕ × ℕ
 shownRow x = (x .0 .count, x .1)
 

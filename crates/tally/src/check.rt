@@ -15,7 +15,7 @@ ghost use Rattle.wire.specs.Answer.{bytesOf};
 ghost use Rattle.wire.specs.Formats.{headLength};
 ghost use Rattle.wire.specs.Places.{placeIn, startTold};
 ghost use Rattle.tally.specs.Tally.{row, one};
-ghost use Rattle.tally.specs.Operations.{checkOf, rowsPart};
+ghost use Rattle.tally.specs.Operations.{checkOf, rowBytesOf};
 ghost use Rattle.tally.specs.Told.{toldCheck};
 ghost use Rattle.tally.specs.Walks.{mayFollow, takes};
 
@@ -79,9 +79,9 @@ pub fn check(t: &[u8]) -> CheckAnswer
 
 // Gives the rows of a tally, to be taken from the front; an empty slice where it is none.
 pub fn rows_of(t: &[u8]) -> &[u8]
-    ensures told { λ r. ⌜ now r ≡ bytesOf (λ s. s) (rowsPart one (now (t .entry))) ⌝ }
+    ensures told { λ r. ⌜ now r ≡ bytesOf (λ s. s) (rowBytesOf one (now (t .entry))) ⌝ }
     ensures place { λ r. ⌜ ptr r
-        ≡ placeIn (t .entry) (startTold (λ _. headLength) (rowsPart one (now (t .entry)))) ⌝ }
+        ≡ placeIn (t .entry) (startTold (λ _. headLength) (rowBytesOf one (now (t .entry)))) ⌝ }
 {
     match check(t) {
         CheckAnswer::Tally(_) => &t[HEAD_LENGTH..],

@@ -8,7 +8,7 @@ use native.Mathlib.Omega.{arith}
 use lib.ListN.{length, getD, take, drop, length-drop}
 use lib.Seq.{take-all, drop-cons}
 
--- a part that goes to the end
+-- a slice that goes to the end
 pub rest-is : {A : Type 0} (n : ℕ) (l : List A) → take (length l - n) (drop n l) ≡ drop n l
 rest-is n l = take-all (length l - n) (drop n l) (rw length-drop (le-refl (length l - n)))
 

@@ -78,7 +78,7 @@ module _ (n by : ℕ) (d : List ℕ) where
   unfolding movedBack
   moved-not h = rw (lt-leb (by + n) (length d) h)
 
--- a part to the end that was lent on, back in the whole
+-- a slice to the end that was lent on, back in the whole
 pub part-back : (n : ℕ) (t ys : List ℕ) → n ≤ length t → putMid n (length t - n) t ys ≡ take n t ++ ys
 part-back n t ys h =
     let none : postOf n (length t - n) t ≡ [] = post-is n (length t) t h ∙ drop-length t in

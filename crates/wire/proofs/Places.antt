@@ -8,7 +8,7 @@ use Rattle.wire.specs.Places.{placeIn}
 
 -- ---- laws
 module _ (s : RefT (List ℕ)) where
-  -- the place as a part of s has it
+  -- the place as a slice of s has it
   pub place-is : {n m : ℕ} → n ≡ m → (ptr s .0, n + ptr s .1) ≡ placeIn s m
   place-is {n} {m} e = let h : n + ptr s .1 ≡ ptr s .1 + m = omega (arith, e) in ap (λ (o : ℕ). (ptr s .0, o)) h
 

@@ -6,7 +6,7 @@ use lib.ListN.{length}
 use Rattle.wire.specs.Walk.{walk}
 
 -- ---- laws
--- `Held s l` says that the part s holds the rows l and nothing else.
+-- `Held s l` says that the bytes s hold the rows l and nothing else.
 module _ {A B : Type 0} (Held : List ℕ → List A → Type 0) (behind : List ℕ → List ℕ) (look : List ℕ → B) (shown : A → B)
     (nothing : (s : List ℕ) → Held s [] → s ≡ [])
     (front : (s : List ℕ) (a : A) (l : List A) → Held s (a ∷ l) → look s ≡ shown a)

@@ -25,10 +25,10 @@ abbrev pub thenAnswer : {A B : Type 0} → Answer A → (A → Answer B) → Ans
 thenAnswer (good a) f = f a
 thenAnswer (refusal n r o) f = refusal n r o
 
--- a part of what was answered; empty when refused
+-- bytes of what was answered; none when refused
 abbrev pub bytesOf : {A : Type 0} → (A → List ℕ) → Answer A → List ℕ
-bytesOf part (good a) = part a
-bytesOf part (refusal n r o) = []
+bytesOf bytes (good a) = bytes a
+bytesOf bytes (refusal n r o) = []
 
 -- What a lent buffer holds after a call: on 0 the result over the front of what was there, on a refusal what was there.
 abbrev pub lent : {A : Type 0} → Answer (List A) → List A → List A

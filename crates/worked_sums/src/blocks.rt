@@ -14,7 +14,7 @@ pub(crate) const ROOM: usize = 16_500;
 // A name row: id 0, the length, `air`.
 pub(crate) const AIR: [u8; 7] = *b"\x00\x00\x00\x03air";
 
-// Lighting is the one value that every version takes.
+// Makes a head with the one lighting that every version takes.
 pub(crate) fn head(version: u8, timer: u8, timestamp: u32) -> Head {
     Head {
         version,
@@ -54,7 +54,7 @@ pub(crate) fn put_block(head: Head, nodes: Nodes, names: &[u8], out: &mut [u8]) 
     n
 }
 
-// The first n bytes of a buffer.
+// Gives the first n bytes of a buffer.
 pub(crate) fn front(s: &[u8], n: usize) -> &[u8] {
     slice_of(
         s,

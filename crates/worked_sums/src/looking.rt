@@ -1,4 +1,4 @@
-// Looking at a block: its sections, their rows from the front and the names of its nodes, each handed back as a part of the block; the rows of
+// Looking at a block: its sections, their rows from the front and the names of its nodes, each handed back as a slice of the block; the rows of
 // its tally; and where its nodes stand. What is handed back is printed, and held to the bytes that the block was made of.
 use crate::blocks::ROOM;
 use crate::blocks::front;
@@ -74,20 +74,20 @@ fn put_rows(version: u8, metadata: &[u8], timers: &[u8], out: &mut [u8]) -> usiz
     n
 }
 
-// A part's bytes, in hexadecimal digits.
-fn bytes_line(asked: &[u8], part: &[u8], expected: &[u8]) {
+// Shows a slice's bytes in hexadecimal digits, beside what is expected.
+fn bytes_line(asked: &[u8], slice: &[u8], expected: &[u8]) {
     say(asked);
-    say_bytes(part);
+    say_bytes(slice);
     say(b"; ");
-    say_verdict(are_same(part, expected));
+    say_verdict(are_same(slice, expected));
 }
 
-// A part that is text.
-fn text_line(asked: &[u8], part: &[u8], expected: &[u8]) {
+// Shows a slice that is text, beside what is expected.
+fn text_line(asked: &[u8], slice: &[u8], expected: &[u8]) {
     say(asked);
-    say_text(part);
+    say_text(slice);
     say(b"; ");
-    say_verdict(are_same(part, expected));
+    say_verdict(are_same(slice, expected));
 }
 
 // Shows the rows of names, and the slices handed back of them.
@@ -143,7 +143,7 @@ fn objects_and_timers(block: &[u8]) {
     text_line(b"  behind it: ", behind_timer_row(timers), b"");
 }
 
-// The count in the front row of a tally, 0 where there is none.
+// Gives the count in the front row of a tally, 0 where there is none.
 fn count_of(rows: &[u8]) -> u64 {
     match row_of(rows) {
         RowAnswer::Row { count, length: _ } => count,
@@ -175,7 +175,7 @@ fn tally_rows(block: &[u8]) {
     row_line(b"  behind the last", behind_row(rest), b"", 0);
 }
 
-// Where the node at an index of the block at (-1, 0, 0) stands, or the number of its refusal.
+// Shows where the node at an index of the block at (-1, 0, 0) stands, or the number of its refusal.
 fn node_line(asked: &[u8], index: usize, x: i32, y: i32, z: i32) {
     say(asked);
     match node_coordinates(Coordinates { x: -1, y: 0, z: 0 }, index) {
@@ -191,7 +191,7 @@ fn node_line(asked: &[u8], index: usize, x: i32, y: i32, z: i32) {
     }
 }
 
-// Whether a node stands in a lot that is made of the ends of one axis, or that the lot is bad.
+// Shows whether a node stands in a lot that is made of the ends of one axis, or that the lot is bad.
 fn lot_line(asked: &[u8], least: i32, greatest: i32, x: i32) {
     say(asked);
     match Lot::new(least, 0, 0, greatest, 15, 15) {

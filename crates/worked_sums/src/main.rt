@@ -7,6 +7,7 @@ mod printing;
 mod sheets;
 mod shortest;
 
+// Runs the sums.
 fn main() {
     shortest::run();
     mistakes::run();

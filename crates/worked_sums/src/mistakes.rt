@@ -31,7 +31,7 @@ fn negative_key() {
     say_verdict((at.number == 0) & ((at.x == 2047) & ((at.y == -1) & (at.z == 0))));
 }
 
-// The length of an inventory, 0 where it does not end.
+// Gives the length of an inventory, 0 where it does not end.
 fn inventory_length(s: &[u8]) -> usize {
     match inventory(s) {
         Reach::End(n) => n,
@@ -52,7 +52,7 @@ fn longer_line() {
     say_verdict(n == 30);
 }
 
-// The line of a block's tally, in the whole world.
+// Shows the line of a block's tally, in the whole world.
 fn one_block(asked: &[u8], head: Head, nodes: Nodes, names: &[u8], span: Span, expected: &[u8]) {
     let mut block = [0u8; ROOM];
     let mut out = [0u8; 256];
@@ -61,7 +61,7 @@ fn one_block(asked: &[u8], head: Head, nodes: Nodes, names: &[u8], span: Span, e
     say_tally(asked, answer, &out, expected);
 }
 
-// The line of a sheet's tally.
+// Shows the line of a sheet's tally.
 fn two_blocks(asked: &[u8], key: i64, next: i64, names: &[u8], expected: &[u8]) {
     let mut out = [0u8; 256];
     let answer = tally_two(key, next, names, &mut out);

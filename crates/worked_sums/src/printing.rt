@@ -36,7 +36,7 @@ pub(crate) fn say_coordinate(axis: &[u8], c: i32) {
     say_signed(c as i64);
 }
 
-// The number that the reader answers, and the place of a refusal.
+// Prints the number that the reader answers, and the place of a refusal.
 pub(crate) fn say_answer(asked: &[u8], answer: AnowAnswer) {
     say(asked);
     say_number(answer.number as u64);
@@ -52,7 +52,7 @@ fn say_byte(b: u8) {
     io::print_hex(STDOUT_FILENO, b as u64, 2);
 }
 
-// Bytes in hexadecimal digits.
+// Prints bytes in hexadecimal digits.
 pub(crate) fn say_bytes(bytes: &[u8]) {
     let mut i: usize = 0;
     while i < bytes.len() {
@@ -61,7 +61,7 @@ pub(crate) fn say_bytes(bytes: &[u8]) {
     }
 }
 
-// A letter of a text whose lines are to stand in one.
+// Prints a letter of a text whose lines are to stand in one.
 fn say_letter(b: u8) {
     if b == b'\n' {
         say(b"; ");
@@ -97,7 +97,7 @@ pub(crate) fn are_same(a: &[u8], b: &[u8]) -> bool {
     }
 }
 
-// The text of the tally that a call answered, or of its refusal, as sheetcount prints them.
+// Writes the text of the tally that a call answered, or of its refusal, as sheetcount prints them, and tells its length.
 fn put_text(answer: AnowAnswer, tally: &[u8], out: &mut [u8]) -> usize {
     if answer.number == 0 {
         return put_length(tally_text(front(tally, answer.length as usize), out));
@@ -105,7 +105,7 @@ fn put_text(answer: AnowAnswer, tally: &[u8], out: &mut [u8]) -> usize {
     put_length(refusal_text(answer.number, answer.index, out))
 }
 
-// The line of a tally or of its refusal.
+// Prints the line of a tally or of its refusal.
 pub(crate) fn say_tally(asked: &[u8], answer: AnowAnswer, tally: &[u8], expected: &[u8]) {
     let mut room = [0u8; 256];
     let n = put_text(answer, tally, &mut room);

@@ -18,7 +18,7 @@ use wire::store::put_s64;
 use wire::store::put_u32;
 ghost use Prim.Native.Nat.{_+_, _≤_};
 
-// A record at a place, and where it ends, at most BLOCK_AT and ROOM further on. All nodes of its block are of id 0.
+// Writes a record at a place, and tells where it ends, at most BLOCK_AT and ROOM further on. All nodes of its block are of id 0.
 fn put_record(sheet: &mut [u8], at: usize, key: i64, names: &[u8]) -> usize
     requires { ⌜ at ≤ 65536 ⌝ }
     ensures { λ r. ⌜ r ≤ at + 16512 ⌝ }

@@ -19,7 +19,7 @@ use position::lot::Lot;
 use position::span::Span;
 ghost use Prim.Native.Nat.{_<_};
 
-// What the reader answers.
+// Gives what the reader answers.
 fn read(block: &[u8]) -> AnowAnswer {
     let mut param0 = [0u16; NODES];
     let mut param1 = [0u8; NODES];
@@ -33,7 +33,7 @@ fn is_answer(answer: AnowAnswer, number: u32, place: usize) -> bool {
     (answer.number == number) & (answer.offset == place as u64)
 }
 
-// The tally of the whole world and all time, which has no room in one byte less.
+// Shows the tally of the whole world and all time, and that it has no room in one byte less.
 fn full_tally(block: &[u8]) {
     let mut out = [0u8; 64];
     let mut small = [0u8; 21];
@@ -50,7 +50,7 @@ fn full_tally(block: &[u8]) {
     say_verdict(are_same(tally, expected) & is_answer(refused, 11, 0));
 }
 
-// Version 24 alone has a timer byte.
+// Prints a version, with the timer byte that version 24 alone has.
 fn say_version(version: u8, timer: u8) {
     say(b"version ");
     say_number(version as u64);
@@ -61,7 +61,7 @@ fn say_version(version: u8, timer: u8) {
     say(b": ");
 }
 
-// The block of a version and a timer byte: its length, and the start of its last field, which one byte less cuts short.
+// Shows the shortest block of a version and a timer byte: its length, and the start of its last field, which one byte less cuts short.
 fn shortest(version: u8, timer: u8, length: usize, last: usize)
     requires { ⌜ (0 < length) × (length < 65536) ⌝ }
 {
@@ -92,7 +92,7 @@ fn no_bytes() {
     say_verdict(is_answer(answer, 1, 0));
 }
 
-// Up to version 24 the last field is the name, three bytes; from 25 it is the number of timers, two.
+// Shows the shortest block of each version. Up to version 24 the last field is the name, three bytes; from 25 it is the number of timers, two.
 pub(crate) fn run() {
     say(b"Shortest all-air blocks\n");
     shortest(22, 0, 12_313, 12_310);

@@ -7,6 +7,10 @@ use Rattle.sheetcount_lib.proofs.Shown.{no-tally, refused-shown, counte
 use Rattle.sheetcount_lib.proofs.put_answer.Statement.{statement}
 use Rattle.sheetcount_lib.proofs.put_answer.Tie as tie
 
+-- places in the function, each from the places behind it
+abbrev start : tie.After-tally-text → tie.Start
+start c = c .before .before .before .before .before .before .before .before
+
 enum-known-answer : tie.Need-enum-known-answer
 enum-known-answer c = search needs
 
@@ -39,7 +43,7 @@ same-length-2 c = search needs
 returns-2 : tie.Need-returns-2
 returns-2 c k =
     let x = c .before .before .before in
-    let s = x .before .before .before .before .before .before .before .before in
+    let s = start x in
     tally-shown k (ap toldSheet (x .before .before .before .before .answer .given .1)) (x .tally-text .result) (c .put-length .result) (now (s .args .text)) (x .tally-text .last .1 .0) (s .pre .0) (c .put-length .ensures) (x .tally-text .ensures .0) (x .tally-text .ensures .1)
 
 pub put-answer-spec : {M : Type 1} → statement M

@@ -1,3 +1,4 @@
+-- The loop needs no invariant. The measure: the arguments that are left.
 use borrow.Author.Needs.{needs}
 use Prim.Native.Nat.{_-_}
 use Rattle.sheetcount_runs.proofs.main.Statement.{statement}

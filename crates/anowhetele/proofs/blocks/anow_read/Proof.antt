@@ -6,6 +6,10 @@ use mathlib.Core.Path.{ap, _∙_}
 use Rattle.anowhetele.proofs.blocks.anow_read.Statement.{statement}
 use Rattle.anowhetele.proofs.blocks.anow_read.Tie as tie
 
+-- places in the function, each from the places behind it
+abbrev after-read : tie.After-slice-known6 → tie.After-read
+after-read c = c .before .before .before .before .before .before
+
 read-requires : tie.Need-read-requires
 read-requires c κs = search needs
 
@@ -43,7 +47,7 @@ same-length-3 : tie.Need-same-length-3
 same-length-3 c = search needs
 
 returns : tie.Need-returns
-returns c = let e = c .before .before .before .before .before .before .before .before .before .before .read .ensures in (rw (c .done .ensures) (ap handedBlock (told-as toldRead (e .0) (c .before .before .head .given .1))), e .1)
+returns c = let e = after-read (c .before .before .before .before) .read .ensures in (rw (c .done .ensures) (ap handedBlock (told-as toldRead (e .0) (c .before .before .head .given .1))), e .1)
 
 same-length-4 : tie.Need-same-length-4
 same-length-4 c = search needs
@@ -56,7 +60,7 @@ same-length-6 c = search needs
 
 returns-2 : tie.Need-returns-2
 returns-2 c =
-    let e = c .before .before .before .before .before .before .before .before .before .before .read .ensures in
+    let e = after-read (c .before .before .before .before) .read .ensures in
     (c .no-block .ensures ∙ ap noBlock (c .before .plain .ensures) ∙ ap handedBlock (told-as toldRead (e .0) (c .before .before .enum-told .given .1)), e .1)
 
 same-length-7 : tie.Need-same-length-7
@@ -70,7 +74,7 @@ same-length-9 c = search needs
 
 returns-3 : tie.Need-returns-3
 returns-3 c =
-    let e = c .before .before .before .before .before .before .before .before .before .before .before .read .ensures in
+    let e = after-read (c .before .before .before .before .before) .read .ensures in
     (c .no-block2 .ensures ∙ ap noBlock (c .before .refused .ensures) ∙ ap handedBlock (told-as toldRead (e .0) (c .before .before .before .fault .given .1)), e .1)
 
 pub anow-read-spec : {M : Type 1} → statement M

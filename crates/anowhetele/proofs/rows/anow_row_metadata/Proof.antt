@@ -6,6 +6,13 @@ use Rattle.anowhetele.specs.Rows.{noMetadata, handedMetadata}
 use Rattle.anowhetele.proofs.rows.anow_row_metadata.Statement.{statement}
 use Rattle.anowhetele.proofs.rows.anow_row_metadata.Tie as tie
 
+-- places in the function, each from the places behind it
+abbrev after-metadata-row-of : tie.After-struct-known2 → tie.After-metadata-row-of
+after-metadata-row-of c = c .before .before .before .before .before .before .before .before .before
+
+abbrev after-row : tie.After-struct-known2 → tie.After-row
+after-row c = c .before .before .before .before .before .before .before
+
 metadata-row-of-requires : tie.Need-metadata-row-of-requires
 metadata-row-of-requires c κs = search needs
 
@@ -40,7 +47,7 @@ refused-requires : tie.Need-refused-requires
 refused-requires c κs = search needs
 
 returns : tie.Need-returns
-returns c = rw (c .before .before .done .ensures) (ap handedMetadata (told-as toldMetadataRow (c .before .before .before .before .before .before .before .before .before .metadata-row-of .ensures) (c .before .before .before .before .before .before .before .row .given .1)))
+returns c = rw (c .before .before .done .ensures) (ap handedMetadata (told-as toldMetadataRow (after-metadata-row-of c .metadata-row-of .ensures) (after-row c .row .given .1)))
 
 returns-2 : tie.Need-returns-2
 returns-2 c = c .no-metadata .ensures ∙ ap noMetadata (c .before .plain .ensures) ∙ ap handedMetadata (told-as toldMetadataRow (c .before .before .before .before .metadata-row-of .ensures) (c .before .before .enum-told .given .1))

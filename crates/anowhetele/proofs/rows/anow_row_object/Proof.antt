@@ -8,6 +8,10 @@ use Rattle.anowhetele.specs.Rows.{noObject, handedObject}
 use Rattle.anowhetele.proofs.rows.anow_row_object.Statement.{statement}
 use Rattle.anowhetele.proofs.rows.anow_row_object.Tie as tie
 
+-- places in the function, each from the places behind it
+abbrev after-object-row-of : tie.After-struct-told → tie.After-object-row-of
+after-object-row-of c = c .before .before .before .before .before .before .before
+
 object-row-of-requires : tie.Need-object-row-of-requires
 object-row-of-requires c κs = search needs
 
@@ -43,7 +47,7 @@ returns c =
     let g = c .struct-told .given in
     let f = c .before .before .before .before .before .row .given .0 .0 in
     rw (toZ-ofZ w32 (f .x) (record { sfits = g .1 .0 .1 }), toZ-ofZ w32 (f .y) (record { sfits = g .1 .1 .0 .1 }), toZ-ofZ w32 (f .z) (record { sfits = g .1 .1 .1 .0 .1 }), c .before .before .done .ensures)
-    (ap handedObject (told-as toldObjectRow (c .before .before .before .before .before .before .before .object-row-of .ensures) (c .before .before .before .before .before .row .given .1)))
+    (ap handedObject (told-as toldObjectRow (after-object-row-of c .object-row-of .ensures) (c .before .before .before .before .before .row .given .1)))
 
 returns-2 : tie.Need-returns-2
 returns-2 c = c .no-object .ensures ∙ ap noObject (c .before .plain .ensures) ∙ ap handedObject (told-as toldObjectRow (c .before .before .before .before .object-row-of .ensures) (c .before .before .enum-told .given .1))

@@ -6,14 +6,18 @@ use lib.ListN.{length, take, drop, length-drop}
 use denote.Ref.{now}
 use Rattle.wire.proofs.Lists.{rest-is}
 use Rattle.wire.specs.Bytes.{Bytes}
-use Rattle.block_reader.specs.Questions.{partsOf, nodeNameIn}
+use Rattle.block_reader.specs.Questions.{sectionRangesOf, nodeNameIn}
 use Rattle.block_reader.specs.Scan.{toldScan}
-use Rattle.block_reader.proofs.BlockAnswers.{TakenAs, taken-as, block-refused, sections-told, AllInside, parts-inside}
+use Rattle.block_reader.proofs.BlockAnswers.{TakenAs, taken-as, block-refused, sections-told, AllInside, ranges-inside}
 use Rattle.mapblock.specs.Layout.{width}
 use Rattle.mapblock.proofs.Entries.{id-there}
 use Rattle.block_reader.proofs.NodeNames.{within-length, spot-in, node-none, node-told}
 use Rattle.block_reader.proofs.node.locate_node_name.Statement.{statement}
 use Rattle.block_reader.proofs.node.locate_node_name.Tie as tie
+
+-- places in the function, each from the places behind it
+abbrev after-scanned : tie.After-slice-of → tie.After-scanned
+after-scanned c = c .before .before .before .before .before .before .before .before
 
 -- the block that was found, and its sections
 bytes : (c : tie.After-scanned) → Bytes (now (c .before .before .before .before .args .block))
@@ -22,8 +26,8 @@ bytes c i = c .before .before .before .shared-slice-known .given i .fits
 block-is : (c : tie.After-scanned) → TakenAs (now (c .before .before .before .before .args .block)) (c .scanned .given .0 .0)
 block-is c = taken-as _ (bytes c) (sym (ap toldScan (c .scanned .given .1)) ∙ c .before .before .judge .ensures)
 
-parts-are : (c : tie.After-scanned) → AllInside (now (c .before .before .before .before .args .block)) (c .scanned .given .0 .0 .sections)
-parts-are c = parts-inside _ (bytes c) (ap partsOf (sections-told _ (block-is c)))
+ranges-are : (c : tie.After-scanned) → AllInside (now (c .before .before .before .before .args .block)) (c .scanned .given .0 .0 .sections)
+ranges-are c = ranges-inside _ (bytes c) (ap sectionRangesOf (sections-told _ (block-is c)))
 
 judge-requires : tie.Need-judge-requires
 judge-requires c κs = search needs
@@ -59,8 +63,8 @@ slice-of-requires c κs = search needs
 
 find-requires : tie.Need-find-requires
 find-requires c κs =
-    let k = c .before .before .before .before .before .before .before .before in
-    rw (c .slice-of .ensures .bytes, within-length (now (k .before .before .before .before .args .block)) (k .scanned .given .0 .0 .sections .names) (parts-are k .names)) (omega (arith, parts-are k .names))
+    let k = after-scanned c in
+    rw (c .slice-of .ensures .bytes, within-length (now (k .before .before .before .before .args .block)) (k .scanned .given .0 .0 .sections .names) (ranges-are k .names)) (omega (arith, ranges-are k .names))
 
 returns-2 : tie.Need-returns-2
 returns-2 c =
@@ -68,7 +72,7 @@ returns-2 c =
 
 returns-3 : tie.Need-returns-3
 returns-3 c =
-    let k = c .before .before .before .before .before .before .before .before .before in
+    let k = after-scanned (c .before) in
     node-told (block-is k) (bytes k) (k .before .before .before .before .args .index) (omega arith) (c .before .before .id-of .ensures ∙ id-there (k .scanned .given .0 .0 .head .version) _ (k .before .before .before .before .args .index) (omega arith) (lists-long k)) (spot-in (block-is k) (bytes k) _ _ (c .before .slice-of .ensures .bytes) (c .find .ensures))
 
 pub locate-node-name-spec : {M : Type 1} → statement M

@@ -5,14 +5,14 @@ use Rattle.mapblock.specs.declared.head.Sections.{Sections}
 use Rattle.block_reader.proofs.read.names_section.Statement.{statement}
 use Rattle.block_reader.proofs.read.names_section.Tie as tie
 
-parts-requires : tie.Need-parts-requires
-parts-requires c κs = search needs
+section-ranges-requires : tie.Need-section-ranges-requires
+section-ranges-requires c κs = search needs
 
 slice-of-requires : tie.Need-slice-of-requires
 slice-of-requires c κs = search needs
 
 returns : tie.Need-returns
-returns c = subst (λ (x : Sections). IsSlice (c .before .before .before .before .args .block) (x .names) (c .slice-of .result)) (c .before .before .parts .ensures) (c .slice-of .ensures)
+returns c = subst (λ (x : Sections). IsSlice (c .before .before .before .before .args .block) (x .names) (c .slice-of .result)) (c .before .before .section-ranges .ensures) (c .slice-of .ensures)
 
 pub names-section-spec : {M : Type 1} → statement M
-names-section-spec = tie.close (tie.spec parts-requires slice-of-requires returns)
+names-section-spec = tie.close (tie.spec section-ranges-requires slice-of-requires returns)

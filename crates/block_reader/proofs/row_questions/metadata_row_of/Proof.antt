@@ -11,6 +11,10 @@ use mathlib.Core.Path.{ap, sym, _∙_}
 use Rattle.block_reader.proofs.row_questions.metadata_row_of.Statement.{statement}
 use Rattle.block_reader.proofs.row_questions.metadata_row_of.Tie as tie
 
+-- places in the function, each from the places behind it
+abbrev start : tie.After-metadata-row → tie.Start
+start c = c .before .before .before .before .before
+
 is-version-requires : tie.Need-is-version-requires
 is-version-requires c κs = search needs
 
@@ -34,13 +38,13 @@ enum-known-fault c = search needs
 
 returns-3 : tie.Need-returns-3
 returns-3 c =
-    let a = c .before .before .before .before .before .before .before .before .args in
+    let a = start (c .before .before .before) .args in
     version-good (a .version) (now (a .rows)) (sym (c .before .before .before .before .before .before .is-version .ensures) ∙ not-false _ (c .before .before .before .before .before .if1 .left))
     (asked-row (now (a .rows)) (c .before .before .before .before .if2 .left) (sym (ap toldMetadata (c .before .row .given .1)) ∙ c .before .before .before .metadata-row .ensures))
 
 returns-4 : tie.Need-returns-4
 returns-4 c =
-    let a = c .before .before .before .before .before .before .before .before .args in
+    let a = start (c .before .before .before) .args in
     version-good (a .version) (now (a .rows)) (sym (c .before .before .before .before .before .before .is-version .ensures) ∙ not-false _ (c .before .before .before .before .before .if1 .left))
     (asked-row (now (a .rows)) (c .before .before .before .before .if2 .left) (sym (ap toldMetadata (c .before .fault .given .1)) ∙ c .before .before .before .metadata-row .ensures))
 

@@ -15,6 +15,10 @@ use mathlib.Core.Path.{_≡_, refl}
 use Rattle.block_reader.proofs.scan.behind_front.Statement.{statement}
 use Rattle.block_reader.proofs.scan.behind_front.Tie as tie
 
+-- places in the function, each from the places behind it
+abbrev else1 : tie.After-ending-arg → tie.Else1
+else1 c = c .before .before .before .before .before .before .before
+
 -- places on the way, each from one that lies further on
 abbrev start : tie.After-lists → tie.Start
 start c = c .before .before .before .before .before
@@ -92,13 +96,13 @@ add-ending-3 : tie.Need-add-ending-3
 add-ending-3 c = omega (arith, inside (at-lists (c .before .before .before .before)), start (at-lists (c .before .before .before .before)) .good .0 .0)
 
 ending-requires : tie.Need-ending-requires
-ending-requires c κs = (freeIn (start (at-lists-2 (c .before .before .before .before .before .before)) .pre .0), rw (c .before .before .before .before .without-late-timers .ensures, c .before .before .before .before .before .rows-of .ensures) (upto-new _ _ _ _ (start (at-lists-2 (c .before .before .before .before .before .before)) .pre .1) _ (lists-are (at-lists-2 (c .before .before .before .before .before .before))) (bytes (at-lists-2 (c .before .before .before .before .before .before) .before .before .before .before)) (omega (arith, c .before .before .before .before .before .before .before .if1 .left))))
+ending-requires c κs = (freeIn (start (at-lists-2 (c .before .before .before .before .before .before)) .pre .0), rw (c .before .before .before .before .without-late-timers .ensures, c .before .before .before .before .before .rows-of .ensures) (upto-new _ _ _ _ (start (at-lists-2 (c .before .before .before .before .before .before)) .pre .1) _ (lists-are (at-lists-2 (c .before .before .before .before .before .before))) (bytes (at-lists-2 (c .before .before .before .before .before .before) .before .before .before .before)) (omega (arith, else1 c .if1 .left))))
 
 returns-2 : tie.Need-returns-2
 returns-2 c = ((λ t F. no-middle t _ _ _ F (no-lists (c .before))), refl)
 
 returns-3 : tie.Need-returns-3
-returns-3 c = ((λ t F. c .ending .ensures (freeIn t) (rw (c .before .before .before .before .before .without-late-timers .ensures, c .before .before .before .before .before .before .rows-of .ensures) (upto-new t _ _ _ F _ (lists-are (at-lists (c .before .before .before .before .before .before))) (bytes (at-lists (c .before .before .before .before .before .before) .before .before .before .before)) (omega (arith, c .before .before .before .before .before .before .before .before .if1 .left))))), refl)
+returns-3 c = ((λ t F. c .ending .ensures (freeIn t) (rw (c .before .before .before .before .before .without-late-timers .ensures, c .before .before .before .before .before .before .rows-of .ensures) (upto-new t _ _ _ F _ (lists-are (at-lists (c .before .before .before .before .before .before))) (bytes (at-lists (c .before .before .before .before .before .before) .before .before .before .before)) (omega (arith, else1 (c .before) .if1 .left))))), refl)
 
 pub behind-front-spec : {M : Type 1} → statement M
 behind-front-spec =

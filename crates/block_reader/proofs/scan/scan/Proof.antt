@@ -12,10 +12,14 @@ use mathlib.Core.Path.{_∙_}
 use Rattle.block_reader.proofs.scan.scan.Statement.{statement}
 use Rattle.block_reader.proofs.scan.scan.Tie as tie
 
-front-is : (c : tie.After-found) → let a = c .before .before .before .before .before .args in FrontIs (now (a .ids)) (c .before .before .front .last .1 .0) (now (a .s)) (c .found .given .0 .0)
-front-is c = rw (c .found .given .1) at (c .before .before .front .ensures)
+-- places in the function, each from the places behind it
+abbrev start : tie.After-unmark → tie.Start
+start c = c .before .before .before .before .before .before .before .before .before .before .before
 
-long : (c : tie.After-found) → 11 ≤ length (now (c .before .before .before .before .before .args .s))
+front-is : (c : tie.After-fields) → let a = c .before .before .before .before .before .args in FrontIs (now (a .ids)) (c .before .before .front .last .1 .0) (now (a .s)) (c .fields .given .0 .0)
+front-is c = rw (c .fields .given .1) at (c .before .before .front .ensures)
+
+long : (c : tie.After-fields) → 11 ≤ length (now (c .before .before .before .before .before .args .s))
 long c = omega (arith, front-inside _ _ _ _ (front-is c), front-is c .ends)
 
 front-requires : tie.Need-front-requires
@@ -24,8 +28,8 @@ front-requires c κs = search needs
 enum-known-fault : tie.Need-enum-known-fault
 enum-known-fault c = search needs
 
-enum-known-found : tie.Need-enum-known-found
-enum-known-found c = search needs
+enum-known-fields : tie.Need-enum-known-fields
+enum-known-fields c = search needs
 
 behind-front-requires : tie.Need-behind-front-requires
 behind-front-requires c κs = (_, front-is (c .before .before))
@@ -47,7 +51,7 @@ returns c = let e = rw (c .before .fault .given .1) at (c .before .before .befor
 
 returns-2 : tie.Need-returns-2
 returns-2 c =
-    let a = c .before .before .before .before .before .before .before .before .before .before .before .args in
+    let a = start c .args in
     let e = rw (rest-is 11 (now (a .s))) at (c .unmark .ensures) in
     (c .before .before .before .behind-front .ensures .0 _ (front-is (c .before .before .before .before .before .before)), e ∙ front-undone _ _ _ _ (front-is (c .before .before .before .before .before .before)) _ (c .before .before .before .behind-front .ensures .1))
 
@@ -57,7 +61,7 @@ scan-spec =
     (tie.spec
     front-requires
     enum-known-fault
-    enum-known-found
+    enum-known-fields
     behind-front-requires
     sub-unmark
     part-unmark-start

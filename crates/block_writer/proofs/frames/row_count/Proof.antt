@@ -20,6 +20,13 @@ Inv-loop section version s rest₀ left₀ rest left = Counting (frameOf section
 abbrev μ-loop : tie.MeasureT-loop
 μ-loop section version s rest₀ left₀ rest left = left
 
+-- places in the function, each from the places behind it
+abbrev start : tie.After-known-told Inv-loop μ-loop → tie.Start Inv-loop μ-loop
+start c = c .before .before .before .before .before .before .before .before
+
+abbrev at-loop : tie.After-rest Inv-loop μ-loop → tie.At-loop Inv-loop μ-loop
+at-loop c = c .before .before .before .before .before .before .before
+
 -- the front row is whole
 one : (c : tie.After-known-told Inv-loop μ-loop) → let l = c .before .before .before .before .before .before in
     let a = l .before .before .args in
@@ -28,7 +35,7 @@ one c = sym (ap toldFrame (c .before .n .given .1)) ∙ c .before .before .befor
 
 row-in : (c : tie.After-known-told Inv-loop μ-loop) → c .before .n .given .0 .0 ≤ length (now (c .before .before .before .before .before .before .loop .rest))
 row-in c =
-    let a = c .before .before .before .before .before .before .before .before .args in
+    let a = start c .args in
     long-in (frameOf (a .section) (a .version)) _ (one c)
 
 loop-holds : tie.Need-loop-holds Inv-loop μ-loop
@@ -68,7 +75,7 @@ loop-less c = omega arith
 
 loop-again : tie.Need-loop-again Inv-loop μ-loop
 loop-again c =
-    let l = c .before .before .before .before .before .before .before in
+    let l = at-loop c in
     rw rest-is (counting-on (l .loop .inv) (c .before .before .before .before .before .before .loop-test .taken) (omega arith) (one (c .before)))
 
 sub-t13 : tie.Need-sub-t13 Inv-loop μ-loop

@@ -9,6 +9,11 @@ use Prim.Native.Nat.{_<_}
 use Rattle.block_writer.proofs.TimersJudging.{early-above, early-zero, early-one}
 use Rattle.block_writer.proofs.PiecesJudging.{shift-reach}
 
+-- places in the function, each from the places behind it
+
+abbrev start : tie.After-shift → tie.Start
+start c = c .before .before .before .before .before .before .before
+
 returns : tie.Need-returns
 returns c =
     let below : c .before .before .before .args .head .timer < 256 = search needs in
@@ -25,8 +30,8 @@ shift-requires c κs = omega (arith, c .judge-timers .ensures .1, c .before .bef
 
 returns-3 : tie.Need-returns-3
 returns-3 c =
-    let one : c .before .before .before .before .before .before .before .args .head .timer ≡ 1 = omega (arith, c .before .before .if2 .left, c .before .before .before .before .if1 .left) in (
-      (λ l w. c .shift .ensures ∙ early-one (c .before .before .before .before .before .before .before .args .head .timer) l one (c .before .judge-timers .ensures .0 l w)),
+    let one : start c .args .head .timer ≡ 1 = omega (arith, c .before .before .if2 .left, c .before .before .before .before .if1 .left) in (
+      (λ l w. c .shift .ensures ∙ early-one (start c .args .head .timer) l one (c .before .judge-timers .ensures .0 l w)),
       omega (arith, ap reach (c .shift .ensures), shift-reach 1 (toldReach (c .before .judge-timers .result)), c .before .judge-timers .ensures .1),
     )
 

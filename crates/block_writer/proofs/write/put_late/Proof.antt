@@ -5,6 +5,10 @@ use Rattle.wire.proofs.Puts.{put-nothing}
 use Rattle.block_writer.proofs.write.put_late.Statement.{statement}
 use Rattle.block_writer.proofs.write.put_late.Tie as tie
 
+-- places in the function, each from the places behind it
+abbrev start : tie.After-slice-known2 → tie.Start
+start c = c .before .before .before .before .before .before .before
+
 returns : tie.Need-returns
 returns c = let a = c .before .before .before .args in rw (lt-leb 25 (a .version) (c .if1 .taken)) (put-nothing (a .at) (now (a .out)))
 
@@ -15,7 +19,7 @@ same-length : tie.Need-same-length
 same-length c = search needs
 
 returns-2 : tie.Need-returns-2
-returns-2 c = rw (le-leb 25 (c .before .before .before .before .before .before .before .args .version) (c .before .before .before .before .if1 .left)) (c .before .before .put-byte-and-list .ensures)
+returns-2 c = rw (le-leb 25 (start c .args .version) (c .before .before .before .before .if1 .left)) (c .before .before .put-byte-and-list .ensures)
 
 pub put-late-spec : {M : Type 1} → statement M
 put-late-spec = tie.close (tie.spec returns put-byte-and-list-requires same-length returns-2)

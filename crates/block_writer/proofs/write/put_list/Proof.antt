@@ -6,6 +6,10 @@ use Rattle.wire.proofs.Puts.{put-run, put-number, put-two}
 use Rattle.block_writer.proofs.write.put_list.Statement.{statement}
 use Rattle.block_writer.proofs.write.put_list.Tie as tie
 
+-- places in the function, each from the places behind it
+abbrev start : tie.After-slice-known3 → tie.Start
+start c = c .before .before .before .before .before .before .before .before .before .before
+
 put-u16-requires : tie.Need-put-u16-requires
 put-u16-requires c κs = search needs
 
@@ -26,7 +30,7 @@ same-length c = search needs
 
 returns : tie.Need-returns
 returns c =
-    let s = c .before .before .before .before .before .before .before .before .before .before in
+    let s = start c in
     let a = s .args in
     put-two (s .pre) (put-number (a .at) 2 (a .count) (omega (arith, s .pre)) (c .before .before .before .before .before .before .put-u16 .ensures)) (λ r. put-run (a .at + 2) (now (a .rows)) r (c .before .before .put-bytes .ensures))
 

@@ -4,6 +4,10 @@ use Rattle.wire.proofs.Puts.{put-number, put-two}
 use Rattle.block_writer.proofs.write.put_name_mapping.Statement.{statement}
 use Rattle.block_writer.proofs.write.put_name_mapping.Tie as tie
 
+-- places in the function, each from the places behind it
+abbrev start : tie.After-slice-known3 → tie.Start
+start c = c .before .before .before .before .before .before .before .before .before .before
+
 put-u32-requires : tie.Need-put-u32-requires
 put-u32-requires c κs = search needs
 
@@ -18,7 +22,7 @@ same-length c = search needs
 
 returns : tie.Need-returns
 returns c =
-    let s = c .before .before .before .before .before .before .before .before .before .before in
+    let s = start c in
     put-two (s .pre) (put-number (s .args .at) 4 (s .args .timestamp) (omega (arith, s .pre)) (c .before .before .before .before .before .before .put-u32 .ensures)) (λ _. c .before .before .put-byte-and-list .ensures)
 
 pub put-name-mapping-spec : {M : Type 1} → statement M

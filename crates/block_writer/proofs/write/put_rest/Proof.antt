@@ -12,6 +12,10 @@ use Rattle.block_writer.proofs.PutPieces.{before-29}
 use Rattle.block_writer.proofs.write.put_rest.Statement.{statement}
 use Rattle.block_writer.proofs.write.put_rest.Tie as tie
 
+-- places in the function, each from the places behind it
+abbrev after-put-byte-and-list : tie.After-put-late-arg → tie.After-put-byte-and-list
+after-put-byte-and-list c = c .before .before .before .before .before .before .before .before
+
 -- the pieces, and what stands behind each
 abbrev first : tie.Start → List ℕ
 first s = let a = s .args in metadataBytes (a .head .version) (a .counts .metadata) (now (a .metadata))
@@ -78,7 +82,7 @@ put-name-mapping-if-requires c κs =
     rw (before-29 (s .args .head .version)) (front-room (three .put-byte-and-list .result) (fourth s) (fifth s) (room₃ three))
 
 put-late-requires : tie.Need-put-late-requires
-put-late-requires c κs = let three = c .before .before .before .before .before .before .before .before in put-room (fifth (start₃ three)) (room₃ three) (nameMapping (c .before .before .before))
+put-late-requires c κs = let three = after-put-byte-and-list c in put-room (fifth (start₃ three)) (room₃ three) (nameMapping (c .before .before .before))
 
 same-length : tie.Need-same-length
 same-length c = search needs

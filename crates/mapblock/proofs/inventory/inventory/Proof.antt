@@ -20,9 +20,13 @@ Inv-loop s at₀ fresh₀ t4 at fresh = later at (through fresh (drop at s)) ≡
 abbrev μ-loop : tie.MeasureT-loop
 μ-loop s at₀ fresh₀ t4 at fresh = length s - at
 
+-- places in the function, each from the places behind it
+abbrev start : tie.Then2 Inv-loop μ-loop → tie.Start Inv-loop μ-loop
+start c = c .before .before .before .before .before .before .before
+
 -- the end line stands at the place
 marked : (c : tie.Then2 Inv-loop μ-loop)
-    → starts endLine (drop (c .before .before .before .before .before .loop .at) (now (c .before .before .before .before .before .before .before .args .s))) ≡ true
+    → starts endLine (drop (c .before .before .before .before .before .loop .at) (now (start c .args .s))) ≡ true
 marked c = sym (c .before .mark-at .ensures) ∙ c .if2 .taken
 
 loop-holds : tie.Need-loop-holds Inv-loop μ-loop

@@ -13,16 +13,20 @@ use Rattle.mapblock.proofs.MetadataRows.{key-ends, value-ends, value-do
 use Rattle.mapblock.proofs.metadata.key_and_value.Statement.{statement}
 use Rattle.mapblock.proofs.metadata.key_and_value.Tie as tie
 
+-- places in the function, each from the places behind it
+abbrev start : tie.After-run32-at → tie.Start
+start c = c .before .before .before .before .before .before
+
 -- the key; the bytes that end in the value; the value
 key : (c : tie.After-known-told2) → let s = now (c .before .before .before .before .before .args .s) in
     text 2 .read s ≡ done (take (c .before .k .given .0 .0) (drop 2 s)) (2 + c .before .k .given .0 .0)
 key c = by-counted 2 _ (toldRun 2 _) (c .before .before .before .run16-at .ensures) (c .before .k .given .1)
 
-no-value : (c : tie.After-known-told3) → let s = now (c .before .before .before .before .before .before .before .before .before .args .s) in
+no-value : (c : tie.After-known-told3) → let s = now (start (c .before .before .before) .args .s) in
     text 4 .read (drop (2 + c .before .before .before .before .before .k .given .0 .0) s) ≡ refused fault.Ends (c .before .p2 .given .0 .0)
 no-value c = by-counted 4 _ (toldRun 4 _) (c .before .before .before .run32-at .ensures) (c .before .p2 .given .1)
 
-value : (c : tie.After-known-told4) → let s = now (c .before .before .before .before .before .before .before .before .before .args .s) in
+value : (c : tie.After-known-told4) → let s = now (start (c .before .before .before) .args .s) in
     let k = c .before .before .before .before .before .k .given .0 .0 in
     let n = c .before .n .given .0 .0 in
     text 4 .read (drop (2 + k) s) ≡ done (take n (drop 4 (drop (2 + k) s))) (4 + n)

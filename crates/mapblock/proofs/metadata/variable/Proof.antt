@@ -15,16 +15,20 @@ use Rattle.mapblock.proofs.MetadataRows.{keyAndValue, variable-refused,
 use Rattle.mapblock.proofs.metadata.variable.Statement.{statement}
 use Rattle.mapblock.proofs.metadata.variable.Tie as tie
 
+-- places in the function, each from the places behind it
+abbrev start : tie.After-known-told2 → tie.Start
+start c = c .before .before .before .before .before .before .before .before .before .before
+
 -- key and value end at `at`; the byte behind them
 two : (c : tie.After-known-told) → done tt (c .before .r .given .0 .0) ≡ ended (keyAndValue .read (now (c .before .before .before .before .before .args .s)))
 two c = sym (ap toldReach (c .before .r .given .1)) ∙ c .before .before .before .key-and-value .ensures
 
 byte : (c : tie.After-known-told2) → let a = c .before .before .before .before .before .before .r .given .0 .0 in
-    num 1 .read (drop a (now (c .before .before .before .before .before .before .before .before .before .before .args .s))) ≡ done (c .before .private .given .0 .0) 1
+    num 1 .read (drop a (now (start c .args .s))) ≡ done (c .before .private .given .0 .0) 1
 byte c = by-number 1 _ toldU8 (c .before .before .before .u8-at .ensures) (c .before .private .given .1)
 
 -- where values are judged, the byte passed
-passed : (c : tie.Joined2) → c .before .before .before .before .before .before .before .before .before .before .before .args .values ≡ true
+passed : (c : tie.Joined2) → start (c .before) .args .values ≡ true
     → c .before .before .private .given .0 .0 ≤ 1
 passed c t = ⊎-elim (λ w. w .1 .left) (λ w. absurd (true≢false (sym t ∙ w .left))) (c .if2 .came)
 

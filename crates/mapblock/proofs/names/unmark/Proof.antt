@@ -23,6 +23,10 @@ Inv-loop s count ids₀ rest₀ left₀ ids rest left = (unmarked ids (frontRows
 abbrev μ-loop : tie.MeasureT-loop
 μ-loop s count ids₀ rest₀ left₀ ids rest left = left
 
+-- places in the function, each from the places behind it
+abbrev at-loop : tie.After-rest Inv-loop μ-loop → tie.At-loop Inv-loop μ-loop
+at-loop c = c .before .before .before .before .before .before .before
+
 loop-holds : tie.Need-loop-holds Inv-loop μ-loop
 loop-holds c = (refl, le-refl _)
 
@@ -61,7 +65,7 @@ loop-less c = search needs
 
 loop-again : tie.Need-loop-again Inv-loop μ-loop
 loop-again c =
-    let l = c .before .before .before .before .before .before .before .loop in
+    let l = at-loop c .loop in
     rw (rest-is (c .before .before .before .row .given .0 .1 .0) (now (l .rest))) (
       sym (front-on (l .ids) (now (l .rest)) (l .left) (c .before .before .before .before .before .before .loop-test .taken) (sym (c .before .before .before .before .before .name-row .ensures) ∙ ap toldName (c .before .before .before .row .given .1))) ∙ l .inv .0,
       rw length-drop (omega arith),

@@ -11,7 +11,7 @@ use mir.Syntax.{w32}
 use lib.ListN.{drop}
 use denote.Ref.{now}
 use native.Mathlib.Omega.{arith}
-use mathlib.Core.Path.{_≡_, refl}
+use mathlib.Core.Path.{_≡_, refl, _∙_}
 use Rattle.mapblock.proofs.objects.object_row.Statement.{statement}
 use Rattle.mapblock.proofs.objects.object_row.Tie as tie
 
@@ -56,8 +56,11 @@ enum-known-kind c = search needs
 enum-told : tie.Need-enum-told
 enum-told c = search needs
 
+ends-at-requires : tie.Need-ends-at-requires
+ends-at-requires c κs = search needs
+
 returns : tie.Need-returns
-returns c = object-no-kind _ (by-number 1 _ toldU8 (c .before .before .u8-at .ensures) (c .enum-told .given .1))
+returns c = c .ends-at .ensures ∙ object-no-kind _ (by-number 1 _ toldU8 (c .before .before .before .u8-at .ensures) (c .before .enum-told .given .1))
 
 s32-at-requires : tie.Need-s32-at-requires
 s32-at-requires c κs = search needs
@@ -68,8 +71,11 @@ enum-known-x c = search needs
 enum-told-2 : tie.Need-enum-told-2
 enum-told-2 c = search needs
 
+ends-at-requires-2 : tie.Need-ends-at-requires-2
+ends-at-requires-2 c κs = search needs
+
 returns-2 : tie.Need-returns-2
-returns-2 c = object-no-x _ (kind-is (c .before .before .before .before)) (by-signed 4 half32 refl _ toldS32 (c .before .before .s32-at .ensures) (c .enum-told2 .given .1))
+returns-2 c = c .ends-at2 .ensures ∙ object-no-x _ (kind-is (c .before .before .before .before .before)) (by-signed 4 half32 refl _ toldS32 (c .before .before .before .s32-at .ensures) (c .before .enum-told2 .given .1))
 
 s32-at-requires-2 : tie.Need-s32-at-requires-2
 s32-at-requires-2 c κs = search needs
@@ -80,8 +86,11 @@ enum-known-y c = search needs
 enum-told-3 : tie.Need-enum-told-3
 enum-told-3 c = search needs
 
+ends-at-requires-3 : tie.Need-ends-at-requires-3
+ends-at-requires-3 c κs = search needs
+
 returns-3 : tie.Need-returns-3
-returns-3 c = object-no-y _ (kind-is (at-known-told (c .before .before) .before)) (x-is (c .before .before .before .before)) (by-signed 4 half32 refl _ toldS32 (c .before .before .s32-at2 .ensures) (c .enum-told3 .given .1))
+returns-3 c = c .ends-at3 .ensures ∙ object-no-y _ (kind-is (at-known-told (c .before .before .before) .before)) (x-is (c .before .before .before .before .before)) (by-signed 4 half32 refl _ toldS32 (c .before .before .before .s32-at2 .ensures) (c .before .enum-told3 .given .1))
 
 s32-at-requires-3 : tie.Need-s32-at-requires-3
 s32-at-requires-3 c κs = search needs
@@ -92,8 +101,11 @@ enum-known-z c = search needs
 enum-told-4 : tie.Need-enum-told-4
 enum-told-4 c = search needs
 
+ends-at-requires-4 : tie.Need-ends-at-requires-4
+ends-at-requires-4 c κs = search needs
+
 returns-4 : tie.Need-returns-4
-returns-4 c = object-no-z _ (kind-is (at-known-told (at-s32-at2-2 (c .before)) .before)) (x-is (at-s32-at2-2 (c .before) .before .before)) (y-is (c .before .before .before .before)) (by-signed 4 half32 refl _ toldS32 (c .before .before .s32-at3 .ensures) (c .enum-told4 .given .1))
+returns-4 c = c .ends-at4 .ensures ∙ object-no-z _ (kind-is (at-known-told (at-s32-at2-2 (c .before .before)) .before)) (x-is (at-s32-at2-2 (c .before .before) .before .before)) (y-is (c .before .before .before .before .before)) (by-signed 4 half32 refl _ toldS32 (c .before .before .before .s32-at3 .ensures) (c .before .enum-told4 .given .1))
 
 run16-at-requires : tie.Need-run16-at-requires
 run16-at-requires c κs = search needs
@@ -101,21 +113,26 @@ run16-at-requires c κs = search needs
 enum-known-p : tie.Need-enum-known-p
 enum-known-p c = search needs
 
-add-t20 : tie.Need-add-t20
-add-t20 c =
+add-ends-at : tie.Need-add-ends-at
+add-ends-at c =
     let s = now ((start (at-known-told (at-s32-at2 (at-match4-keys1 (c .before))))) .args .s) in
     omega (arith, told-behind (prefixed 2) 13 s (by-counted 2 (drop 13 s) (toldRun 2 (drop 13 s)) (c .before .before .before .run16-at .ensures) (c .before .p .given .1)) (read-behind s32 9 s (z-is (c .before .before .before .before .before)) (lit< tt)))
+
+ends-at-requires-5 : tie.Need-ends-at-requires-5
+ends-at-requires-5 c κs = search needs
 
 enum-known-n : tie.Need-enum-known-n
 enum-known-n c = search needs
 
-add-t22 : tie.Need-add-t22
-add-t22 c =
+add-t17 : tie.Need-add-t17
+add-t17 c =
     let s = now ((start (at-known-told (at-s32-at2 (at-match4-keys1-2 (c .before))))) .args .s) in
     omega (arith, told-behind (prefixed 2) 13 s (by-counted 2 (drop 13 s) (toldRun 2 (drop 13 s)) (c .before .before .before .run16-at .ensures) (c .before .n .given .1)) (read-behind s32 9 s (z-is (c .before .before .before .before .before)) (lit< tt)))
 
 returns-5 : tie.Need-returns-5
-returns-5 c = object-no-content _ (kind-is ((at-known-told (at-s32-at2 (at-match4-keys1 (c .before)))) .before)) (x-is (at-s32-at2 (at-match4-keys1 (c .before)) .before .before)) (y-is (at-match4-keys1 (c .before) .before .before .before)) (z-is (c .before .before .before .before .before)) (by-counted 2 _ (toldRun 2 _) (c .before .before .before .run16-at .ensures) (c .before .p .given .1))
+returns-5 c =
+    let k = c .before in
+    c .ends-at5 .ensures ∙ object-no-content _ (kind-is ((at-known-told (at-s32-at2 (at-match4-keys1 (k .before)))) .before)) (x-is (at-s32-at2 (at-match4-keys1 (k .before)) .before .before)) (y-is (at-match4-keys1 (k .before) .before .before .before)) (z-is (k .before .before .before .before .before)) (by-counted 2 _ (toldRun 2 _) (k .before .before .before .run16-at .ensures) (k .before .p .given .1))
 
 returns-6 : tie.Need-returns-6
 returns-6 c =
@@ -129,23 +146,28 @@ object-row-spec =
     u8-at-requires
     enum-known-kind
     enum-told
+    ends-at-requires
     returns
     s32-at-requires
     enum-known-x
     enum-told-2
+    ends-at-requires-2
     returns-2
     s32-at-requires-2
     enum-known-y
     enum-told-3
+    ends-at-requires-3
     returns-3
     s32-at-requires-3
     enum-known-z
     enum-told-4
+    ends-at-requires-4
     returns-4
     run16-at-requires
     enum-known-p
-    add-t20
+    add-ends-at
+    ends-at-requires-5
     enum-known-n
-    add-t22
+    add-t17
     returns-5
     returns-6)

@@ -7,6 +7,10 @@ use Rattle.mapblock.proofs.RowLists.{row-told}
 use Rattle.mapblock.proofs.rows.row_alone.Statement.{statement}
 use Rattle.mapblock.proofs.rows.row_alone.Tie as tie
 
+-- places in the function, each from the places behind it
+abbrev start : tie.After-metadata-row → tie.Start
+start c = c .before .before .before .before
+
 enum-told : tie.Need-enum-told
 enum-told c = search needs
 
@@ -44,10 +48,10 @@ enum-known-fault-3 : tie.Need-enum-known-fault-3
 enum-known-fault-3 c = search needs
 
 returns : tie.Need-returns
-returns c = row-told kind.Metadata _ _ (metadataFields (c .before .before .before .before .before .before .before .args .version)) (c .before .before .before .before .enum-told .given .1) (sym (ap toldMetadata (c .before .n .given .1)) ∙ c .before .before .before .metadata-row .ensures)
+returns c = row-told kind.Metadata _ _ (metadataFields (start (c .before .before .before) .args .version)) (c .before .before .before .before .enum-told .given .1) (sym (ap toldMetadata (c .before .n .given .1)) ∙ c .before .before .before .metadata-row .ensures)
 
 returns-2 : tie.Need-returns-2
-returns-2 c = row-told kind.Metadata _ _ (metadataFields (c .before .before .before .before .before .before .before .args .version)) (c .before .before .before .before .enum-told .given .1) (sym (ap toldMetadata (c .before .fault .given .1)) ∙ c .before .before .before .metadata-row .ensures)
+returns-2 c = row-told kind.Metadata _ _ (metadataFields (start (c .before .before .before) .args .version)) (c .before .before .before .before .enum-told .given .1) (sym (ap toldMetadata (c .before .fault .given .1)) ∙ c .before .before .before .metadata-row .ensures)
 
 returns-3 : tie.Need-returns-3
 returns-3 c = row-told kind.Objects _ _ objectFields (c .before .before .before .before .enum-told2 .given .1) (sym (ap toldObject (c .before .n2 .given .1)) ∙ c .before .before .before .object-row .ensures)

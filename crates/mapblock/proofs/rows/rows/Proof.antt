@@ -18,6 +18,10 @@ Inv-loop kind version s count marks₀ rest₀ at₀ left₀ marks rest at left 
 abbrev μ-loop : tie.MeasureT-loop
 μ-loop kind version s count marks₀ rest₀ at₀ left₀ marks rest at left = left
 
+-- places in the function, each from the places behind it
+abbrev at-loop : tie.After-rest Inv-loop μ-loop → tie.At-loop Inv-loop μ-loop
+at-loop c = c .before .before .before .before .before .before .before
+
 -- the front row: refused, or read
 no-row : (c : tie.After-known-told Inv-loop μ-loop) → let l = c .before .before .before .before .before .before in
     refused (c .before .fault .given .0 .0) (c .before .fault .given .0 .1 .0)
@@ -57,7 +61,7 @@ part-rest-end : tie.Need-part-rest-end Inv-loop μ-loop
 part-rest-end c = search needs
 
 add-at : tie.Need-add-at Inv-loop μ-loop
-add-at c = omega (arith, reading-place (c .before .before .before .before .before .before .before .loop .inv .reading) (one-row (c .before)))
+add-at c = omega (arith, reading-place (at-loop c .loop .inv .reading) (one-row (c .before)))
 
 sub-left : tie.Need-sub-left Inv-loop μ-loop
 sub-left c = search needs
@@ -66,7 +70,7 @@ loop-less : tie.Need-loop-less Inv-loop μ-loop
 loop-less c = search needs
 
 loop-again : tie.Need-loop-again Inv-loop μ-loop
-loop-again c = walk-on (c .before .before .before .before .before .before .before .loop .inv) (c .before .before .before .before .row-after .ensures) (c .before .before .n .given .1) (omega arith)
+loop-again c = walk-on (at-loop c .loop .inv) (c .before .before .before .before .row-after .ensures) (c .before .before .n .given .1) (omega arith)
 
 returns-2 : tie.Need-returns-2 Inv-loop μ-loop
 returns-2 c = reading-end (c .before .loop .inv .reading) (omega arith)

@@ -7,6 +7,10 @@ use borrow.Author.Needs.{needs}
 use Rattle.meter.proofs.adding.add_block.Statement.{statement}
 use Rattle.meter.proofs.adding.add_block.Tie as tie
 
+-- places in the function, each from the places behind it
+abbrev after-slice-of : tie.After-clear → tie.After-slice-of
+after-slice-of c = c .before .before .before .before .before .before .before .before .before .before
+
 -- where the census was taken, and where the function starts
 abbrev census : tie.After-clear → tie.After-take-census
 census c = c .before .before .before .before .before .before .before .before .before .before .before .before
@@ -37,7 +41,7 @@ returns c =
     let x = census c in
     let a = entry x .args in
     let told = x .take-census .ensures in
-    (c .before .before .before .before .absorb .ensures .0, λ b R may. added-block (now (a .block)) (a .part) (a .at) (λ i. x .before .before .before .before .before .shared-slice-known .given i .fits) may (c .before .before .before .before .before .before .before .before .before .before .slice-of .ensures .bytes) (told .1 .1 .1 b (may .found .end) (may .found .taken) (may .found .shows) (may .clear)) (c .before .before .before .before .absorb .ensures .1 R) (c .clear .ensures))
+    (c .before .before .before .before .absorb .ensures .0, λ b R may. added-block (now (a .block)) (a .part) (a .at) (λ i. x .before .before .before .before .before .shared-slice-known .given i .fits) may (after-slice-of c .slice-of .ensures .bytes) (told .1 .1 .1 b (may .scanned .end) (may .scanned .taken) (may .scanned .shows) (may .clear)) (c .before .before .before .before .absorb .ensures .1 R) (c .clear .ensures))
 
 pub add-block-spec : {M : Type 1} → statement M
 add-block-spec =

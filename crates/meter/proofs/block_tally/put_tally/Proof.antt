@@ -15,17 +15,36 @@ use borrow.Author.Needs.{needs}
 use Rattle.meter.proofs.block_tally.put_tally.Statement.{statement}
 use Rattle.meter.proofs.block_tally.put_tally.Tie as tie
 
+-- places in the function, each from the places behind it
+abbrev start₁ : tie.After-add-block → tie.Start
+start₁ c = c .before .before .before .before .before .before .before .before .before
+
+abbrev start₂ : tie.After-struct-known2 → tie.Start
+start₂ c = start₁ (c .before .before .before .before .before .before .before .before .before)
+
+abbrev after-slice : tie.After-add-block → tie.After-shared-slice-known
+after-slice c = c .before .before .before .before .before .before .before .before
+
+abbrev else1₁ : tie.After-slice-known2 → tie.Else1
+else1₁ c = c .before .before .before .before .before .before .before .before
+
+abbrev else1₂ : tie.After-struct-known2 → tie.Else1
+else1₂ c = else1₁ (c .before .before .before .before .before .before .before)
+
+abbrev after-add-block : tie.After-struct-known2 → tie.After-add-block
+after-add-block c = c .before .before .before .before .before .before .before .before .before
+
 -- the rows, absorbed into the output behind the head
-absorbed : (c : tie.After-add-block) (b : Block) → ScannedAs (now (c .before .before .before .before .before .before .before .before .before .args .block)) (c .before .before .before .before .before .before .before .before .before .args .found) b
-    → Absorbed (take (length (now (c .before .before .before .before .before .before .before .before .before .args .out)) - 9) (drop 9 (now (c .before .before .before .before .before .before .before .before .before .args .out)))) (c .add-block .last .1 .1 .1 .1 .1 .1 .1 .0) (c .add-block .result) []
-    (tallyOf byOne (nodesIn (c .before .before .before .before .before .before .before .before .before .args .part) (placed (c .before .before .before .before .before .before .before .before .before .args .at) b ∷ [])))
+absorbed : (c : tie.After-add-block) (b : Block) → ScannedAs (now (start₁ c .args .block)) (start₁ c .args .scanned) b
+    → Absorbed (take (length (now (start₁ c .args .out)) - 9) (drop 9 (now (start₁ c .args .out)))) (c .add-block .last .1 .1 .1 .1 .1 .1 .1 .0) (c .add-block .result) []
+    (tallyOf byOne (nodesIn (start₁ c .args .part) (placed (start₁ c .args .at) b ∷ [])))
 unfolding clearTable
 absorbed c b f =
-    put-absorbed (c .before .before .before .before .before .before .before .before .before .args .part) (c .before .before .before .before .before .before .before .before .before .args .at) (λ i. c .before .before .before .before .before .before .before .before .shared-slice-known .given i .fits) f _ (c .before .empty .ensures) (λ R. c .add-block .ensures .1 b R)
+    put-absorbed (start₁ c .args .part) (start₁ c .args .at) (λ i. after-slice c .shared-slice-known .given i .fits) f _ (c .before .empty .ensures) (λ R. c .add-block .ensures .1 b R)
 
-rowsFit : (c : tie.After-add-block) (b : Block) → ScannedAs (now (c .before .before .before .before .before .before .before .before .before .args .block)) (c .before .before .before .before .before .before .before .before .before .args .found) b
-    → length (tallyOf byOne (nodesIn (c .before .before .before .before .before .before .before .before .before .args .part) (placed (c .before .before .before .before .before .before .before .before .before .args .at) b ∷ []))) ≤ 4096
-rowsFit c b f = put-few (c .before .before .before .before .before .before .before .before .before .args .part) (c .before .before .before .before .before .before .before .before .before .args .at) (λ i. c .before .before .before .before .before .before .before .before .shared-slice-known .given i .fits) f
+rowsFit : (c : tie.After-add-block) (b : Block) → ScannedAs (now (start₁ c .args .block)) (start₁ c .args .scanned) b
+    → length (tallyOf byOne (nodesIn (start₁ c .args .part) (placed (start₁ c .args .at) b ∷ []))) ≤ 4096
+rowsFit c b f = put-few (start₁ c .args .part) (start₁ c .args .at) (λ i. after-slice c .shared-slice-known .given i .fits) f
 
 returns : tie.Need-returns
 returns c = λ b f. put-headless (c .before .before .before .args .part) (c .before .before .before .args .at) (λ i. c .before .before .shared-slice-known .given i .fits) f (now (c .before .before .before .args .out)) (c .if1 .taken)
@@ -49,22 +68,22 @@ same-length : tie.Need-same-length
 same-length c = search needs
 
 returns-2 : tie.Need-returns-2
-returns-2 c = λ b f. absorbed-short (now (c .before .before .before .before .before .before .before .before .before .before .before .before .args .out)) _ _ _ (c .before .before .before .before .before .before .before .before .before .if1 .left) (c .before .before .before .add-block .ensures .0) (absorbed (c .before .before .before) b f) (c .if2 .taken)
+returns-2 c = λ b f. absorbed-short (now (start₁ (c .before .before .before) .args .out)) _ _ _ (else1₁ (c .before) .if1 .left) (c .before .before .before .add-block .ensures .0) (absorbed (c .before .before .before) b f) (c .if2 .taken)
 
 cast-put-head : tie.Need-cast-put-head
-cast-put-head c = let x = c .before .before .before .before .before .before .before .before .before .before .before .before .before .before .pre in record { fits = omega (arith, absorbed-rows (now (c .before .before .before .before .before .before .before .before .before .before .before .before .before .before .args .out)) _ _ _ (c .before .before .before .before .before .before .before .before .before .before .before .if1 .left) (c .before .before .before .before .before .add-block .ensures .0) (absorbed (c .before .before .before .before .before) (x .0) (x .1)) (c .before .before .if2 .left), rowsFit (c .before .before .before .before .before) (x .0) (x .1)) }
+cast-put-head c = let x = start₁ (c .before .before .before .before .before) .pre in record { fits = omega (arith, absorbed-rows (now (start₁ (c .before .before .before .before .before) .args .out)) _ _ _ (else1₁ (c .before .before .before) .if1 .left) (c .before .before .before .before .before .add-block .ensures .0) (absorbed (c .before .before .before .before .before) (x .0) (x .1)) (c .before .before .if2 .left), rowsFit (c .before .before .before .before .before) (x .0) (x .1)) }
 
 put-head-requires : tie.Need-put-head-requires
 put-head-requires c κs = search needs
 
 add-t10 : tie.Need-add-t10
-add-t10 c = let x = c .before .before .before .before .before .before .before .before .before .before .before .before .before .before .before .before .before .before .pre in record { fits = omega (arith, absorbed-size (now (c .before .before .before .before .before .before .before .before .before .before .before .before .before .before .before .before .before .before .args .out)) _ _ _ (c .before .before .before .before .before .before .before .before .before .before .before .before .before .before .before .if1 .left) (c .before .before .before .before .before .before .before .before .before .add-block .ensures .0) (absorbed (c .before .before .before .before .before .before .before .before .before) (x .0) (x .1)) (c .before .before .before .before .before .before .if2 .left), c .before .before .before .before .before .before .before .before .before .before .before .before .before .before .before .before .before .before .good) }
+add-t10 c = let x = start₂ c .pre in record { fits = omega (arith, absorbed-size (now (start₂ c .args .out)) _ _ _ (else1₂ c .if1 .left) (after-add-block c .add-block .ensures .0) (absorbed (after-add-block c) (x .0) (x .1)) (c .before .before .before .before .before .before .if2 .left), start₂ c .good) }
 
 same-length-2 : tie.Need-same-length-2
 same-length-2 c = search needs
 
 returns-3 : tie.Need-returns-3
-returns-3 c = λ b f. absorbed-all (now (c .before .before .before .before .before .before .before .before .before .before .before .before .before .before .before .before .before .before .args .out)) _ _ _ (c .before .before .before .before .before .before .before .before .before .before .before .before .before .before .before .if1 .left) (c .before .before .before .before .before .before .before .before .before .add-block .ensures .0) (absorbed (c .before .before .before .before .before .before .before .before .before) b f) (c .before .before .before .before .before .before .if2 .left) (c .before .before .before .put-head .ensures)
+returns-3 c = λ b f. absorbed-all (now (start₂ c .args .out)) _ _ _ (else1₂ c .if1 .left) (after-add-block c .add-block .ensures .0) (absorbed (after-add-block c) b f) (c .before .before .before .before .before .before .if2 .left) (c .before .before .before .put-head .ensures)
 
 pub put-tally-spec : {M : Type 1} → statement M
 put-tally-spec =

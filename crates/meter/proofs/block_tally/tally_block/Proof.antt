@@ -12,7 +12,23 @@ use borrow.Author.Needs.{needs}
 use Rattle.meter.proofs.block_tally.tally_block.Statement.{statement}
 use Rattle.meter.proofs.block_tally.tally_block.Tie as tie
 
--- what `is_part` and `split` told
+-- where the scan was made, from the end; and places from there
+abbrev after-scan : tie.After-slice-known2 → tie.After-scan
+after-scan c = c .before .before .before .before .before .before .before
+
+abbrev start : tie.After-scan → tie.Start
+start k = k .before .before .before .before .before .before .before .before .before .before
+
+abbrev after-slice : tie.After-scan → tie.After-shared-slice-known
+after-slice k = k .before .before .before .before .before .before .before .before .before
+
+abbrev after-is-good : tie.After-scan → tie.After-is-good
+after-is-good k = k .before .before .before .before .before .before .before
+
+abbrev else1 : tie.After-scan → tie.Else1
+else1 k = k .before .before .before .before .before .before
+
+-- what `is_good` and `split` told
 part-told : (c : tie.After-is-good) {t : Bool} → c .is-good .result ≡ t → goodPart (c .before .before .before .args .part) ≡ t
 part-told c e = sym (c .is-good .ensures) ∙ e
 
@@ -35,7 +51,10 @@ enum-told : tie.Need-enum-told
 enum-told c = search needs
 
 returns-2 : tie.Need-returns-2
-returns-2 c = block-out-of-range _ _ (c .before .before .before .before .before .before .before .args .part) (now (c .before .before .before .before .before .before .before .args .out)) (part-told (c .before .before .before .before) (not-false _ (c .before .before .before .if1 .left))) (told-as toldSplit (told (c .before .before)) (c .enum-told .given .1))
+returns-2 c =
+    let g = c .before .before .before .before in
+    let a = g .before .before .before .args in
+    block-out-of-range _ _ (a .part) (now (a .out)) (part-told g (not-false _ (c .before .before .before .if1 .left))) (told-as toldSplit (told (c .before .before)) (c .enum-told .given .1))
 
 scan-requires : tie.Need-scan-requires
 scan-requires c κs = search needs
@@ -47,16 +66,22 @@ enum-known-scanned : tie.Need-enum-known-scanned
 enum-known-scanned c = search needs
 
 put-tally-requires : tie.Need-put-tally-requires
-put-tally-requires c κs = block-found _ _ (c .before .before .before .before .before .before .before .before .before .before .before .before .before .before .args .part) (now (c .before .before .before .before .before .before .before .before .before .before .before .before .before .before .args .out)) (part-told (c .before .before .before .before .before .before .before .before .before .before .before) (not-false _ (c .before .before .before .before .before .before .before .before .before .before .if1 .left))) (told-as toldSplit (told (c .before .before .before .before .before .before .before .before .before)) (c .before .before .before .before .before .before .before .at .given .1)) (λ i. c .before .before .before .before .before .before .before .before .before .before .before .before .before .shared-slice-known .given i .fits) (told-as toldScan (c .before .before .before .before .scan .ensures .0) (c .before .before .scanned .given .1))
+put-tally-requires c κs =
+    let k = c .before .before .before .before in
+    block-found _ _ (start k .args .part) (now (start k .args .out)) (part-told (after-is-good k) (not-false _ (else1 k .if1 .left))) (told-as toldSplit (told (k .before .before .before .before .before)) (k .before .before .before .at .given .1)) (λ i. after-slice k .shared-slice-known .given i .fits) (told-as toldScan (k .scan .ensures .0) (c .before .before .scanned .given .1))
 
 returns-3 : tie.Need-returns-3
-returns-3 c = block-refuses _ _ (c .before .before .before .before .before .before .before .before .before .before .before .before .before .args .part) (now (c .before .before .before .before .before .before .before .before .before .before .before .before .before .args .out)) (part-told (c .before .before .before .before .before .before .before .before .before .before) (not-false _ (c .before .before .before .before .before .before .before .before .before .if1 .left))) (told-as toldSplit (told (c .before .before .before .before .before .before .before .before)) (c .before .before .before .before .before .before .at .given .1)) (told-as toldScan (c .before .before .before .scan .ensures .0) (c .before .fault .given .1))
+returns-3 c =
+    let k = c .before .before .before in
+    block-refuses _ _ (start k .args .part) (now (start k .args .out)) (part-told (after-is-good k) (not-false _ (else1 k .if1 .left))) (told-as toldSplit (told (k .before .before .before .before .before)) (k .before .before .before .at .given .1)) (told-as toldScan (k .scan .ensures .0) (c .before .fault .given .1))
 
 same-length : tie.Need-same-length
 same-length c = search needs
 
 returns-4 : tie.Need-returns-4
-returns-4 c = block-put _ _ (c .before .before .before .before .before .before .before .before .before .before .before .before .before .before .before .before .before .args .part) (now (c .before .before .before .before .before .before .before .before .before .before .before .before .before .before .before .before .before .args .out)) (part-told (c .before .before .before .before .before .before .before .before .before .before .before .before .before .before) (not-false _ (c .before .before .before .before .before .before .before .before .before .before .before .before .before .if1 .left))) (told-as toldSplit (told (c .before .before .before .before .before .before .before .before .before .before .before .before)) (c .before .before .before .before .before .before .before .before .before .before .at .given .1)) (λ i. c .before .before .before .before .before .before .before .before .before .before .before .before .before .before .before .before .shared-slice-known .given i .fits) (told-as toldScan (c .before .before .before .before .before .before .before .scan .ensures .0) (c .before .before .before .before .before .scanned .given .1)) _ (c .before .before .put-tally .result) (c .before .before .put-tally .ensures)
+returns-4 c =
+    let k = after-scan c in
+    block-put _ _ (start k .args .part) (now (start k .args .out)) (part-told (after-is-good k) (not-false _ (else1 k .if1 .left))) (told-as toldSplit (told (k .before .before .before .before .before)) (k .before .before .before .at .given .1)) (λ i. after-slice k .shared-slice-known .given i .fits) (told-as toldScan (k .scan .ensures .0) (c .before .before .before .before .before .scanned .given .1)) _ (c .before .before .put-tally .result) (c .before .before .put-tally .ensures)
 
 pub tally-block-spec : {M : Type 1} → statement M
 tally-block-spec =

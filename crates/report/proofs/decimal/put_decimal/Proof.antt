@@ -4,6 +4,10 @@ use Rattle.report.proofs.Decimals.{decimal-front, decimal-many}
 use Rattle.report.proofs.decimal.put_decimal.Statement.{statement}
 use Rattle.report.proofs.decimal.put_decimal.Tie as tie
 
+-- places in the function, each from the places behind it
+abbrev start : tie.After-slice-known2 → tie.Start
+start c = c .before .before .before .before .before .before .before .before
+
 decimal-requires : tie.Need-decimal-requires
 decimal-requires c κs = search needs
 
@@ -22,7 +26,7 @@ same-length c = search needs
 returns : tie.Need-returns
 returns c =
     let d = c .before .before .before .before .before .decimal in
-    let n = c .before .before .before .before .before .before .before .before .args .n in
+    let n = start c .args .n in
     (decimal-many n (d .result) (d .last .1 .0) (omega arith) (d .ensures), rw (decimal-front n (d .result) (d .last .1 .0) (omega arith) (d .ensures)) at (c .before .before .put-bytes .ensures))
 
 pub put-decimal-spec : {M : Type 1} → statement M

@@ -8,6 +8,10 @@ use borrow.Author.Needs.{needs}
 use Rattle.sheet.proofs.records.frame.Statement.{statement}
 use Rattle.sheet.proofs.records.frame.Tie as tie
 
+-- places in the function, each from the places behind it
+abbrev after-s64-at : tie.After-known-told2 → tie.After-s64-at
+after-s64-at c = c .before .before .before .before .before .before .before
+
 s64-at-requires : tie.Need-s64-at-requires
 s64-at-requires c κs = search needs
 
@@ -35,7 +39,7 @@ returns-2 c = toOption-is (frame-short-block _ (told-as toldS64 (c .before .befo
 returns-3 : tie.Need-returns-3
 returns-3 c =
     rw (toZ-ofZ w64 _ (record { sfits = c .before .before .before .before .known-told .given .0 .1 }))
-    (toOption-is (frame-read _ (c .before .n .given .0 .0) (told-as toldS64 (c .before .before .before .before .before .before .before .s64-at .ensures) (c .before .before .before .before .before .key .given .1)) (told-as (toldRun 4 _) (c .before .before .before .run32-at .ensures) (c .before .n .given .1))))
+    (toOption-is (frame-read _ (c .before .n .given .0 .0) (told-as toldS64 (after-s64-at c .s64-at .ensures) (c .before .before .before .before .before .key .given .1)) (told-as (toldRun 4 _) (c .before .before .before .run32-at .ensures) (c .before .n .given .1))))
 
 pub frame-spec : {M : Type 1} → statement M
 frame-spec =

@@ -11,6 +11,13 @@ use borrow.Author.Needs.{needs}
 use Rattle.sheet.proofs.records.judge_record.Statement.{statement}
 use Rattle.sheet.proofs.records.judge_record.Tie as tie
 
+-- places in the function, each from the places behind it
+abbrev after-split : tie.After-scan → tie.After-split
+after-split c = c .before .before .before .before .before .before .before
+
+abbrev after-at : tie.After-scan → tie.After-at
+after-at c = c .before .before .before .before .before
+
 -- what `split` and `is_rising` told of a number whose bits they were handed
 told : (c : tie.After-split) → toldSplit (c .split .result) ≡ splitOf (c .before .before .args .key)
 told c = simp (toZ-ofZ, c .before .before .fits .key) at (c .split .ensures)
@@ -46,10 +53,10 @@ enum-known-scanned : tie.Need-enum-known-scanned
 enum-known-scanned c = search needs
 
 returns-3 : tie.Need-returns-3
-returns-3 c = (c .before .before .before .scan .ensures .1, judged-refused _ _ (recordOf _ _) (told-as toldSplit (told (c .before .before .before .before .before .before .before .before .before .before)) (c .before .before .before .before .before .before .before .before .at .given .1)) (sym (rising (c .before .before .before .before .before .before)) ∙ not-false _ (c .before .before .before .before .before .if1 .left)) (told-as toldScan (c .before .before .before .scan .ensures .0) (c .before .fault .given .1)))
+returns-3 c = (c .before .before .before .scan .ensures .1, judged-refused _ _ (recordOf _ _) (told-as toldSplit (told (after-split (c .before .before .before))) (after-at (c .before .before .before) .at .given .1)) (sym (rising (c .before .before .before .before .before .before)) ∙ not-false _ (c .before .before .before .before .before .if1 .left)) (told-as toldScan (c .before .before .before .scan .ensures .0) (c .before .fault .given .1)))
 
 returns-4 : tie.Need-returns-4
-returns-4 c = (c .before .before .before .scan .ensures .1, judged-taken _ _ (recordOf _ _) (told-as toldSplit (told (c .before .before .before .before .before .before .before .before .before .before)) (c .before .before .before .before .before .before .before .before .at .given .1)) (sym (rising (c .before .before .before .before .before .before)) ∙ not-false _ (c .before .before .before .before .before .if1 .left)) (told-as toldScan (c .before .before .before .scan .ensures .0) (c .before .scanned .given .1)))
+returns-4 c = (c .before .before .before .scan .ensures .1, judged-taken _ _ (recordOf _ _) (told-as toldSplit (told (after-split (c .before .before .before))) (after-at (c .before .before .before) .at .given .1)) (sym (rising (c .before .before .before .before .before .before)) ∙ not-false _ (c .before .before .before .before .before .if1 .left)) (told-as toldScan (c .before .before .before .scan .ensures .0) (c .before .scanned .given .1)))
 
 pub judge-record-spec : {M : Type 1} → statement M
 judge-record-spec =

@@ -6,6 +6,10 @@ use Rattle.sheetcount_lib.proofs.Sheetcount.{twelve-no-key, twelve-no-l
 use Rattle.sheetcount_lib.proofs.program.block_length.Statement.{statement}
 use Rattle.sheetcount_lib.proofs.program.block_length.Tie as tie
 
+-- places in the function, each from the places behind it
+abbrev after-s64-at : tie.After-known-told → tie.After-s64-at
+after-s64-at c = c .before .before .before .before .before .before
+
 s64-at-requires : tie.Need-s64-at-requires
 s64-at-requires c κs = search needs
 
@@ -34,10 +38,10 @@ cast-size : tie.Need-cast-size
 cast-size c = search needs
 
 returns-3 : tie.Need-returns-3
-returns-3 c = λ i. sym (unwanted i _ (twelve-done _ (told-as toldS64 (c .before .before .before .before .before .before .before .s64-at .ensures) (c .before .before .before .before .before .enum-told .given .1)) _ (told-as toldU32 (c .before .before .before .before .u32-at .ensures) (c .before .before .n .given .1))) (c .if1 .taken))
+returns-3 c = λ i. sym (unwanted i _ (twelve-done _ (told-as toldS64 (after-s64-at (c .before) .s64-at .ensures) (c .before .before .before .before .before .enum-told .given .1)) _ (told-as toldU32 (c .before .before .before .before .u32-at .ensures) (c .before .before .n .given .1))) (c .if1 .taken))
 
 returns-4 : tie.Need-returns-4
-returns-4 c = λ i. sym (wanted i _ (twelve-done _ (told-as toldS64 (c .before .before .before .before .before .before .before .s64-at .ensures) (c .before .before .before .before .before .enum-told .given .1)) _ (told-as toldU32 (c .before .before .before .before .u32-at .ensures) (c .before .before .n .given .1))) (c .if1 .left))
+returns-4 c = λ i. sym (wanted i _ (twelve-done _ (told-as toldS64 (after-s64-at (c .before) .s64-at .ensures) (c .before .before .before .before .before .enum-told .given .1)) _ (told-as toldU32 (c .before .before .before .before .u32-at .ensures) (c .before .before .n .given .1))) (c .if1 .left))
 
 pub block-length-spec : {M : Type 1} → statement M
 block-length-spec =

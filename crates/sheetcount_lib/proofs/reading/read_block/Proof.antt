@@ -10,10 +10,14 @@ use Rattle.sheetcount_lib.proofs.Counts.{within-part}
 use Rattle.sheetcount_lib.proofs.reading.read_block.Statement.{statement}
 use Rattle.sheetcount_lib.proofs.reading.read_block.Tie as tie
 
+-- places in the function, each from the places behind it
+abbrev start : tie.After-slice-known2 → tie.Start
+start c = c .before .before .before .before .before
+
 -- no more is read than the block has
-short : (c : tie.After-known-told) → c .before .n .given .0 .0 ≤ c .before .before .before .before .before .before .before .before .args .size
+short : (c : tie.After-known-told) → c .before .n .given .0 .0 ≤ start (c .before .before .before) .args .size
 short c =
-    let h = within-part (12 + c .before .before .before .before .before .before .before .before .args .size - 12) (drop 12 (now (c .before .before .before .before .before .before .before .before .args .bytes))) (c .before .before .before .before .before .read-bytes .ensures) (c .before .n .given .1) in
+    let h = within-part (12 + start (c .before .before .before) .args .size - 12) (drop 12 (now (start (c .before .before .before) .args .bytes))) (c .before .before .before .before .before .read-bytes .ensures) (c .before .n .given .1) in
     omega (arith, h)
 
 -- the first twelve bytes are as they were
@@ -48,13 +52,13 @@ same-length : tie.Need-same-length
 same-length c = search needs
 
 returns : tie.Need-returns
-returns c = (tt, kept (c .before .before .before .before .before .before .before) (c .before .before .before .before .read-bytes .last .1 .0))
+returns c = (tt, kept (start (c .before .before)) (c .before .before .before .before .read-bytes .last .1 .0))
 
 same-length-2 : tie.Need-same-length-2
 same-length-2 c = search needs
 
 returns-2 : tie.Need-returns-2
-returns-2 c = (omega (arith, short c), kept (c .before .before .before .before .before .before .before .before) (c .before .before .before .before .before .read-bytes .last .1 .0))
+returns-2 c = (omega (arith, short c), kept (start (c .before .before .before)) (c .before .before .before .before .before .read-bytes .last .1 .0))
 
 pub read-block-spec : {M : Type 1} → statement M
 read-block-spec =

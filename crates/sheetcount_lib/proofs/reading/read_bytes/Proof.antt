@@ -1,3 +1,4 @@
+-- The invariant: what was read lies in the buffer, whose length stays. The measure: the bytes that the buffer has room for yet.
 use borrow.Author.Needs.{needs}
 use Prim.Native.Nat.{_≤_, _-_}
 use mathlib.Core.Path.{_≡_}

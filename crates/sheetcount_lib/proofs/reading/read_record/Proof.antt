@@ -16,6 +16,19 @@ use Rattle.sheetcount_lib.proofs.Counts.{within-part, within-more, reco
 use Rattle.sheetcount_lib.proofs.reading.read_record.Statement.{statement}
 use Rattle.sheetcount_lib.proofs.reading.read_record.Tie as tie
 
+-- places in the function, each from the places behind it
+abbrev start₁ : tie.After-known-told → tie.Start
+start₁ c = c .before .before .before .before .before .before .before .before
+
+abbrev start₂ : tie.After-slice-known3 → tie.Start
+start₂ c = start₁ (c .before .before .before .before .before .before .before .before .before)
+
+abbrev after-bytes : tie.After-known-told2 → tie.After-bytes
+after-bytes c = c .before .before .before .before .before .before .before .before .before
+
+abbrev after-told : tie.After-slice-known3 → tie.After-known-told
+after-told c = c .before .before .before .before .before .before .before .before .before
+
 -- how many of the first twelve bytes there are, and the buffer that holds them
 abbrev head : tie.After-known-told → ℕ
 head h = h .before .head .given .0 .0
@@ -27,13 +40,13 @@ filled-long : (b : tie.After-bytes) → length (filled b) ≡ longest
 filled-long b = b .bytes .given .1 ∙ b .before .before .before .before .pre
 
 head-short : (h : tie.After-known-told) → head h ≤ 12
-head-short h = within-part 12 (now (h .before .before .before .before .before .before .before .before .args .bytes)) (h .before .before .before .before .before .read-bytes .ensures) (h .before .head .given .1)
+head-short h = within-part 12 (now (start₁ h .args .bytes)) (h .before .before .before .before .before .read-bytes .ensures) (h .before .head .given .1)
 
 judged : (h : tie.After-known-told) → Bytes (take (head h) (filled (h .before .before .before .before)))
 judged h = bytes-take (head h) (filled (h .before .before .before .before)) (λ j. h .before .before .before .slice-known2 .given j .fits)
 
 -- a block of so many bytes is to be read
-told : (c : tie.After-known-told2) → blockLengthOf 0 (take (head (c .before .before .before .before .before)) (filled (c .before .before .before .before .before .before .before .before .before))) ≡ good (c .before .size .given .0 .0)
+told : (c : tie.After-known-told2) → blockLengthOf 0 (take (head (c .before .before .before .before .before)) (filled (after-bytes c))) ≡ good (c .before .size .given .0 .0)
 told c = sym (told-as (toldLength 0) (c .before .before .before .block-length .ensures 0) (c .before .size .given .1))
 
 short : (c : tie.After-known-told2) → c .before .size .given .0 .0 ≤ maxBlockLength
@@ -79,19 +92,19 @@ enum-known-size : tie.Need-enum-known-size
 enum-known-size c = search needs
 
 read-block-requires : tie.Need-read-block-requires
-read-block-requires c κs = (filled-long (c .before .before .before .before .before .before .before .before .before .before), short (c .before))
+read-block-requires c κs = (filled-long (after-bytes (c .before)), short (c .before))
 
 same-length-2 : tie.Need-same-length-2
 same-length-2 c = search needs
 
 returns-2 : tie.Need-returns-2
-returns-2 c = (omega (arith, head-short (c .before .before .before .before), c .before .before .before .before .before .before .before .before .before .before .before .before .pre), omega (arith, head-short (c .before .before .before .before)))
+returns-2 c = (omega (arith, head-short (c .before .before .before .before), start₁ (c .before .before .before .before) .pre), omega (arith, head-short (c .before .before .before .before)))
 
 same-length-3 : tie.Need-same-length-3
 same-length-3 c = search needs
 
 returns-3 : tie.Need-returns-3
-returns-3 c = (omega (arith, head-short (c .before .before .before .before), c .before .before .before .before .before .before .before .before .before .before .before .before .pre), omega (arith, head-short (c .before .before .before .before)))
+returns-3 c = (omega (arith, head-short (c .before .before .before .before), start₁ (c .before .before .before .before) .pre), omega (arith, head-short (c .before .before .before .before)))
 
 same-length-4 : tie.Need-same-length-4
 same-length-4 c = search needs
@@ -99,10 +112,10 @@ same-length-4 c = search needs
 returns-4 : tie.Need-returns-4
 returns-4 c =
     let k = c .before .before .before .before in
-    let h = c .before .before .before .before .before .before .before .before .before in
-    let b = c .before .before .before .before .before .before .before .before .before .before .before .before .before in
+    let h = after-told c in
+    let b = after-bytes (c .before .before .before .before) in
     let e = c .before .before in
-    let room : 12 + k .before .size .given .0 .0 ≤ length (now (c .before .before .before .before .before .before .before .before .before .before .before .before .before .before .before .before .before .args .bytes)) = omega (arith, short k, c .before .before .before .before .before .before .before .before .before .before .before .before .before .before .before .before .before .pre) in
+    let room : 12 + k .before .size .given .0 .0 ≤ length (now (start₂ c .args .bytes)) = omega (arith, short k, start₂ c .pre) in
     (within-more (e .read-block .result) room (e .read-block .ensures .0), record-within (filled b) (head h) (k .before .size .given .0 .0) (head-short h) (judged h) (told k) _ (e .read-block .result) (e .read-block .ensures .1) (e .read-block .ensures .0))
 
 pub read-record-spec : {M : Type 1} → statement M

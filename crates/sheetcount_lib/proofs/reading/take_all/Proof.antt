@@ -24,12 +24,18 @@ abbrev μ-loop : tie.MeasureT-loop
 μ-loop input count bytes₀ out spare₀ ids₀ counts₀ places₀ scratch₀ left₀ now₀ bytes spare ids counts places scratch left now =
     left
 
--- where the function starts, where the loop turned, what was read of a record, and what taking it left in the buffers
+-- where the function starts, where the loop was entered and where it turned, what was read of a record, and what taking it left in the buffers
 abbrev begun : tie.At-loop Inv-loop μ-loop → tie.Start Inv-loop μ-loop
 begun l = l .before .before .before .before
 
+abbrev inside : tie.After-take-next Inv-loop μ-loop → tie.In-loop Inv-loop μ-loop
+inside x = x .before .before .before .before .before .before .before .before .before .before .before .before .before .before
+
 abbrev turned : tie.After-take-next Inv-loop μ-loop → tie.At-loop Inv-loop μ-loop
-turned x = x .before .before .before .before .before .before .before .before .before .before .before .before .before .before .before
+turned x = inside x .before
+
+abbrev at-loop : tie.After-enum-told Inv-loop μ-loop → tie.At-loop Inv-loop μ-loop
+at-loop x = x .before .before .before .before .before .before .before
 
 abbrev known : tie.After-take-next Inv-loop μ-loop → tie.After-known-told Inv-loop μ-loop
 known x = x .before .before .before .before .before .before .before
@@ -51,7 +57,7 @@ counts x = x .take-next .last .1 .1 .1 .1 .0
 
 -- a record was left to take, and bytes were read of it
 more : (x : tie.After-take-next Inv-loop μ-loop) → 0 < turned x .loop .left
-more x = known x .before .before .before .before .before .before .before .loop-test .taken
+more x = inside x .loop-test .taken
 
 are-bytes : (x : tie.After-take-next Inv-loop μ-loop) → Bytes (take (size x) (bytes x))
 are-bytes x = bytes-take (size x) (bytes x) (λ j. known x .before .before .before .slice-known4 .given j .fits)
@@ -75,7 +81,7 @@ same-length-2 : tie.Need-same-length-2 Inv-loop μ-loop
 same-length-2 c = search needs
 
 returns : tie.Need-returns Inv-loop μ-loop
-returns c = (c .before .before .before .before .before .before .before .loop .inv .0 .size, tt)
+returns c = (at-loop c .loop .inv .0 .size, tt)
 
 slice-reshare-prefix-take-next : tie.Need-slice-reshare-prefix-take-next Inv-loop μ-loop
 slice-reshare-prefix-take-next c = omega (arith, within (c .before .before .before .before .before .read-record .ensures .0) (c .before .n .given .1), c .before .before .before .before .bytes .given)

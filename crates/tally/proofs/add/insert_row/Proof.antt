@@ -5,6 +5,10 @@ use Rattle.tally.proofs.Opening.{row-opened}
 use Rattle.tally.proofs.add.insert_row.Statement.{statement}
 use Rattle.tally.proofs.add.insert_row.Tie as tie
 
+-- places in the function, each from the places behind it
+abbrev start : tie.After-slice-known3 → tie.Start
+start c = c .before .before .before .before .before .before .before .before .before .before
+
 add-move-back : tie.Need-add-move-back
 add-move-back c = search needs
 
@@ -19,7 +23,7 @@ same-length c = search needs
 
 returns : tie.Need-returns
 returns c =
-    let s = c .before .before .before .before .before .before .before .before .before .before in
+    let s = start c in
     row-opened (s .args .n) (record { name = now (s .args .name); count = s .args .count }) (now (s .args .tail)) _ _ (omega arith) (s .pre .1)
     (c .before .before .before .before .before .before .move-back .ensures)
     (c .before .before .put-row .ensures)

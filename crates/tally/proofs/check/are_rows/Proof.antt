@@ -27,12 +27,16 @@ Inv-loop s count rest₀ last₀ first₀ left₀ rest last first left = Checkin
 abbrev μ-loop : tie.MeasureT-loop
 μ-loop s count rest₀ last₀ first₀ left₀ rest last first left = left
 
+-- places in the function, each from the places behind it
+abbrev at-loop : tie.After-may-follow Inv-loop μ-loop → tie.At-loop Inv-loop μ-loop
+at-loop c = c .before .before .before .before .before .before .before
+
 -- the front row, and whether its name may follow
 front : (c : tie.After-known-told Inv-loop μ-loop) → toldRow (now (c .before .before .before .before .before .loop .rest)) (rows.Row (c .before .n .given .0 .0) (c .before .n .given .0 .1 .0)) ≡ toOption (row one [] .read (now (c .before .before .before .before .before .loop .rest)))
 front c = told-as (toldRow _) (c .before .before .before .front-row .ensures) (c .before .n .given .1)
 
-follows : (c : tie.After-may-follow Inv-loop μ-loop) {b : Bool} → c .may-follow .result ≡ b → mayFollow (c .before .before .before .before .before .before .before .loop .first) (now (c .before .before .before .before .before .before .before .loop .last)) (take (c .before .before .before .n .given .0 .0) (drop 2 (now (c .before .before .before .before .before .before .before .loop .rest)))) ≡ b
-follows c e = ap (mayFollow (c .before .before .before .before .before .before .before .loop .first) (now (c .before .before .before .before .before .before .before .loop .last))) (sym (name-part (c .before .before .before .n .given .0 .0) (now (c .before .before .before .before .before .before .before .loop .rest)))) ∙ sym (c .may-follow .ensures) ∙ e
+follows : (c : tie.After-may-follow Inv-loop μ-loop) {b : Bool} → c .may-follow .result ≡ b → mayFollow (at-loop c .loop .first) (now (at-loop c .loop .last)) (take (c .before .before .before .n .given .0 .0) (drop 2 (now (at-loop c .loop .rest)))) ≡ b
+follows c e = ap (mayFollow (at-loop c .loop .first) (now (at-loop c .loop .last))) (sym (name-part (c .before .before .before .n .given .0 .0) (now (at-loop c .loop .rest)))) ∙ sym (c .may-follow .ensures) ∙ e
 
 slice-aggregate-last : tie.Need-slice-aggregate-last Inv-loop μ-loop
 slice-aggregate-last c = search needs
@@ -68,16 +72,16 @@ may-follow-requires : tie.Need-may-follow-requires Inv-loop μ-loop
 may-follow-requires c κs = search needs
 
 returns-2 : tie.Need-returns-2 Inv-loop μ-loop
-returns-2 c = checking-falls (c .before .before .before .before .before .before .before .before .loop .inv) (omega arith) (c .before .before .before .before .n .given .0 .0) (c .before .before .before .before .n .given .0 .1 .0) (front (c .before .before .before)) (follows (c .before) (not-true _ (c .if1 .taken)))
+returns-2 c = checking-falls (at-loop (c .before) .loop .inv) (omega arith) (c .before .before .before .before .n .given .0 .0) (c .before .before .before .before .n .given .0 .1 .0) (front (c .before .before .before)) (follows (c .before) (not-true _ (c .if1 .taken)))
 
 add-rest : tie.Need-add-rest Inv-loop μ-loop
-add-rest c = omega (arith, row-inside (now (c .before .before .before .before .before .before .before .before .loop .rest)) (c .before .before .before .before .n .given .0 .0) (c .before .before .before .before .n .given .0 .1 .0) (front (c .before .before .before)))
+add-rest c = omega (arith, row-inside (now (at-loop (c .before) .loop .rest)) (c .before .before .before .before .n .given .0 .0) (c .before .before .before .before .n .given .0 .1 .0) (front (c .before .before .before)))
 
 sub-rest : tie.Need-sub-rest Inv-loop μ-loop
-sub-rest c = omega (arith, row-inside (now (c .before .before .before .before .before .before .before .before .loop .rest)) (c .before .before .before .before .n .given .0 .0) (c .before .before .before .before .n .given .0 .1 .0) (front (c .before .before .before)))
+sub-rest c = omega (arith, row-inside (now (at-loop (c .before) .loop .rest)) (c .before .before .before .before .n .given .0 .0) (c .before .before .before .before .n .given .0 .1 .0) (front (c .before .before .before)))
 
 part-rest-start : tie.Need-part-rest-start Inv-loop μ-loop
-part-rest-start c = omega (arith, row-inside (now (c .before .before .before .before .before .before .before .before .loop .rest)) (c .before .before .before .before .n .given .0 .0) (c .before .before .before .before .n .given .0 .1 .0) (front (c .before .before .before)))
+part-rest-start c = omega (arith, row-inside (now (at-loop (c .before) .loop .rest)) (c .before .before .before .before .n .given .0 .0) (c .before .before .before .before .n .given .0 .1 .0) (front (c .before .before .before)))
 
 part-rest-end : tie.Need-part-rest-end Inv-loop μ-loop
 part-rest-end c = search needs
@@ -89,7 +93,7 @@ loop-less : tie.Need-loop-less Inv-loop μ-loop
 loop-less c = search needs
 
 loop-again : tie.Need-loop-again Inv-loop μ-loop
-loop-again c = checking-on (c .before .before .before .before .before .before .before .before .before .loop .inv) (omega arith) (c .before .before .before .before .before .n .given .0 .0) (c .before .before .before .before .before .n .given .0 .1 .0) (front (c .before .before .before .before)) (rest-is ((c .before .before .before .before .before .n .given .0 .0) + 10) (now (c .before .before .before .before .before .before .before .before .before .loop .rest))) (name-part (c .before .before .before .before .before .n .given .0 .0) (now (c .before .before .before .before .before .before .before .before .before .loop .rest))) (follows (c .before .before) (not-false _ (c .before .if1 .left)))
+loop-again c = checking-on (at-loop (c .before .before) .loop .inv) (omega arith) (c .before .before .before .before .before .n .given .0 .0) (c .before .before .before .before .before .n .given .0 .1 .0) (front (c .before .before .before .before)) (rest-is ((c .before .before .before .before .before .n .given .0 .0) + 10) (now (at-loop (c .before .before) .loop .rest))) (name-part (c .before .before .before .before .before .n .given .0 .0) (now (at-loop (c .before .before) .loop .rest))) (follows (c .before .before) (not-false _ (c .before .if1 .left)))
 
 returns-3 : tie.Need-returns-3 Inv-loop μ-loop
 returns-3 c = checking-end (c .before .loop .inv) (omega arith)

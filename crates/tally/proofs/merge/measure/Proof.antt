@@ -19,6 +19,10 @@ Inv-loop a b x₀ y₀ rows₀ size₀ x y rows size = Measuring a b x y rows si
 abbrev μ-loop : tie.MeasureT-loop
 μ-loop a b x₀ y₀ rows₀ size₀ x y rows size = length x + length y
 
+-- places in the function, each from the places behind it
+abbrev start : tie.After-y Inv-loop μ-loop → tie.Start Inv-loop μ-loop
+start c = c .before .before .before .before .before .before .before .before .before
+
 -- the next row
 abbrev Here : tie.At-loop Inv-loop μ-loop → SumRow → Type 0
 Here l n = SumRowIs (now (l .loop .x)) (now (l .loop .y)) n
@@ -66,10 +70,10 @@ part-y-end : tie.Need-part-y-end Inv-loop μ-loop
 part-y-end c = search needs
 
 add-rows : tie.Need-add-rows Inv-loop μ-loop
-add-rows c = omega (arith, measuring-room (c .before .before .before .before .before .before .loop .inv) (next (c .before .before) .0), c .before .before .before .before .before .before .loop .inv .few, next (c .before .before) .0 .long, c .before .before .before .before .before .before .before .before .before .good)
+add-rows c = omega (arith, measuring-room (c .before .before .before .before .before .before .loop .inv) (next (c .before .before) .0), c .before .before .before .before .before .before .loop .inv .few, next (c .before .before) .0 .long, start c .good)
 
 add-size : tie.Need-add-size Inv-loop μ-loop
-add-size c = omega (arith, measuring-room (c .before .before .before .before .before .before .loop .inv) (next (c .before .before) .0), c .before .before .before .before .before .before .before .before .before .good)
+add-size c = omega (arith, measuring-room (c .before .before .before .before .before .before .loop .inv) (next (c .before .before) .0), start c .good)
 
 loop-less : tie.Need-loop-less Inv-loop μ-loop
 loop-less c = left-less (next (c .before .before) .0)

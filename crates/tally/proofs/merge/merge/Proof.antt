@@ -11,6 +11,19 @@ use Rattle.tally.proofs.Merging.{first-bad, second-bad, both-good}
 use Rattle.tally.proofs.merge.merge.Statement.{statement}
 use Rattle.tally.proofs.merge.merge.Tie as tie
 
+-- places in the function, each from the places behind it
+abbrev start₁ : tie.After-check2 → tie.Start
+start₁ c = c .before .before .before .before .before .before .before
+
+abbrev start₂ : tie.After-slice-known2 → tie.Start
+start₂ c = start₁ (c .before .before .before .before .before .before .before .before)
+
+abbrev after-slice2 : tie.After-enum-told3 → tie.After-shared-slice-known2
+after-slice2 c = c .before .before .before .before .before .before .before
+
+abbrev after-else : tie.After-slice-known2 → tie.After-enum-told
+after-else c = c .before .before .before .before .before .before .before .before .before
+
 -- the two, and that they are tallies
 abbrev a : tie.Start → List ℕ
 a s = now (s .args .a)
@@ -21,14 +34,14 @@ b s = now (s .args .b)
 first : (c : tie.After-enum-told) → Checked one (a (c .before .before .before .before .before .before)) (c .enum-told .given .0 .0)
 first c = checked one (a (c .before .before .before .before .before .before)) (ap toldCheck (sym (c .enum-told .given .1)) ∙ c .before .before .check .ensures)
 
-second : (c : tie.After-enum-told3) → Checked one (b (c .before .before .before .before .before .before .before .before .before)) (c .enum-told3 .given .0 .0)
-second c = checked one (b (c .before .before .before .before .before .before .before .before .before)) (ap toldCheck (sym (c .enum-told3 .given .1)) ∙ c .before .before .check2 .ensures)
+second : (c : tie.After-enum-told3) → Checked one (b (start₁ (c .before .before))) (c .enum-told3 .given .0 .0)
+second c = checked one (b (start₁ (c .before .before))) (ap toldCheck (sym (c .enum-told3 .given .1)) ∙ c .before .before .check2 .ensures)
 
 open-first : (c : tie.After-enum-told) → Opened one (a (c .before .before .before .before .before .before)) (first c .l)
 open-first c = opened one (a (c .before .before .before .before .before .before)) (first c .l) (λ i. c .before .before .before .before .before .shared-slice-known .given i .fits) (first c .is)
 
-open-second : (c : tie.After-enum-told3) → Opened one (b (c .before .before .before .before .before .before .before .before .before)) (second c .l)
-open-second c = opened one (b (c .before .before .before .before .before .before .before .before .before)) (second c .l) (λ i. c .before .before .before .before .before .before .before .shared-slice-known2 .given i .fits) (second c .is)
+open-second : (c : tie.After-enum-told3) → Opened one (b (start₁ (c .before .before))) (second c .l)
+open-second c = opened one (b (start₁ (c .before .before))) (second c .l) (λ i. after-slice2 c .shared-slice-known2 .given i .fits) (second c .is)
 
 check-requires : tie.Need-check-requires
 check-requires c κs = search needs
@@ -53,7 +66,7 @@ enum-told-4 c = search needs
 
 returns-2 : tie.Need-returns-2
 returns-2 c =
-    let s = c .before .before .before .before .before .before .before .before .before in
+    let s = start₁ (c .before .before) in
     second-bad (a s) (b s) (now (s .args .out)) (first (c .before .before .before)) (ap toldCheck (sym (c .enum-told4 .given .1)) ∙ c .before .before .check2 .ensures)
 
 sub-merge-rows : tie.Need-sub-merge-rows
@@ -82,8 +95,8 @@ same-length c = search needs
 
 returns-3 : tie.Need-returns-3
 returns-3 c =
-    let s = c .before .before .before .before .before .before .before .before .before .before .before .before .before .before .before in
-    let f = c .before .before .before .before .before .before .before .before .before in
+    let s = start₂ c in
+    let f = after-else c in
     let g = c .before .before .before .before .before .before in
     both-good (a s) (b s) (now (s .args .out)) (c .before .before .merge-rows .result) (first f) (second g) (open-first f) (open-second g) (c .before .before .merge-rows .ensures)
 

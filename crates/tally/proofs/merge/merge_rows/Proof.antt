@@ -10,6 +10,16 @@ use Rattle.tally.proofs.Merging.{merged-many, merged-rows, merged-room,
 use Rattle.tally.proofs.merge.merge_rows.Statement.{statement}
 use Rattle.tally.proofs.merge.merge_rows.Tie as tie
 
+-- places in the function, each from the places behind it
+abbrev start : tie.After-known-told → tie.Start
+start c = c .before .before .before .before .before .before .before
+
+abbrev after-told : tie.After-slice-known3 → tie.After-known-told
+after-told c = c .before .before .before .before .before .before .before .before .before .before .before
+
+abbrev else1 : tie.After-slice-known3 → tie.Else1
+else1 c = c .before .before .before .before .before .before .before .before .before .before
+
 -- the lists, the buffer, and what was measured
 abbrev a : tie.Start → List ℕ
 a s = now (s .args .a)
@@ -26,8 +36,8 @@ rows c = c .before .rows .given .0 .0
 abbrev size : tie.After-known-told → ℕ
 size c = c .before .rows .given .0 .1 .0
 
-measured : (c : tie.After-known-told) → MeasuredAs (a (c .before .before .before .before .before .before .before)) (b (c .before .before .before .before .before .before .before)) (measures.Rows (rows c) (size c))
-measured c = subst (MeasuredAs (a (c .before .before .before .before .before .before .before)) (b (c .before .before .before .before .before .before .before))) (c .before .rows .given .1) (c .before .before .before .measure .ensures)
+measured : (c : tie.After-known-told) → MeasuredAs (a (start c)) (b (start c)) (measures.Rows (rows c) (size c))
+measured c = subst (MeasuredAs (a (start c)) (b (start c))) (c .before .rows .given .1) (c .before .before .before .measure .ensures)
 
 measure-requires : tie.Need-measure-requires
 measure-requires c κs = search needs
@@ -45,16 +55,16 @@ cast-if1 : tie.Need-cast-if1
 cast-if1 c = search needs
 
 returns-2 : tie.Need-returns-2
-returns-2 c = let m = c .before in let s = m .before .before .before .before .before .before .before in merged-rows (a s) (b s) (out s) (rows m) (size m) (measured m) (c .if1 .taken)
+returns-2 c = let m = c .before in let s = start m in merged-rows (a s) (b s) (out s) (rows m) (size m) (measured m) (c .if1 .taken)
 
 returns-3 : tie.Need-returns-3
-returns-3 c = let m = c .before .before in let s = m .before .before .before .before .before .before .before in merged-room (a s) (b s) (out s) (rows m) (size m) (measured m) (c .before .if1 .left) (omega arith)
+returns-3 c = let m = c .before .before in let s = start m in merged-room (a s) (b s) (out s) (rows m) (size m) (measured m) (c .before .if1 .left) (omega arith)
 
 sub-if3 : tie.Need-sub-if3
 sub-if3 c = search needs
 
 returns-4 : tie.Need-returns-4
-returns-4 c = let m = c .before .before .before in let s = m .before .before .before .before .before .before .before in merged-room (a s) (b s) (out s) (rows m) (size m) (measured m) (c .before .before .if1 .left) (omega arith)
+returns-4 c = let m = c .before .before .before in let s = start m in merged-room (a s) (b s) (out s) (rows m) (size m) (measured m) (c .before .before .if1 .left) (omega arith)
 
 cast-put-head : tie.Need-cast-put-head
 cast-put-head c = search needs
@@ -82,9 +92,9 @@ same-length c = search needs
 
 returns-5 : tie.Need-returns-5
 returns-5 c =
-    let m = c .before .before .before .before .before .before .before .before .before .before .before in
-    let s = m .before .before .before .before .before .before .before in
-    merged-all (a s) (b s) (out s) (rows m) (size m) (measured m) (c .before .before .before .before .before .before .before .before .before .before .if1 .left) (c .before .before .before .before .before .before .put-head .last .0) (c .before .before .put-rows .last .0) (omega arith) (c .before .before .before .before .before .before .put-head .ensures) (c .before .before .put-rows .ensures)
+    let m = after-told c in
+    let s = start m in
+    merged-all (a s) (b s) (out s) (rows m) (size m) (measured m) (else1 c .if1 .left) (c .before .before .before .before .before .before .put-head .last .0) (c .before .before .put-rows .last .0) (omega arith) (c .before .before .before .before .before .before .put-head .ensures) (c .before .before .put-rows .ensures)
 
 pub merge-rows-spec : {M : Type 1} → statement M
 merge-rows-spec =

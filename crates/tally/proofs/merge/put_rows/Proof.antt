@@ -19,6 +19,13 @@ Inv-loop out₀ a b x₀ y₀ at₀ out x y at = Writing a b x y out₀ out at
 abbrev μ-loop : tie.MeasureT-loop
 μ-loop out₀ a b x₀ y₀ at₀ out x y at = length x + length y
 
+-- places in the function, each from the places behind it
+abbrev start : tie.After-put-sum-row-arg Inv-loop μ-loop → tie.Start Inv-loop μ-loop
+start c = c .before .before .before .before .before .before .before .before .before
+
+abbrev at-loop : tie.After-y Inv-loop μ-loop → tie.At-loop Inv-loop μ-loop
+at-loop c = c .before .before .before .before .before .before .before .before .before .before
+
 -- the next row
 abbrev Here : tie.At-loop Inv-loop μ-loop → SumRow → Type 0
 Here l n = SumRowIs (now (l .loop .x)) (now (l .loop .y)) n
@@ -54,7 +61,7 @@ enum-known-first : tie.Need-enum-known-first Inv-loop μ-loop
 enum-known-first c = search needs
 
 put-sum-row-requires : tie.Need-put-sum-row-requires Inv-loop μ-loop
-put-sum-row-requires c κs = let n = next (c .before) .0 in (omega (arith, n .long), n .side-in, omega (arith, writing-room (c .before .before .before .before .before .loop .inv) n, c .before .before .before .before .before .before .before .before .before .good))
+put-sum-row-requires c κs = let n = next (c .before) .0 in (omega (arith, n .long), n .side-in, omega (arith, writing-room (c .before .before .before .before .before .loop .inv) n, start c .good))
 
 sub-x : tie.Need-sub-x Inv-loop μ-loop
 sub-x c = next (c .before .before .before .before) .0 .first-in
@@ -75,13 +82,13 @@ part-y-end : tie.Need-part-y-end Inv-loop μ-loop
 part-y-end c = search needs
 
 add-at : tie.Need-add-at Inv-loop μ-loop
-add-at c = omega (arith, writing-room (c .before .before .before .before .before .before .before .before .before .before .loop .inv) (next (c .before .before .before .before .before .before) .0), c .before .before .before .before .before .before .before .before .before .before .before .before .before .before .good)
+add-at c = omega (arith, writing-room (at-loop c .loop .inv) (next (c .before .before .before .before .before .before) .0), start (c .before .before .before .before .before) .good)
 
 loop-less : tie.Need-loop-less Inv-loop μ-loop
 loop-less c = left-less (next (c .before .before .before .before .before .before) .0)
 
 loop-again : tie.Need-loop-again Inv-loop μ-loop
-loop-again c = writing-on (c .before .before .before .before .before .before .before .before .before .before .loop .inv) (next (c .before .before .before .before .before .before)) (omega (arith, c .before .before .before .before .before .before .known-told .given)) (c .before .before .before .before .put-sum-row .ensures) (omega arith)
+loop-again c = writing-on (at-loop c .loop .inv) (next (c .before .before .before .before .before .before)) (omega (arith, c .before .before .before .before .before .before .known-told .given)) (c .before .before .before .before .put-sum-row .ensures) (omega arith)
 
 pub put-rows-spec : {M : Type 1} → statement M
 put-rows-spec =

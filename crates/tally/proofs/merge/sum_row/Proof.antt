@@ -11,6 +11,13 @@ use Rattle.tally.proofs.SumRows.{Front, first-ended, first-alone, both-
 use Rattle.tally.proofs.merge.sum_row.Statement.{statement}
 use Rattle.tally.proofs.merge.sum_row.Tie as tie
 
+-- places in the function, each from the places behind it
+abbrev start : tie.After-front-row2 → tie.Start
+start c = c .before .before .before .before .before .before .before
+
+abbrev after-told : tie.After-compare → tie.After-known-told
+after-told c = c .before .before .before .before .before .before .before
+
 -- the row in front of the first list
 abbrev x : tie.After-known-told → List ℕ
 x c = now (c .before .before .before .before .before .before .args .x)
@@ -29,7 +36,7 @@ inside-x c = row-inside (x c) (n c) (many c) (front-x c)
 
 -- the row in front of the second
 abbrev y : tie.After-known-told2 → List ℕ
-y c = now (c .before .before .before .before .before .before .before .before .before .before .args .y)
+y c = now (start (c .before .before .before) .args .y)
 
 abbrev m : tie.After-known-told2 → ℕ
 m c = c .before .m .given .0 .0
@@ -78,7 +85,7 @@ add-t10 c = omega (arith, inside-x (c .before .before .before))
 returns-2 : tie.Need-returns-2
 returns-2 c =
     let b = c .before .before .before in
-    let z = now (c .before .before .before .before .before .before .before .before .before .args .y) in
+    let z = now (start (c .before .before) .args .y) in
     first-alone (x b) z (n b) (many b) (front-x b) (subst (Front z) (c .enum-told2 .given .1) (c .before .before .front-row2 .ensures))
 
 add-compare : tie.Need-add-compare
@@ -112,10 +119,10 @@ enum-told-3 : tie.Need-enum-told-3
 enum-told-3 c = search needs
 
 add-t23 : tie.Need-add-t23
-add-t23 c = omega (arith, inside-x (c .before .before .before .before .before .before .before .before .before))
+add-t23 c = omega (arith, inside-x (after-told (c .before .before)))
 
 add-t24 : tie.Need-add-t24
-add-t24 c = omega (arith, inside-x (c .before .before .before .before .before .before .before .before .before))
+add-t24 c = omega (arith, inside-x (after-told (c .before .before)))
 
 enum-told-4 : tie.Need-enum-told-4
 enum-told-4 c = search needs
@@ -139,13 +146,13 @@ returns-3 c =
     both-many (x f) (y b) (n f) (many f) (m b) (more b) (front-x f) (front-y b) (c .before .before .before .compare .ensures) (c .before .enum-told5 .given .1) (c .if1 .taken)
 
 add-t29 : tie.Need-add-t29
-add-t29 c = omega (arith, inside-x (c .before .before .before .before .before .before .before .before .before .before))
+add-t29 c = omega (arith, inside-x (after-told (c .before .before .before)))
 
 add-t30 : tie.Need-add-t30
 add-t30 c = omega (arith, inside-y (c .before .before .before .before .before .before))
 
 add-t31 : tie.Need-add-t31
-add-t31 c = omega (arith, inside-x (c .before .before .before .before .before .before .before .before .before .before))
+add-t31 c = omega (arith, inside-x (after-told (c .before .before .before)))
 
 add-t27 : tie.Need-add-t27
 add-t27 c = search needs

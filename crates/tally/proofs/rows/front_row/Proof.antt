@@ -14,15 +14,22 @@ use borrow.Author.Needs.{needs}
 use Rattle.tally.proofs.rows.front_row.Statement.{statement}
 use Rattle.tally.proofs.rows.front_row.Tie as tie
 
--- the name's length, the count, and that the part is bytes
+-- places in the function, each from the places behind it
+abbrev start : tie.After-known-told2 → tie.Start
+start c = c .before .before .before .before .before .before .before .before .before
+
+abbrev after-slice : tie.After-known-told2 → tie.After-shared-slice-known
+after-slice c = c .before .before .before .before .before .before .before .before
+
+-- the name's length, the count, and that what is read is bytes
 run : (c : tie.After-known-told) → toldRun 2 (now (c .before .before .before .before .before .args .s)) (runs.Bytes (c .before .n .given .0 .0)) ≡ prefixed {ends = short} 2 .read (now (c .before .before .before .before .before .args .s))
 run c = told-as (toldRun 2 _) (c .before .before .before .run16-at .ensures) (c .before .n .given .1)
 
-count : (c : tie.After-known-told2) → toldU64 (u64s.Value (c .before .count .given .0 .0)) ≡ u64 {ends = short} .read (drop (c .before .before .before .before .before .n .given .0 .0 + 2) (now (c .before .before .before .before .before .before .before .before .before .args .s)))
+count : (c : tie.After-known-told2) → toldU64 (u64s.Value (c .before .count .given .0 .0)) ≡ u64 {ends = short} .read (drop (c .before .before .before .before .before .n .given .0 .0 + 2) (now (start c .args .s)))
 count c = told-as toldU64 (c .before .before .before .u64-at .ensures) (c .before .count .given .1)
 
-bytes : (c : tie.After-known-told2) → Bytes (now (c .before .before .before .before .before .before .before .before .before .args .s))
-bytes c = λ i. c .before .before .before .before .before .before .before .before .shared-slice-known .given i .fits
+bytes : (c : tie.After-known-told2) → Bytes (now (start c .args .s))
+bytes c = λ i. after-slice c .shared-slice-known .given i .fits
 
 run16-at-requires : tie.Need-run16-at-requires
 run16-at-requires c κs = search needs

@@ -8,6 +8,13 @@ use Rattle.tally.specs.Rows.{Row}
 use Rattle.tally.proofs.rows.put_row.Statement.{statement}
 use Rattle.tally.proofs.rows.put_row.Tie as tie
 
+-- places in the function, each from the places behind it
+abbrev start : tie.After-slice-known4 → tie.Start
+start c = c .before .before .before .before .before .before .before .before .before .before .before .before .before .before .before .before .before
+
+abbrev after-put-u16 : tie.After-slice-known4 → tie.After-put-u16
+after-put-u16 c = c .before .before .before .before .before .before .before .before .before .before
+
 -- the row asked for
 abbrev asked : tie.Start → Row ℕ
 asked s = record { name = now (s .args .name); count = s .args .count }
@@ -53,8 +60,8 @@ same-length c = search needs
 
 returns-4 : tie.Need-returns-4
 returns-4 c =
-    let s = c .before .before .before .before .before .before .before .before .before .before .before .before .before .before .before .before .before in
-    row-stored (s .args .at) (asked s) (now (s .args .out)) (omega arith) _ _ _ (omega arith) (c .before .before .before .before .before .before .before .before .before .before .put-u16 .ensures) (c .before .before .before .before .before .before .put-bytes .ensures) (c .before .before .put-u64 .ensures)
+    let s = start c in
+    row-stored (s .args .at) (asked s) (now (s .args .out)) (omega arith) _ _ _ (omega arith) (after-put-u16 c .put-u16 .ensures) (c .before .before .before .before .before .before .put-bytes .ensures) (c .before .before .put-u64 .ensures)
 
 pub put-row-spec : {M : Type 1} → statement M
 put-row-spec =

@@ -21,6 +21,10 @@ Inv-loop s at k v₀ p₀ left₀ v p left =
 abbrev μ-loop : tie.MeasureT-loop
 μ-loop s at k v₀ p₀ left₀ v p left = left
 
+-- places in the function, each from the places behind it
+abbrev start : tie.After-wide Inv-loop μ-loop → tie.Start Inv-loop μ-loop
+start c = c .before .before .before .before .before .before .before
+
 returns : tie.Need-returns Inv-loop μ-loop
 returns c = record { told = sym (number-ends short _ _ (rw length-drop (omega arith))); below = tt }
 
@@ -59,7 +63,7 @@ loop-less c = omega arith
 loop-again : tie.Need-loop-again Inv-loop μ-loop
 loop-again c =
     let l = c .before .before .before .loop in
-    let k = c .before .before .before .before .before .before .before .args .k in
+    let k = start c .args .k in
     let up : k - (l .left - 1) ≡ suc (k - l .left) = omega arith in
     let small : c .wide .result < 256 = omega (arith, c .before .shared-slice-known2 .given (l .p), c .wide .ensures) in (
       omega arith,

@@ -15,6 +15,16 @@ use borrow.Author.Needs.{needs}
 use Rattle.wire.proofs.heads.read_head.Statement.{statement}
 use Rattle.wire.proofs.heads.read_head.Tie as tie
 
+-- places in the function, each from the places behind it
+abbrev start : tie.After-known-told → tie.Start
+start c = c .before .before .before .before .before .before .before .before
+
+abbrev after-mark-at : tie.After-u32-at → tie.After-mark-at
+after-mark-at c = c .before .before .before .before .before .before .before
+
+abbrev else1 : tie.After-u32-at → tie.Else1
+else1 c = c .before .before .before .before .before .before
+
 three : (c : tie.After-mark-at) → length (now (c .before .before .before .args .mark)) ≡ 3
 three c = omega (arith, c .before .mark-at-arg .given)
 
@@ -22,7 +32,7 @@ three c = omega (arith, c .before .mark-at-arg .given)
 marked : (c : tie.After-mark-at) {b : Bool} → c .mark-at .result ≡ b → starts (now (c .before .before .before .args .mark)) (now (c .before .before .before .args .s)) ≡ b
 marked c e = sym (c .mark-at .ensures) ∙ e
 
-version : (c : tie.After-known-told) → toldU16 (u16s.Value (c .before .version .given .0 .0)) ≡ u16 {ends = short} .read (drop 3 (now (c .before .before .before .before .before .before .before .before .args .s)))
+version : (c : tie.After-known-told) → toldU16 (u16s.Value (c .before .version .given .0 .0)) ≡ u16 {ends = short} .read (drop 3 (now (start c .args .s)))
 version c = told-as toldU16 (c .before .before .before .u16-at .ensures) (c .before .version .given .1)
 
 mark-at-requires : tie.Need-mark-at-requires
@@ -61,16 +71,16 @@ enum-told-2 c = search needs
 
 returns-4 : tie.Need-returns-4
 returns-4 c =
-    let x = c .before .before .before .before .before .before .before .before .before .before in
+    let x = after-mark-at (c .before .before .before) in
     toOption-is
-    (headed-on (now (x .before .before .before .args .mark)) (three x) 1 (now (x .before .before .before .args .s)) short u32 (marked x (not-false _ (c .before .before .before .before .before .before .before .before .before .if1 .left))) (version (c .before .before .before .before .before)) (c .before .before .before .before .if2 .left)
+    (headed-on (now (x .before .before .before .args .mark)) (three x) 1 (now (x .before .before .before .args .s)) short u32 (marked x (not-false _ (else1 (c .before .before .before) .if1 .left))) (version (c .before .before .before .before .before)) (c .before .before .before .before .if2 .left)
     ∙ ap behindHead (sym (told-as toldU32 (c .before .before .before .u32-at .ensures) (c .before .number .given .1))))
 
 returns-5 : tie.Need-returns-5
 returns-5 c =
-    let x = c .before .before .before .before .before .before .before .before .before in
+    let x = after-mark-at (c .before .before) in
     toOption-is
-    (headed-on (now (x .before .before .before .args .mark)) (three x) 1 (now (x .before .before .before .args .s)) short u32 (marked x (not-false _ (c .before .before .before .before .before .before .before .before .if1 .left))) (version (c .before .before .before .before)) (c .before .before .before .if2 .left)
+    (headed-on (now (x .before .before .before .args .mark)) (three x) 1 (now (x .before .before .before .args .s)) short u32 (marked x (not-false _ (else1 (c .before .before) .if1 .left))) (version (c .before .before .before .before)) (c .before .before .before .if2 .left)
     ∙ ap behindHead (sym (told-as toldU32 (c .before .before .u32-at .ensures) (c .enum-told2 .given .1))))
 
 pub read-head-spec : {M : Type 1} → statement M

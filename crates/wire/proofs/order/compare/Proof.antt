@@ -20,12 +20,22 @@ Inv-loop a b i₀ i = (i ≤ length a) × (i ≤ length b) × (order (drop i a) 
 abbrev μ-loop : tie.MeasureT-loop
 μ-loop a b i₀ i = length a - i
 
+-- places in the function, each from the places behind it
+abbrev start : tie.After-known-told Inv-loop μ-loop → tie.Start Inv-loop μ-loop
+start c = c .before .before .before .before .before .before .before
+
+abbrev at-loop : tie.After-u64-at2 Inv-loop μ-loop → tie.At-loop Inv-loop μ-loop
+at-loop c = c .before .before .before .before .before
+
+abbrev after-slice2 : tie.After-known-told2 Inv-loop μ-loop → tie.After-shared-slice-known2 Inv-loop μ-loop
+after-slice2 c = c .before .before .before .before .before .before .before .before .before
+
 -- the words at the place
-first : (c : tie.After-known-told Inv-loop μ-loop) → Word (now (c .before .before .before .before .before .before .before .args .a)) (c .before .before .before .before .loop .i) (c .before .x .given .0 .0)
+first : (c : tie.After-known-told Inv-loop μ-loop) → Word (now (start c .args .a)) (c .before .before .before .before .loop .i) (c .before .x .given .0 .0)
 first c = word-at _ _ _ (λ j. c .before .before .before .before .before .before .shared-slice-known .given j .fits) (told-as toldU64 (c .before .before .before .u64-at .ensures) (c .before .x .given .1))
 
-second : (c : tie.After-known-told2 Inv-loop μ-loop) → Word (now (c .before .before .before .before .before .before .before .before .before .before .before .args .b)) (c .before .before .before .before .before .before .before .before .loop .i) (c .before .y .given .0 .0)
-second c = word-at _ _ _ (λ j. c .before .before .before .before .before .before .before .before .before .shared-slice-known2 .given j .fits) (told-as toldU64 (c .before .before .before .u64-at2 .ensures) (c .before .y .given .1))
+second : (c : tie.After-known-told2 Inv-loop μ-loop) → Word (now (start (c .before .before .before .before) .args .b)) (at-loop (c .before .before .before) .loop .i) (c .before .y .given .0 .0)
+second c = word-at _ _ _ (λ j. after-slice2 c .shared-slice-known2 .given j .fits) (told-as toldU64 (c .before .before .before .u64-at2 .ensures) (c .before .y .given .1))
 
 -- what is left, as the code slices it
 left : (c : tie.At-loop Inv-loop μ-loop) {r : Order} → let a = now (c .before .before .before .args .a) in let b = now (c .before .before .before .args .b) in let i = c .loop .i in
@@ -99,13 +109,13 @@ compare-bytes-requires-2 : tie.Need-compare-bytes-requires-2 Inv-loop μ-loop
 compare-bytes-requires-2 c κs = search needs
 
 returns-2 : tie.Need-returns-2 Inv-loop μ-loop
-returns-2 c = left (c .before .before .before .before .before .before .before .before .before .before) (c .compare-bytes2 .ensures)
+returns-2 c = left (at-loop (c .before .before .before .before .before)) (c .compare-bytes2 .ensures)
 
 returns-3 : tie.Need-returns-3 Inv-loop μ-loop
-returns-3 c = sym (words-less (first (c .before .before .before .before .before)) (second (c .before)) (c .if1 .taken)) ∙ c .before .before .before .before .before .before .before .before .before .loop .inv .2
+returns-3 c = sym (words-less (first (c .before .before .before .before .before)) (second (c .before)) (c .if1 .taken)) ∙ at-loop (c .before .before .before .before) .loop .inv .2
 
 returns-4 : tie.Need-returns-4 Inv-loop μ-loop
-returns-4 c = sym (words-more (first (c .before .before .before .before .before .before)) (second (c .before .before)) (c .if2 .taken)) ∙ c .before .before .before .before .before .before .before .before .before .before .loop .inv .2
+returns-4 c = sym (words-more (first (c .before .before .before .before .before .before)) (second (c .before .before)) (c .if2 .taken)) ∙ at-loop (c .before .before .before .before .before) .loop .inv .2
 
 add-i : tie.Need-add-i Inv-loop μ-loop
 add-i c = omega (arith, first (c .before .before .before .before .before .before) .inside)
@@ -114,7 +124,7 @@ loop-less : tie.Need-loop-less Inv-loop μ-loop
 loop-less c = omega (arith, first (c .before .before .before .before .before .before) .inside)
 
 loop-again : tie.Need-loop-again Inv-loop μ-loop
-loop-again c = (first (c .before .before .before .before .before .before) .inside, second (c .before .before) .inside, sym (words-on (first (c .before .before .before .before .before .before)) (second (c .before .before)) (c .before .if1 .left) (c .if2 .left)) ∙ c .before .before .before .before .before .before .before .before .before .before .loop .inv .2)
+loop-again c = (first (c .before .before .before .before .before .before) .inside, second (c .before .before) .inside, sym (words-on (first (c .before .before .before .before .before .before)) (second (c .before .before)) (c .before .if1 .left) (c .if2 .left)) ∙ at-loop (c .before .before .before .before .before) .loop .inv .2)
 
 pub compare-spec : {M : Type 1} → statement M
 compare-spec =

@@ -1,3 +1,4 @@
+-- The invariant: the index lies in the text, or at its end. The measure: the bytes that are left.
 use Prim.Native.Nat.{_≤_, _-_}
 use lib.ListN.{length}
 use borrow.Author.Needs.{needs}
