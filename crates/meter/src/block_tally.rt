@@ -48,7 +48,7 @@ fn put_tally(
     if out.len() < HEAD_LENGTH {
         return BlockAnswer::NoRoom;
     }
-    let w = add_block(
+    let running = add_block(
         block,
         scanned,
         at,
@@ -59,11 +59,11 @@ fn put_tally(
         &mut out[HEAD_LENGTH..],
         empty(),
     );
-    if w.over {
+    if running.over {
         return BlockAnswer::NoRoom;
     }
-    put_head(out, w.rows as u32);
-    BlockAnswer::Tallied(w.size + HEAD_LENGTH)
+    put_head(out, running.rows as u32);
+    BlockAnswer::Tallied(running.size + HEAD_LENGTH)
 }
 
 // Counts the nodes of the block at a key that stand in a part, name by name.

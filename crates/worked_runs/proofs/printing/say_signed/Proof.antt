@@ -2,8 +2,8 @@ use borrow.Author.Needs.{needs}
 use Prim.Native.Nat.{_^_}
 use native.Mathlib.Omega.{arith}
 use Rattle.wire.proofs.Signs.{natural-told, above-fits, above-is}
-use Rattle.worked_sums.proofs.printing.say_signed.Statement.{statement}
-use Rattle.worked_sums.proofs.printing.say_signed.Tie as tie
+use Rattle.worked_runs.proofs.printing.say_signed.Statement.{statement}
+use Rattle.worked_runs.proofs.printing.say_signed.Tie as tie
 
 cast-say-number : tie.Need-cast-say-number
 cast-say-number c = natural-told (2 ^ 63) (c .before .args .z) (c .before .fits .z) (omega arith) (c .before .fits .z .sfits) (c .if1 .taken) .0

@@ -2,8 +2,8 @@ use borrow.Author.Needs.{needs}
 use mathlib.Core.Path.{ap, sym, _∙_}
 use Rattle.block_writer.specs.Write.{toldWrite}
 use Rattle.block_writer.proofs.RoundTrip.{written-fits}
-use Rattle.worked_sums.proofs.blocks.put_block.Statement.{statement}
-use Rattle.worked_sums.proofs.blocks.put_block.Tie as tie
+use Rattle.worked_runs.proofs.blocks.put_block.Statement.{statement}
+use Rattle.worked_runs.proofs.blocks.put_block.Tie as tie
 
 array-write-param0 : tie.Need-array-write-param0
 array-write-param0 c = search needs

@@ -1,7 +1,7 @@
 use mir.Facts.{sfits-widen}
 use borrow.Author.Needs.{needs}
-use Rattle.worked_sums.proofs.printing.say_coordinate.Statement.{statement}
-use Rattle.worked_sums.proofs.printing.say_coordinate.Tie as tie
+use Rattle.worked_runs.proofs.printing.say_coordinate.Statement.{statement}
+use Rattle.worked_runs.proofs.printing.say_coordinate.Tie as tie
 
 say-requires : tie.Need-say-requires
 say-requires c κs = search needs

@@ -2,8 +2,8 @@
 use Prim.Native.Nat.{_≤_, _-_}
 use lib.ListN.{length}
 use borrow.Author.Needs.{needs}
-use Rattle.worked_sums.proofs.printing.say_bytes.Statement.{statement}
-use Rattle.worked_sums.proofs.printing.say_bytes.Tie as tie
+use Rattle.worked_runs.proofs.printing.say_bytes.Statement.{statement}
+use Rattle.worked_runs.proofs.printing.say_bytes.Tie as tie
 
 abbrev Inv-loop : tie.InvT-loop
 Inv-loop bytes i₀ i = i ≤ length bytes
