@@ -20,7 +20,7 @@ ghost use mathlib.Core.Path.{_≡_};
 ghost use Rattle.block_reader.specs.Questions.{lists, sectionsOf, nodeNameOf};
 ghost use Rattle.anowhetele.specs.Blocks.{noBlock, noNode, handedBlock, HandedRead, handedNode};
 
-// The sections lie as four parts, one after the other.
+// The sections lie as four ranges, one after the other.
 #[repr(C)]
 pub struct AnowBlock {
     pub answer: AnowAnswer,

@@ -15,7 +15,7 @@ ghost use Rattle.wire.specs.Told.{short, toldHead};
 
 pub const VERSION: u16 = 1;
 
-// Where the parts of a head stand, and where it ends.
+// Where the fields of a head stand, and where it ends.
 pub const VERSION_AT: usize = 3;
 
 pub const COUNT_AT: usize = 5;

@@ -7,7 +7,7 @@ use Rattle.sheetcount_lib.proofs.Shown.{no-tally, refused-shown, counte
 use Rattle.sheetcount_lib.proofs.put_answer.Statement.{statement}
 use Rattle.sheetcount_lib.proofs.put_answer.Tie as tie
 
--- places in the function, each from the places behind it
+-- places in the function, each reached from one further on
 abbrev start : tie.After-tally-text → tie.Start
 start c = c .before .before .before .before .before .before .before .before
 

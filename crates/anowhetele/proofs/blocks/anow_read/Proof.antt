@@ -6,7 +6,7 @@ use mathlib.Core.Path.{ap, _∙_}
 use Rattle.anowhetele.proofs.blocks.anow_read.Statement.{statement}
 use Rattle.anowhetele.proofs.blocks.anow_read.Tie as tie
 
--- places in the function, each from the places behind it
+-- places in the function, each reached from one further on
 abbrev after-read : tie.After-slice-known6 → tie.After-read
 after-read c = c .before .before .before .before .before .before
 

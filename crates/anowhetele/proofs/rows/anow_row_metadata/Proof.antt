@@ -6,7 +6,7 @@ use Rattle.anowhetele.specs.Rows.{noMetadata, handedMetadata}
 use Rattle.anowhetele.proofs.rows.anow_row_metadata.Statement.{statement}
 use Rattle.anowhetele.proofs.rows.anow_row_metadata.Tie as tie
 
--- places in the function, each from the places behind it
+-- places in the function, each reached from one further on
 abbrev after-metadata-row-of : tie.After-struct-known2 → tie.After-metadata-row-of
 after-metadata-row-of c = c .before .before .before .before .before .before .before .before .before
 

@@ -8,7 +8,7 @@ use Rattle.anowhetele.specs.Rows.{noObject, handedObject}
 use Rattle.anowhetele.proofs.rows.anow_row_object.Statement.{statement}
 use Rattle.anowhetele.proofs.rows.anow_row_object.Tie as tie
 
--- places in the function, each from the places behind it
+-- places in the function, each reached from one further on
 abbrev after-object-row-of : tie.After-struct-told → tie.After-object-row-of
 after-object-row-of c = c .before .before .before .before .before .before .before
 

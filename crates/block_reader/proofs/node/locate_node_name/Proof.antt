@@ -15,7 +15,7 @@ use Rattle.block_reader.proofs.NodeNames.{within-length, spot-in, node-
 use Rattle.block_reader.proofs.node.locate_node_name.Statement.{statement}
 use Rattle.block_reader.proofs.node.locate_node_name.Tie as tie
 
--- places in the function, each from the places behind it
+-- places in the function, each reached from one further on
 abbrev after-scanned : tie.After-slice-of → tie.After-scanned
 after-scanned c = c .before .before .before .before .before .before .before .before
 

@@ -11,15 +11,15 @@ use Rattle.mapblock.proofs.Entries.{width-old, width-new, entries-length, store
 use Rattle.block_reader.proofs.read.fill.Statement.{statement}
 use Rattle.block_reader.proofs.read.fill.Tie as tie
 
--- places on the way, each from one that lies further on
+-- places in the function, each reached from one further on
 abbrev start : tie.After-width → tie.Start
 start c = c .before .before .before .before .before
 
-abbrev at-width : tie.After-param1 → tie.After-width
-at-width c = c .before .before .before .before .before
+abbrev after-width : tie.After-param1 → tie.After-width
+after-width c = c .before .before .before .before .before
 
-abbrev at-param1 : tie.After-param2 → tie.After-param1
-at-param1 c = c .before .before .before .before .before
+abbrev after-param1 : tie.After-param2 → tie.After-param1
+after-param1 c = c .before .before .before .before .before
 
 width-requires : tie.Need-width-requires
 width-requires c κs = search needs
@@ -90,8 +90,8 @@ first c =
 
 same-length : tie.Need-same-length
 same-length c =
-    let s = (start (at-width (at-param1 (c .before)))) in
-    ap length (first (at-param1 (c .before) .before .before .before .before)) ∙ entries-length (width (s .args .version)) 4096 (now (s .args .s)) ∙ sym (s .pre .1 .0)
+    let s = (start (after-width (after-param1 (c .before)))) in
+    ap length (first (after-param1 (c .before) .before .before .before .before)) ∙ entries-length (width (s .args .version)) 4096 (now (s .args .s)) ∙ sym (s .pre .1 .0)
 
 same-length-2 : tie.Need-same-length-2
 same-length-2 c = search needs
@@ -101,12 +101,12 @@ same-length-3 c = search needs
 
 returns : tie.Need-returns
 returns c =
-    let a = start (at-width (at-param1 (c .before))) .args in
-    let w = at-width (at-param1 (c .before)) .width .result in
+    let a = start (after-width (after-param1 (c .before))) .args in
+    let w = after-width (after-param1 (c .before)) .width .result in
     let k = width (a .version) in (
-      first (at-param1 (c .before) .before .before .before .before),
+      first (after-param1 (c .before) .before .before .before .before),
       (
-        at-param1 (c .before) .before .put-bytes .ensures ∙ stored-part (now (a .s)) (now (a .param1)) (4096 * w) (4096 * w + 4096) (4096 * k) (omega arith) (omega arith) (omega arith) (omega arith),
+        after-param1 (c .before) .before .put-bytes .ensures ∙ stored-part (now (a .s)) (now (a .param1)) (4096 * w) (4096 * w + 4096) (4096 * k) (omega arith) (omega arith) (omega arith) (omega arith),
         c .before .before .put-bytes2 .ensures ∙ stored-part (now (a .s)) (now (a .param2)) (4096 * w + 4096) (4096 * w + 8192) (4096 * k + 4096) (omega arith) (omega arith) (omega arith) (omega arith),
       ),
     )

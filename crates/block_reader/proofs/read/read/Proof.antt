@@ -14,21 +14,21 @@ use Rattle.block_reader.proofs.BlockAnswers.{TakenAs, taken-as, block-r
 use Rattle.block_reader.proofs.read.read.Statement.{statement}
 use Rattle.block_reader.proofs.read.read.Tie as tie
 
--- places on the way, each from one that lies further on
+-- places in the function, each reached from one further on
 abbrev start : tie.After-are-whole → tie.Start
 start c = c .before .before .before .before .before
 
-abbrev at-shared-slice-known : tie.After-are-whole → tie.After-shared-slice-known
-at-shared-slice-known c = c .before .before .before .before
+abbrev after-shared-slice-known : tie.After-are-whole → tie.After-shared-slice-known
+after-shared-slice-known c = c .before .before .before .before
 
-abbrev at-are-whole : tie.After-known-told → tie.After-are-whole
-at-are-whole c = c .before .before .before .before .before
+abbrev after-are-whole : tie.After-known-told → tie.After-are-whole
+after-are-whole c = c .before .before .before .before .before
 
-abbrev at-known-told2 : tie.After-fill-arg3 → tie.After-known-told2
-at-known-told2 c = c .before .before .before .before .before
+abbrev after-known-told2 : tie.After-fill-arg3 → tie.After-known-told2
+after-known-told2 c = c .before .before .before .before .before
 
-abbrev at-fill-arg3 : tie.After-param1 → tie.After-fill-arg3
-at-fill-arg3 c = c .before .before .before .before .before
+abbrev after-fill-arg3 : tie.After-param1 → tie.After-fill-arg3
+after-fill-arg3 c = c .before .before .before .before .before
 
 -- the lists are whole, and the block that was found
 whole : (c : tie.Else1) → let a = c .before .before .before .before .before .before .args in areWhole (length (now (a .param0))) (length (now (a .param1))) (length (now (a .param2))) ≡ true
@@ -39,7 +39,7 @@ goes-on : (c : tie.Else1) {r : Answer Block} → let a = c .before .before .befo
 goes-on c k = let a = c .before .before .before .before .before .before .args in read-block (now (a .block)) (length (now (a .param0))) (length (now (a .param1))) (length (now (a .param2))) (whole c) k
 
 block-is : (c : tie.After-scanned) → TakenAs (now (start (c .before .before .before .before) .args .block)) (c .scanned .given .0 .0)
-block-is c = taken-as _ (λ i. at-shared-slice-known (c .before .before .before .before) .shared-slice-known .given i .fits) (sym (ap toldScan (c .scanned .given .1)) ∙ c .before .before .judge .ensures)
+block-is c = taken-as _ (λ i. after-shared-slice-known (c .before .before .before .before) .shared-slice-known .given i .fits) (sym (ap toldScan (c .scanned .given .1)) ∙ c .before .before .judge .ensures)
 
 are-whole-requires : tie.Need-are-whole-requires
 are-whole-requires c κs = search needs
@@ -70,14 +70,14 @@ part-fill-end c = search needs
 
 fill-requires : tie.Need-fill-requires
 fill-requires c κs =
-    let k = at-known-told2 (c .before) .before in
+    let k = after-known-told2 (c .before) .before in
     let w = k .scanned .given .0 .0 in
     let s = now (start (k .before .before .before .before) .args .block) in
     (rw (rest-is (w .lists) s, length-drop) (omega (arith, block-is k .inside)), whole-are (whole (k .before .before .before)))
 
 returns-2 : tie.Need-returns-2
 returns-2 c =
-    let a = start (at-are-whole c) .args in
+    let a = start (after-are-whole c) .args in
     lists-kept (now (a .param0)) (now (a .param1)) (now (a .param2))
     (goes-on (c .before .before .before .before) (block-refused _ (sym (ap toldScan (c .before .fault .given .1)) ∙ c .before .before .before .judge .ensures)))
 
@@ -92,7 +92,7 @@ same-length-3 c = search needs
 
 returns-3 : tie.Need-returns-3
 returns-3 c =
-    let k = at-known-told2 (at-fill-arg3 (c .before .before .before)) .before in
+    let k = after-known-told2 (after-fill-arg3 (c .before .before .before)) .before in
     let a = start (k .before .before .before .before) .args in
     let f = c .before .before .before .before .before .before .fill .ensures in
     let h = goes-on (k .before .before .before) (block-is k .answer) in (

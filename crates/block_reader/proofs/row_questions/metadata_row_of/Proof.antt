@@ -11,7 +11,7 @@ use mathlib.Core.Path.{ap, sym, _∙_}
 use Rattle.block_reader.proofs.row_questions.metadata_row_of.Statement.{statement}
 use Rattle.block_reader.proofs.row_questions.metadata_row_of.Tie as tie
 
--- places in the function, each from the places behind it
+-- places in the function, each reached from one further on
 abbrev start : tie.After-metadata-row → tie.Start
 start c = c .before .before .before .before .before
 

@@ -15,22 +15,21 @@ use mathlib.Core.Path.{_≡_, refl}
 use Rattle.block_reader.proofs.scan.behind_front.Statement.{statement}
 use Rattle.block_reader.proofs.scan.behind_front.Tie as tie
 
--- places in the function, each from the places behind it
+-- places in the function, each reached from one further on
 abbrev else1 : tie.After-ending-arg → tie.Else1
 else1 c = c .before .before .before .before .before .before .before
 
--- places on the way, each from one that lies further on
 abbrev start : tie.After-lists → tie.Start
 start c = c .before .before .before .before .before
 
-abbrev at-shared-slice-known : tie.After-lists → tie.After-shared-slice-known
-at-shared-slice-known c = c .before .before .before .before
+abbrev after-shared-slice-known : tie.After-lists → tie.After-shared-slice-known
+after-shared-slice-known c = c .before .before .before .before
 
-abbrev at-lists : tie.After-rows-of → tie.After-lists
-at-lists c = c .before .before .before .before .before
+abbrev after-lists₁ : tie.After-rows-of → tie.After-lists
+after-lists₁ c = c .before .before .before .before .before
 
-abbrev at-lists-2 : tie.After-struct-known2 → tie.After-lists
-at-lists-2 c = c .before .before .before .before
+abbrev after-lists₂ : tie.After-struct-known2 → tie.After-lists
+after-lists₂ c = c .before .before .before .before
 
 bytes : (c : tie.After-shared-slice-known) → Bytes (now (c .before .args .s))
 bytes c i = c .shared-slice-known .given i .fits
@@ -75,34 +74,34 @@ returns : tie.Need-returns
 returns c = search needs
 
 sub-rows-of : tie.Need-sub-rows-of
-sub-rows-of c = let r = names-room _ _ _ _ (start (c .before .before .before .before) .pre .1) _ (lists-are (c .before .before .before .before)) (bytes (at-shared-slice-known (c .before .before .before .before))) (omega (arith, c .before .if1 .left)) in omega (arith, r)
+sub-rows-of c = let r = names-room _ _ _ _ (start (c .before .before .before .before) .pre .1) _ (lists-are (c .before .before .before .before)) (bytes (after-shared-slice-known (c .before .before .before .before))) (omega (arith, c .before .if1 .left)) in omega (arith, r)
 
 rows-of-requires : tie.Need-rows-of-requires
 rows-of-requires c κs =
-    let r = names-room _ _ _ _ (start (c .before .before .before .before) .pre .1) _ (lists-are (c .before .before .before .before)) (bytes (at-shared-slice-known (c .before .before .before .before))) (omega (arith, c .before .if1 .left)) in
+    let r = names-room _ _ _ _ (start (c .before .before .before .before) .pre .1) _ (lists-are (c .before .before .before .before)) (bytes (after-shared-slice-known (c .before .before .before .before))) (omega (arith, c .before .if1 .left)) in
     let l : start (c .before .before .before .before) .args .front .lists ≤ length (now (start (c .before .before .before .before) .args .s)) = omega (arith, front-inside _ _ _ _ (start (c .before .before .before .before) .pre .1), start (c .before .before .before .before) .pre .1 .ends) in
     (omega arith, omega (arith, start (c .before .before .before .before) .good .0 .0))
 
 without-late-timers-requires : tie.Need-without-late-timers-requires
-without-late-timers-requires c κs = sized _ _ _ _ (start (at-lists c) .pre .1) _ (lists-are (c .before .before .before .before .before)) (bytes (at-lists c .before .before .before .before)) (start (at-lists c) .good .0 .0)
+without-late-timers-requires c κs = sized _ _ _ _ (start (after-lists₁ c) .pre .1) _ (lists-are (c .before .before .before .before .before)) (bytes (after-lists₁ c .before .before .before .before)) (start (after-lists₁ c) .good .0 .0)
 
 add-ending : tie.Need-add-ending
-add-ending c = omega (arith, inside (at-lists (c .before .before)), start (at-lists (c .before .before)) .good .0 .0)
+add-ending c = omega (arith, inside (after-lists₁ (c .before .before)), start (after-lists₁ (c .before .before)) .good .0 .0)
 
 add-ending-2 : tie.Need-add-ending-2
-add-ending-2 c = omega (arith, inside (at-lists (c .before .before .before)), start (at-lists (c .before .before .before)) .good .0 .0)
+add-ending-2 c = omega (arith, inside (after-lists₁ (c .before .before .before)), start (after-lists₁ (c .before .before .before)) .good .0 .0)
 
 add-ending-3 : tie.Need-add-ending-3
-add-ending-3 c = omega (arith, inside (at-lists (c .before .before .before .before)), start (at-lists (c .before .before .before .before)) .good .0 .0)
+add-ending-3 c = omega (arith, inside (after-lists₁ (c .before .before .before .before)), start (after-lists₁ (c .before .before .before .before)) .good .0 .0)
 
 ending-requires : tie.Need-ending-requires
-ending-requires c κs = (freeIn (start (at-lists-2 (c .before .before .before .before .before .before)) .pre .0), rw (c .before .before .before .before .without-late-timers .ensures, c .before .before .before .before .before .rows-of .ensures) (upto-new _ _ _ _ (start (at-lists-2 (c .before .before .before .before .before .before)) .pre .1) _ (lists-are (at-lists-2 (c .before .before .before .before .before .before))) (bytes (at-lists-2 (c .before .before .before .before .before .before) .before .before .before .before)) (omega (arith, else1 c .if1 .left))))
+ending-requires c κs = (freeIn (start (after-lists₂ (c .before .before .before .before .before .before)) .pre .0), rw (c .before .before .before .before .without-late-timers .ensures, c .before .before .before .before .before .rows-of .ensures) (upto-new _ _ _ _ (start (after-lists₂ (c .before .before .before .before .before .before)) .pre .1) _ (lists-are (after-lists₂ (c .before .before .before .before .before .before))) (bytes (after-lists₂ (c .before .before .before .before .before .before) .before .before .before .before)) (omega (arith, else1 c .if1 .left))))
 
 returns-2 : tie.Need-returns-2
 returns-2 c = ((λ t F. no-middle t _ _ _ F (no-lists (c .before))), refl)
 
 returns-3 : tie.Need-returns-3
-returns-3 c = ((λ t F. c .ending .ensures (freeIn t) (rw (c .before .before .before .before .before .without-late-timers .ensures, c .before .before .before .before .before .before .rows-of .ensures) (upto-new t _ _ _ F _ (lists-are (at-lists (c .before .before .before .before .before .before))) (bytes (at-lists (c .before .before .before .before .before .before) .before .before .before .before)) (omega (arith, else1 (c .before) .if1 .left))))), refl)
+returns-3 c = ((λ t F. c .ending .ensures (freeIn t) (rw (c .before .before .before .before .before .without-late-timers .ensures, c .before .before .before .before .before .before .rows-of .ensures) (upto-new t _ _ _ F _ (lists-are (after-lists₁ (c .before .before .before .before .before .before))) (bytes (after-lists₁ (c .before .before .before .before .before .before) .before .before .before .before)) (omega (arith, else1 (c .before) .if1 .left))))), refl)
 
 pub behind-front-spec : {M : Type 1} → statement M
 behind-front-spec =

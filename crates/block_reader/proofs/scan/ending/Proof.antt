@@ -18,7 +18,7 @@ use mathlib.Core.Path.{_≡_, ap, sym, _∙_}
 use Rattle.block_reader.proofs.scan.ending.Statement.{statement}
 use Rattle.block_reader.proofs.scan.ending.Tie as tie
 
--- places on the way, each from one that lies further on
+-- places in the function, each reached from one further on
 abbrev start : tie.At-match-keys2 → tie.Start
 start c = c .before .before .before .before .before
 
@@ -28,8 +28,8 @@ start-2 c = c .before .before .before .before .before
 abbrev at-match-keys2 : tie.After-first-unmapped → tie.At-match-keys2
 at-match-keys2 c = c .before .before .before .before .before
 
-abbrev at-n : tie.After-first-unmapped → tie.After-n
-at-n c = c .before .before .before .before
+abbrev after-n : tie.After-first-unmapped → tie.After-n
+after-n c = c .before .before .before .before
 
 -- the first node that is not mapped
 firstUnmapped-is : (c : tie.After-i) → let a = start (at-match-keys2 (c .before .before)) .args in some (c .i .given .0 .0) ≡ firstUnmappedIn (a .scanned .head .version) (drop (a .scanned .lists) (now (a .s))) (now (a .ids))
@@ -118,7 +118,7 @@ with-late-timers-requires c κs =
     ((λ l. late-long _ _ (drop (a .at) s) (bytes-drop (a .at) s b) (late-is (c .before .before .before .before .before .before)) l), omega (arith, late-inside (start (at-match-keys2 (c .before .before)) .pre .1) (late-is (c .before .before .before .before .before .before)), start (at-match-keys2 (c .before .before)) .good .0 .0))
 
 add-t34 : tie.Need-add-t34
-add-t34 c = omega (arith, late-inside (start (at-match-keys2 (c .before .before .before)) .pre .1) (late-is (at-n (c .before .before .before))), start (at-match-keys2 (c .before .before .before)) .good .0 .0)
+add-t34 c = omega (arith, late-inside (start (at-match-keys2 (c .before .before .before)) .pre .1) (late-is (after-n (c .before .before .before))), start (at-match-keys2 (c .before .before .before)) .good .0 .0)
 
 returns-2 : tie.Need-returns-2
 returns-2 c =
@@ -129,7 +129,7 @@ returns-2 c =
 returns-3 : tie.Need-returns-3
 returns-3 c =
     let b : Bytes (now (start (at-match-keys2 (c .before .before .before .before)) .args .s)) = λ i. at-match-keys2 (c .before .before .before .before) .before .before .before .before .shared-slice-known .given i .fits in
-    λ free u. rw (c .width .ensures) (late-firstUnmapped u (late-is (at-n (c .before .before .before .before))) b (c .before .before .before .before .before .before .if1 .left) (firstUnmapped-is (c .before .before)))
+    λ free u. rw (c .width .ensures) (late-firstUnmapped u (late-is (after-n (c .before .before .before .before))) b (c .before .before .before .before .before .before .if1 .left) (firstUnmapped-is (c .before .before)))
 
 returns-4 : tie.Need-returns-4
 returns-4 c =
@@ -138,7 +138,7 @@ returns-4 c =
     let b : Bytes (now (a .s)) = λ i. at-match-keys2 (c .before .before .before) .before .before .before .before .shared-slice-known .given i .fits in
     let e = rw (rest-is (a .scanned .lists) (now (a .s))) at (sym (ap toldUnmapped (c .before .enum-told .given .1)) ∙ c .before .before .before .first-unmapped .ensures)
     ∙ firstUnmapped-there (a .scanned .head .version) (now (a .s)) (now (a .ids)) (a .scanned .lists) (a .at) (q .long) (q .inside) in
-    λ free u. rw (c .with-late-timers .ensures) (late-done u (late-is (at-n (c .before .before .before))) b (c .before .before .before .before .before .if1 .left) e)
+    λ free u. rw (c .with-late-timers .ensures) (late-done u (late-is (after-n (c .before .before .before))) b (c .before .before .before .before .before .if1 .left) e)
 
 pub ending-spec : {M : Type 1} → statement M
 ending-spec =

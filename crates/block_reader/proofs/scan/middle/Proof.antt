@@ -14,21 +14,21 @@ use mathlib.Core.Path.{_≡_, ap, sym, _∙_}
 use Rattle.block_reader.proofs.scan.middle.Statement.{statement}
 use Rattle.block_reader.proofs.scan.middle.Tie as tie
 
--- places on the way, each from one that lies further on
+-- places in the function, each reached from one further on
 abbrev start : tie.After-known-told2 → tie.Start
 start c = c .before .before .before .before .before
 
-abbrev at-known-told2 : tie.After-known-told3 → tie.After-known-told2
-at-known-told2 c = c .before .before .before .before .before
+abbrev after-known-told2₁ : tie.After-known-told3 → tie.After-known-told2
+after-known-told2₁ c = c .before .before .before .before .before
 
-abbrev at-known-told2-2 : tie.After-known-told4 → tie.After-known-told2
-at-known-told2-2 c = c .before .before .before .before .before
+abbrev after-known-told2₂ : tie.After-known-told4 → tie.After-known-told2
+after-known-told2₂ c = c .before .before .before .before .before
 
-abbrev at-known-told4 : tie.After-known-told5 → tie.After-known-told4
-at-known-told4 c = c .before .before .before .before .before
+abbrev after-known-told4₁ : tie.After-known-told5 → tie.After-known-told4
+after-known-told4₁ c = c .before .before .before .before .before
 
-abbrev at-known-told4-2 : tie.After-known-told6 → tie.After-known-told4
-at-known-told4-2 c = c .before .before .before .before .before
+abbrev after-known-told4₂ : tie.After-known-told6 → tie.After-known-told4
+after-known-told4₂ c = c .before .before .before .before .before
 
 metadata-is : (c : tie.After-metadata) → let a = c .before .before .before .before .args in done tt (c .metadata .given .0 .0) ≡ ended (metadata (a .version) .read (now (a .s)))
 metadata-is c = sym (ap toldReach (c .metadata .given .1)) ∙ c .before .before .metadata-list .ensures
@@ -71,10 +71,10 @@ enum-known-fault-2 c = search needs
 
 add-t21 : tie.Need-add-t21
 add-t21 c =
-    let s = now (start (at-known-told2 c) .args .s) in
+    let s = now (start (after-known-told2₁ c) .args .s) in
     let a = c .before .before .before .before .before .before .metadata .given .0 .0 in
     let e = rw (rest-is a s) at (sym (ap toldEarly (c .before .fault2 .given .1)) ∙ c .before .before .before .early-timers .ensures) in
-    omega (arith, metadata-in (c .before .before .before .before .before .before), length-drop a s, told-in timerByte (earlyTimers (start (at-known-told2 c) .args .version)) (drop a s) e)
+    omega (arith, metadata-in (c .before .before .before .before .before .before), length-drop a s, told-in timerByte (earlyTimers (start (after-known-told2₁ c) .args .version)) (drop a s) e)
 
 enum-known-timer : tie.Need-enum-known-timer
 enum-known-timer c = search needs
@@ -102,8 +102,8 @@ add-t29 c = omega (arith, timers-in (c .before .before .before .before .before .
 
 add-t30 : tie.Need-add-t30
 add-t30 c =
-    let s = now (start (at-known-told2-2 (at-known-told4 c)) .args .s) in
-    let a = at-known-told2-2 (at-known-told4 c) .before .metadata .given .0 .0 + c .before .before .before .before .before .before .timer .given .0 .1 .0 in
+    let s = now (start (after-known-told2₂ (after-known-told4₁ c)) .args .s) in
+    let a = after-known-told2₂ (after-known-told4₁ c) .before .metadata .given .0 .0 + c .before .before .before .before .before .before .timer .given .0 .1 .0 in
     let e = rw (rest-is a s) at (sym (ap toldReach (c .before .fault3 .given .1)) ∙ c .before .before .before .object-list .ensures) in
     omega (arith, timers-in (c .before .before .before .before .before .before), length-drop a s, within-ended objects (drop a s) e)
 
@@ -115,21 +115,21 @@ returns c = middle-no-metadata _ _ (sym (ap toldReach (c .before .fault .given .
 
 returns-2 : tie.Need-returns-2
 returns-2 c =
-    let s = now (start (at-known-told2 c) .args .s) in
+    let s = now (start (after-known-told2₁ c) .args .s) in
     let e = rw (rest-is (c .before .before .before .before .before .before .metadata .given .0 .0) s) at (sym (ap toldEarly (c .before .fault2 .given .1)) ∙ c .before .before .before .early-timers .ensures) in
     middle-no-early _ s (metadata-is (c .before .before .before .before .before .before)) e
 
 returns-3 : tie.Need-returns-3
 returns-3 c =
-    let s = now (start (at-known-told2-2 (at-known-told4 c)) .args .s) in
-    let e = rw (rest-is (at-known-told2-2 (at-known-told4 c) .before .metadata .given .0 .0 + c .before .before .before .before .before .before .timer .given .0 .1 .0) s) at (sym (ap toldReach (c .before .fault3 .given .1)) ∙ c .before .before .before .object-list .ensures) in
-    middle-no-objects _ s (metadata-is (at-known-told2-2 (at-known-told4 c) .before)) (timers-are (c .before .before .before .before .before .before)) e
+    let s = now (start (after-known-told2₂ (after-known-told4₁ c)) .args .s) in
+    let e = rw (rest-is (after-known-told2₂ (after-known-told4₁ c) .before .metadata .given .0 .0 + c .before .before .before .before .before .before .timer .given .0 .1 .0) s) at (sym (ap toldReach (c .before .fault3 .given .1)) ∙ c .before .before .before .object-list .ensures) in
+    middle-no-objects _ s (metadata-is (after-known-told2₂ (after-known-told4₁ c) .before)) (timers-are (c .before .before .before .before .before .before)) e
 
 returns-4 : tie.Need-returns-4
 returns-4 c =
-    let s = now (start (at-known-told2-2 (at-known-told4-2 c)) .args .s) in
-    let e = rw (rest-is (at-known-told2-2 (at-known-told4-2 c) .before .metadata .given .0 .0 + c .before .before .before .before .before .before .timer .given .0 .1 .0) s) at (sym (ap toldReach (c .before .objects .given .1)) ∙ c .before .before .before .object-list .ensures) in
-    middle-done _ s (metadata-is (at-known-told2-2 (at-known-told4-2 c) .before)) (timers-are (c .before .before .before .before .before .before)) e (λ i. at-known-told2-2 (at-known-told4-2 c) .before .before .before .before .shared-slice-known .given i .fits)
+    let s = now (start (after-known-told2₂ (after-known-told4₂ c)) .args .s) in
+    let e = rw (rest-is (after-known-told2₂ (after-known-told4₂ c) .before .metadata .given .0 .0 + c .before .before .before .before .before .before .timer .given .0 .1 .0) s) at (sym (ap toldReach (c .before .objects .given .1)) ∙ c .before .before .before .object-list .ensures) in
+    middle-done _ s (metadata-is (after-known-told2₂ (after-known-told4₂ c) .before)) (timers-are (c .before .before .before .before .before .before)) e (λ i. after-known-told2₂ (after-known-told4₂ c) .before .before .before .before .shared-slice-known .given i .fits)
 
 pub middle-spec : {M : Type 1} → statement M
 middle-spec =

@@ -15,7 +15,7 @@ use Rattle.block_reader.proofs.Fronts.{NamesRead, opened-in, nodes-two,
 use Rattle.block_reader.proofs.scan.named_front.Statement.{statement}
 use Rattle.block_reader.proofs.scan.named_front.Tie as tie
 
--- places on the way, each from one that lies further on
+-- places in the function, each reached from one further on
 abbrev at-match-keys2 : tie.At-match2-keys2 → tie.At-match-keys2
 at-match-keys2 c = c .before .before .before .before .before
 

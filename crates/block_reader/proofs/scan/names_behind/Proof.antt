@@ -17,18 +17,18 @@ use mathlib.Core.Path.{_≡_, ap, sym, _∙_}
 use Rattle.block_reader.proofs.scan.names_behind.Statement.{statement}
 use Rattle.block_reader.proofs.scan.names_behind.Tie as tie
 
--- places on the way, each from one that lies further on
+-- places in the function, each reached from one further on
 abbrev start : tie.After-struct-known4 → tie.Start
 start c = c .before .before .before .before .before
 
-abbrev at-struct-known4 : tie.After-timestamp → tie.After-struct-known4
-at-struct-known4 c = c .before .before .before .before .before
+abbrev after-struct-known4₁ : tie.After-timestamp → tie.After-struct-known4
+after-struct-known4₁ c = c .before .before .before .before .before
 
-abbrev at-struct-known4-2 : tie.After-fault → tie.After-struct-known4
-at-struct-known4-2 c = c .before .before .before .before .before
+abbrev after-struct-known4₂ : tie.After-fault → tie.After-struct-known4
+after-struct-known4₂ c = c .before .before .before .before .before
 
-abbrev at-timestamp : tie.After-ending → tie.After-timestamp
-at-timestamp c = c .before .before .before .before .before
+abbrev after-timestamp : tie.After-ending → tie.After-timestamp
+after-timestamp c = c .before .before .before .before .before
 
 bytes : (c : tie.After-shared-slice-known) → Bytes (now (c .before .args .s))
 bytes c i = c .shared-slice-known .given i .fits
@@ -38,19 +38,19 @@ inside : (c : tie.After-shared-slice-known) → let a = c .before .args in a .fr
 inside c = let p = c .before .pre in middle-inside _ _ _ _ (p .1 .1) _ (p .2) (bytes c)
 
 -- the names that were read, and the table with them
-name-mapping-is : (c : tie.After-timestamp) → let a = start (at-struct-known4 c) .args in let at = a .front .end + a .middle .metadata + a .middle .early + a .middle .objects in let g = c .timestamp .given .0 in
+name-mapping-is : (c : tie.After-timestamp) → let a = start (after-struct-known4₁ c) .args in let at = a .front .end + a .middle .metadata + a .middle .early + a .middle .objects in let g = c .timestamp .given .0 in
     (done (pair (g .0) (g .1 .0)) (g .1 .1 .0) ≡ mapRead shownMapping (nameMapping (freeIn (now (a .ids))) .read (drop at (now (a .s)))))
     × NameMappingMarked (now (a .ids)) (c .before .before .name-mapping .last .1 .0) (nameMapping (freeIn (now (a .ids))) .read (drop at (now (a .s))))
 name-mapping-is c =
-    let a = start (at-struct-known4 c) .args in
+    let a = start (after-struct-known4₁ c) .args in
     let e = rw (rest-is (a .front .end + a .middle .metadata + a .middle .early + a .middle .objects) (now (a .s))) at (c .before .before .name-mapping .ensures) in
     (sym (ap toldMapping (c .timestamp .given .1)) ∙ e .0, e .1)
 
-names-are : (c : tie.After-timestamp) → let a = start (at-struct-known4 c) .args in
+names-are : (c : tie.After-timestamp) → let a = start (after-struct-known4₁ c) .args in
     (7 ≤ c .timestamp .given .0 .1 .1 .0) × (a .front .end + a .middle .metadata + a .middle .early + a .middle .objects + c .timestamp .given .0 .1 .1 .0 ≤ length (now (a .s)))
 names-are c =
-    let p = start (at-struct-known4 c) .pre in
-    names-long _ _ _ _ (p .1 .1) _ (p .2) (bytes (at-struct-known4 c .before .before .before .before)) (p .0) (name-mapping-is c .0)
+    let p = start (after-struct-known4₁ c) .pre in
+    names-long _ _ _ _ (p .1 .1) _ (p .2) (bytes (after-struct-known4₁ c .before .before .before .before)) (p .0) (name-mapping-is c .0)
 
 add-at : tie.Need-add-at
 add-at c = omega (arith, inside (c .before .before))
@@ -78,10 +78,10 @@ enum-known-fault c = search needs
 
 add-t21 : tie.Need-add-t21
 add-t21 c =
-    let a = start (at-struct-known4-2 (c .before)) .args in
+    let a = start (after-struct-known4₂ (c .before)) .args in
     let s = now (a .s) in
     let e = rw (rest-is _ s) at (sym (ap toldMapping (c .before .fault .given .1)) ∙ c .before .before .before .name-mapping .ensures .0) in
-    omega (arith, inside (at-struct-known4-2 (c .before) .before .before .before .before), length-drop (a .front .end + a .middle .metadata + a .middle .early + a .middle .objects) s, told-in shownMapping (nameMapping (freeIn (now (a .ids)))) (drop (a .front .end + a .middle .metadata + a .middle .early + a .middle .objects) s) e)
+    omega (arith, inside (after-struct-known4₂ (c .before) .before .before .before .before), length-drop (a .front .end + a .middle .metadata + a .middle .early + a .middle .objects) s, told-in shownMapping (nameMapping (freeIn (now (a .ids)))) (drop (a .front .end + a .middle .metadata + a .middle .early + a .middle .objects) s) e)
 
 enum-known-timestamp : tie.Need-enum-known-timestamp
 enum-known-timestamp c = search needs
@@ -89,21 +89,21 @@ enum-known-timestamp c = search needs
 rows-of-requires : tie.Need-rows-of-requires
 rows-of-requires c κs =
     let k = names-are (c .before) in
-    (k .0, omega (arith, k .1, start (at-struct-known4 (c .before)) .good .0 .0))
+    (k .0, omega (arith, k .1, start (after-struct-known4₁ (c .before)) .good .0 .0))
 
 without-late-timers-requires : tie.Need-without-late-timers-requires
-without-late-timers-requires c κs = let p = start (at-struct-known4 (c .before .before)) .pre in sized _ _ _ _ (p .1 .1) _ (p .2) (bytes (at-struct-known4 (c .before .before) .before .before .before .before)) (start (at-struct-known4 (c .before .before)) .good .0 .0)
+without-late-timers-requires c κs = let p = start (after-struct-known4₁ (c .before .before)) .pre in sized _ _ _ _ (p .1 .1) _ (p .2) (bytes (after-struct-known4₁ (c .before .before) .before .before .before .before)) (start (after-struct-known4₁ (c .before .before)) .good .0 .0)
 
 add-ending : tie.Need-add-ending
-add-ending c = omega (arith, names-are (c .before .before .before) .1, start (at-struct-known4 (c .before .before .before)) .good .0 .0)
+add-ending c = omega (arith, names-are (c .before .before .before) .1, start (after-struct-known4₁ (c .before .before .before)) .good .0 .0)
 
 ending-requires : tie.Need-ending-requires
 ending-requires c κs =
-    let p = start (at-struct-known4 (c .before .before .before .before)) .pre in
-    (freeIn (p .1 .0), rw (c .before .without-late-timers .ensures, c .before .before .rows-of .ensures) (names-upto _ _ _ _ (p .1 .1) _ (p .2) (bytes (at-struct-known4 (c .before .before .before .before) .before .before .before .before)) (p .0) (name-mapping-is (c .before .before .before .before) .0) _ (name-mapping-is (c .before .before .before .before) .1)))
+    let p = start (after-struct-known4₁ (c .before .before .before .before)) .pre in
+    (freeIn (p .1 .0), rw (c .before .without-late-timers .ensures, c .before .before .rows-of .ensures) (names-upto _ _ _ _ (p .1 .1) _ (p .2) (bytes (after-struct-known4₁ (c .before .before .before .before) .before .before .before .before)) (p .0) (name-mapping-is (c .before .before .before .before) .0) _ (name-mapping-is (c .before .before .before .before) .1)))
 
 add-unmark : tie.Need-add-unmark
-add-unmark c = omega (arith, names-are (c .before .before .before .before .before), start (at-struct-known4 (at-timestamp c)) .good .0 .0)
+add-unmark c = omega (arith, names-are (c .before .before .before .before .before), start (after-struct-known4₁ (after-timestamp c)) .good .0 .0)
 
 sub-unmark : tie.Need-sub-unmark
 sub-unmark c = omega (arith, names-are (c .before .before .before .before .before))
@@ -119,22 +119,22 @@ unmark-requires c κs = search needs
 
 returns : tie.Need-returns
 returns c =
-    let a = start (at-struct-known4-2 (c .before)) .args in
-    let p = start (at-struct-known4-2 (c .before)) .pre in
+    let a = start (after-struct-known4₂ (c .before)) .args in
+    let p = start (after-struct-known4₂ (c .before)) .pre in
     let at = a .front .end + a .middle .metadata + a .middle .early + a .middle .objects in
     let r = nameMapping (freeIn (now (a .ids))) .read (drop at (now (a .s))) in
     let e = rw (rest-is at (now (a .s))) at (c .before .before .before .name-mapping .ensures) in
     let k = sym (ap toldMapping (c .before .fault .given .1)) ∙ e .0 in
-    ((λ t F. no-names t _ _ _ F _ (p .2) (bytes (at-struct-known4-2 (c .before) .before .before .before .before)) (p .0) k), rw (map-refused shownMapping r _ _ (sym k)) at (e .1))
+    ((λ t F. no-names t _ _ _ F _ (p .2) (bytes (after-struct-known4₂ (c .before) .before .before .before .before)) (p .0) k), rw (map-refused shownMapping r _ _ (sym k)) at (e .1))
 
 returns-2 : tie.Need-returns-2
 returns-2 c =
-    let a = start (at-struct-known4 (at-timestamp (c .before .before .before))) .args in
-    let p = start (at-struct-known4 (at-timestamp (c .before .before .before))) .pre in
+    let a = start (after-struct-known4₁ (after-timestamp (c .before .before .before))) .args in
+    let p = start (after-struct-known4₁ (after-timestamp (c .before .before .before))) .pre in
     let at = a .front .end + a .middle .metadata + a .middle .early + a .middle .objects in
-    let e = name-mapping-is (at-timestamp (c .before .before .before)) in (
-      (λ t F. c .before .before .before .ending .ensures (freeIn t) (rw (c .before .before .before .before .before .without-late-timers .ensures, c .before .before .before .before .before .before .rows-of .ensures) (names-upto t _ _ _ F _ (p .2) (bytes (at-struct-known4 (at-timestamp (c .before .before .before)) .before .before .before .before)) (p .0) (e .0) _ (e .1)))),
-      rw (rest-is (at + 7) (now (a .s))) at (c .unmark .ensures) ∙ names-restored _ _ _ _ (p .1 .1) _ (p .2) (bytes (at-struct-known4 (at-timestamp (c .before .before .before)) .before .before .before .before)) (p .0) (e .0) _ (e .1),
+    let e = name-mapping-is (after-timestamp (c .before .before .before)) in (
+      (λ t F. c .before .before .before .ending .ensures (freeIn t) (rw (c .before .before .before .before .before .without-late-timers .ensures, c .before .before .before .before .before .before .rows-of .ensures) (names-upto t _ _ _ F _ (p .2) (bytes (after-struct-known4₁ (after-timestamp (c .before .before .before)) .before .before .before .before)) (p .0) (e .0) _ (e .1)))),
+      rw (rest-is (at + 7) (now (a .s))) at (c .unmark .ensures) ∙ names-restored _ _ _ _ (p .1 .1) _ (p .2) (bytes (after-struct-known4₁ (after-timestamp (c .before .before .before)) .before .before .before .before)) (p .0) (e .0) _ (e .1),
     )
 
 pub names-behind-spec : {M : Type 1} → statement M

@@ -13,18 +13,18 @@ use mathlib.Core.Path.{_≡_, sym, _∙_}
 use Rattle.block_reader.proofs.scan.opening.Statement.{statement}
 use Rattle.block_reader.proofs.scan.opening.Tie as tie
 
--- places on the way, each from one that lies further on
+-- places in the function, each reached from one further on
 abbrev start : tie.After-known-told → tie.Start
 start c = c .before .before .before .before .before
 
-abbrev at-known-told : tie.After-flags → tie.After-known-told
-at-known-told c = c .before .before .before .before .before
+abbrev after-known-told : tie.After-flags → tie.After-known-told
+after-known-told c = c .before .before .before .before .before
 
-abbrev at-flags : tie.After-enum-told3 → tie.After-flags
-at-flags c = c .before .before .before .before .before
+abbrev after-flags₁ : tie.After-enum-told3 → tie.After-flags
+after-flags₁ c = c .before .before .before .before .before
 
-abbrev at-flags-2 : tie.After-lighting → tie.After-flags
-at-flags-2 c = c .before .before .before .before .before
+abbrev after-flags₂ : tie.After-lighting → tie.After-flags
+after-flags₂ c = c .before .before .before .before .before
 
 version-is : (c : tie.After-version) → num 1 .read (now (c .before .before .before .before .args .s)) ≡ done (c .version .given .0 .0) 1
 version-is c = by-number 1 _ toldU8 (c .before .before .u8-at .ensures) (c .version .given .1)
@@ -32,7 +32,7 @@ version-is c = by-number 1 _ toldU8 (c .before .before .u8-at .ensures) (c .vers
 version-good : (c : tie.Else1) → isVersion (c .before .before .before .version .given .0 .0) ≡ true
 version-good c = sym (c .before .is-version .ensures) ∙ not-false _ (c .if1 .left)
 
-flags-is : (c : tie.After-flags) → num 1 .read (drop 1 (now (start (at-known-told c) .args .s))) ≡ done (c .flags .given .0 .0) 1
+flags-is : (c : tie.After-flags) → num 1 .read (drop 1 (now (start (after-known-told c) .args .s))) ≡ done (c .flags .given .0 .0) 1
 flags-is c = by-number 1 _ toldU8 (c .before .before .u8-at2 .ensures) (c .flags .given .1)
 
 u8-at-requires : tie.Need-u8-at-requires
@@ -69,7 +69,7 @@ opened-requires : tie.Need-opened-requires
 opened-requires c κs = search needs
 
 returns-4 : tie.Need-returns-4
-returns-4 c = c .opened .ensures ∙ sym (opening-unlit _ (version-is (at-known-told (c .before .before .before) .before)) (version-good (c .before .before .before .before .before .before)) (flags-is (c .before .before .before)) (c .before .if2 .taken))
+returns-4 c = c .opened .ensures ∙ sym (opening-unlit _ (version-is (after-known-told (c .before .before .before) .before)) (version-good (c .before .before .before .before .before .before)) (flags-is (c .before .before .before)) (c .before .if2 .taken))
 
 u16-at-requires : tie.Need-u16-at-requires
 u16-at-requires c κs = search needs
@@ -84,12 +84,12 @@ opened-requires-2 : tie.Need-opened-requires-2
 opened-requires-2 c κs = search needs
 
 returns-5 : tie.Need-returns-5
-returns-5 c = sym (opening-no-light _ (version-is (at-known-told (at-flags c) .before)) (version-good (at-flags c .before .before .before)) (flags-is (c .before .before .before .before .before)) (c .before .before .before .if2 .left) (by-number 2 _ toldU16 (c .before .before .u16-at .ensures) (c .enum-told3 .given .1)))
+returns-5 c = sym (opening-no-light _ (version-is (after-known-told (after-flags₁ c) .before)) (version-good (after-flags₁ c .before .before .before)) (flags-is (c .before .before .before .before .before)) (c .before .before .before .if2 .left) (by-number 2 _ toldU16 (c .before .before .u16-at .ensures) (c .enum-told3 .given .1)))
 
 returns-6 : tie.Need-returns-6
 returns-6 c =
     c .opened2 .ensures
-    ∙ sym (opening-lit _ (version-is (at-known-told (at-flags-2 (c .before .before)) .before)) (version-good (at-flags-2 (c .before .before) .before .before .before)) (flags-is (at-flags-2 (c .before .before))) (c .before .before .before .before .before .if2 .left) (by-number 2 _ toldU16 (c .before .before .before .before .u16-at .ensures) (c .before .before .lighting .given .1)))
+    ∙ sym (opening-lit _ (version-is (after-known-told (after-flags₂ (c .before .before)) .before)) (version-good (after-flags₂ (c .before .before) .before .before .before)) (flags-is (after-flags₂ (c .before .before))) (c .before .before .before .before .before .if2 .left) (by-number 2 _ toldU16 (c .before .before .before .before .u16-at .ensures) (c .before .before .lighting .given .1)))
 
 pub opening-spec : {M : Type 1} → statement M
 opening-spec =

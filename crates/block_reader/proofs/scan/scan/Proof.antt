@@ -12,7 +12,7 @@ use mathlib.Core.Path.{_∙_}
 use Rattle.block_reader.proofs.scan.scan.Statement.{statement}
 use Rattle.block_reader.proofs.scan.scan.Tie as tie
 
--- places in the function, each from the places behind it
+-- places in the function, each reached from one further on
 abbrev start : tie.After-unmark → tie.Start
 start c = c .before .before .before .before .before .before .before .before .before .before .before
 

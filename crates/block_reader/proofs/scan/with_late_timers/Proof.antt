@@ -2,7 +2,7 @@ use borrow.Author.Tests.{le-leb, lt-leb}
 use Rattle.block_reader.proofs.scan.with_late_timers.Statement.{statement}
 use Rattle.block_reader.proofs.scan.with_late_timers.Tie as tie
 
--- places in the function, each from the places behind it
+-- places in the function, each reached from one further on
 abbrev start : tie.After-objects → tie.Start
 start c = c .before .before .before .before .before .before .before
 

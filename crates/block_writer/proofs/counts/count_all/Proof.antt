@@ -10,7 +10,7 @@ use Rattle.block_writer.proofs.RowCounts.{counts-are}
 use Rattle.block_writer.proofs.counts.count_all.Statement.{statement}
 use Rattle.block_writer.proofs.counts.count_all.Tie as tie
 
--- places in the function, each from the places behind it
+-- places in the function, each reached from one further on
 abbrev start : tie.After-known-told → tie.Start
 start c = c .before .before .before .before .before .before .before .before
 

@@ -20,7 +20,7 @@ Inv-loop section version s rest₀ left₀ rest left = Counting (frameOf section
 abbrev μ-loop : tie.MeasureT-loop
 μ-loop section version s rest₀ left₀ rest left = left
 
--- places in the function, each from the places behind it
+-- places in the function, each reached from one further on
 abbrev start : tie.After-known-told Inv-loop μ-loop → tie.Start Inv-loop μ-loop
 start c = c .before .before .before .before .before .before .before .before
 

@@ -19,7 +19,7 @@ Inv-loop version param0 param2 ids i₀ i = firstFrom (unmarkedAmong version par
 abbrev μ-loop : tie.MeasureT-loop
 μ-loop version param0 param2 ids i₀ i = 4096 - i
 
--- places in the function, each from the places behind it
+-- places in the function, each reached from one further on
 abbrev start : tie.After-content-id Inv-loop μ-loop → tie.Start Inv-loop μ-loop
 start c = c .before .before .before .before .before .before .before
 

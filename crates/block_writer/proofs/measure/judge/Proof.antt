@@ -16,7 +16,7 @@ use Rattle.block_writer.proofs.Fitting.{fits-plain, fits-headFits, fits
 use Rattle.block_writer.proofs.MadeBlock.{made-by}
 use Rattle.block_writer.proofs.Judged.{nodes-there, judged-front, judged-rest, judged-done, judged-firstUnmapped}
 
--- places in the function, each from the places behind it
+-- places in the function, each reached from one further on
 abbrev start₁ : tie.After-shared-slice-known7 → tie.Start
 start₁ c = c .before .before .before .before .before .before .before
 
@@ -26,11 +26,11 @@ start₂ c = start₁ (c .before .before .before .before .before .before .before
 abbrev start₃ : tie.After-ids3 → tie.Start
 start₃ c = start₁ (c .before .before .before .before .before .before .before .before .before .before .before)
 
-abbrev after-slice7₁ : tie.After-enum-told2 → tie.After-shared-slice-known7
-after-slice7₁ c = c .before .before .before .before .before .before .before .before .before
+abbrev after-shared-slice-known7₁ : tie.After-enum-told2 → tie.After-shared-slice-known7
+after-shared-slice-known7₁ c = c .before .before .before .before .before .before .before .before .before
 
-abbrev after-slice7₂ : tie.After-ids3 → tie.After-shared-slice-known7
-after-slice7₂ c = c .before .before .before .before .before .before .before .before .before .before .before
+abbrev after-shared-slice-known7₂ : tie.After-ids3 → tie.After-shared-slice-known7
+after-shared-slice-known7₂ c = c .before .before .before .before .before .before .before .before .before .before .before
 
 abbrev after-judge-front₁ : tie.After-enum-told2 → tie.After-judge-front
 after-judge-front₁ c = c .before .before .before .before .before .before .before
@@ -89,7 +89,7 @@ shift-requires c κs = omega (arith, after-judge-front₁ c .judge-front .ensure
 
 returns-2 : tie.Need-returns-2
 returns-2 c =
-    let p = parts (after-slice7₁ (c .before)) in
+    let p = parts (after-shared-slice-known7₁ (c .before)) in
     let version = start₂ (c .before) .pre .version in
     let fit = start₂ (c .before) .pre .fit in
     let held = start₂ (c .before) .pre .typed in
@@ -99,8 +99,8 @@ returns-2 c =
 
 first-unmapped-requires : tie.Need-first-unmapped-requires
 first-unmapped-requires c κs =
-    let f = fits-plain (parts (after-slice7₂ c)) .0 (start₃ c .pre .fit) in
-    (f .size0, f .size2, fits-narrow (parts (after-slice7₂ c)) (start₃ c .pre .fit))
+    let f = fits-plain (parts (after-shared-slice-known7₂ c)) .0 (start₃ c .pre .fit) in
+    (f .size0, f .size2, fits-narrow (parts (after-shared-slice-known7₂ c)) (start₃ c .pre .fit))
 
 enum-told-3 : tie.Need-enum-told-3
 enum-told-3 c = search needs
@@ -128,7 +128,7 @@ add-t28 c = rw (c .width .ensures) (omega (arith, firstUnmapped-at (c .before .b
 
 returns-3 : tie.Need-returns-3
 returns-3 c =
-    let p = parts (after-slice7₂ (c .before .before .before)) in
+    let p = parts (after-shared-slice-known7₂ (c .before .before .before)) in
     let version = start₃ (c .before .before .before) .pre .version in
     let fit = start₃ (c .before .before .before) .pre .fit in
     let held = start₃ (c .before .before .before) .pre .typed in
@@ -138,7 +138,7 @@ returns-3 c =
 
 returns-4 : tie.Need-returns-4
 returns-4 c =
-    let p = parts (after-slice7₂ (c .before .before .before .before .before .before)) in
+    let p = parts (after-shared-slice-known7₂ (c .before .before .before .before .before .before)) in
     let version = start₃ (c .before .before .before .before .before .before) .pre .version in
     let fit = start₃ (c .before .before .before .before .before .before) .pre .fit in
     let held = start₃ (c .before .before .before .before .before .before) .pre .typed in

@@ -13,12 +13,12 @@ use Rattle.block_writer.specs.Judging.{mappingOn}
 use Rattle.block_writer.proofs.BlockJudging.{name-mapping-settled, ending-late, ending-refused, ending-on}
 use Rattle.block_writer.proofs.PiecesJudging.{shift-reach}
 
--- places in the function, each from the places behind it
+-- places in the function, each reached from one further on
 abbrev start : tie.After-judge-name-mapping → tie.Start
 start c = c .before .before .before .before .before .before
 
-abbrev after-slice : tie.After-judge-name-mapping → tie.After-shared-slice-known
-after-slice c = c .before .before .before .before .before
+abbrev after-shared-slice-known : tie.After-judge-name-mapping → tie.After-shared-slice-known
+after-shared-slice-known c = c .before .before .before .before .before
 
 judge-late-timers-requires : tie.Need-judge-late-timers-requires
 judge-late-timers-requires c κs = search needs
@@ -37,7 +37,7 @@ enum-told c = search needs
 
 returns-2 : tie.Need-returns-2
 returns-2 c =
-    let b : Bytes (now (start (c .before .before) .args .names)) = λ i. after-slice (c .before .before) .shared-slice-known .given i .fits in
+    let b : Bytes (now (start (c .before .before) .args .names)) = λ i. after-shared-slice-known (c .before .before) .shared-slice-known .given i .fits in
     let time : start (c .before .before) .args .head .timestamp < 4294967296 = search needs in (
       (λ l k x y f.
           let nameMapping = mappingOn (start (c .before .before) .args .head) l in
@@ -53,7 +53,7 @@ shift-requires c κs = omega (arith, c .before .before .before .before .judge-na
 
 returns-3 : tie.Need-returns-3
 returns-3 c =
-    let b : Bytes (now (start (c .before .before .before .before .before) .args .names)) = λ i. after-slice (c .before .before .before .before .before) .shared-slice-known .given i .fits in
+    let b : Bytes (now (start (c .before .before .before .before .before) .args .names)) = λ i. after-shared-slice-known (c .before .before .before .before .before) .shared-slice-known .given i .fits in
     let time : start (c .before .before .before .before .before) .args .head .timestamp < 4294967296 = search needs in (
       (λ l k x y f.
           let nameMapping = mappingOn (start (c .before .before .before .before .before) .args .head) l in

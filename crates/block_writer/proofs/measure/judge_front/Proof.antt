@@ -16,12 +16,12 @@ use Rattle.block_writer.specs.Judging.{openingOn, mappingOn}
 use Rattle.block_writer.proofs.BlockJudging.{opening-ok, opening-few, lists-few, name-mapping-settled, front-plain, front-refused, front-named, same-end}
 use Rattle.block_writer.proofs.PiecesJudging.{shift-reach}
 
--- places in the function, each from the places behind it
+-- places in the function, each reached from one further on
 abbrev start : tie.After-judge-name-mapping → tie.Start
 start c = c .before .before .before .before .before .before .before
 
-abbrev after-slice : tie.After-judge-name-mapping → tie.After-shared-slice-known
-after-slice c = c .before .before .before .before .before .before
+abbrev after-shared-slice-known : tie.After-judge-name-mapping → tie.After-shared-slice-known
+after-shared-slice-known c = c .before .before .before .before .before .before
 
 abbrev after-opening-length : tie.After-judge-name-mapping → tie.After-opening-length
 after-opening-length c = c .before .before .before .before .before
@@ -67,11 +67,11 @@ enum-told c = search needs
 
 returns-2 : tie.Need-returns-2
 returns-2 c =
-    let b : Bytes (now (start (c .before .before .before) .args .names)) = λ i. after-slice (c .before .before .before) .shared-slice-known .given i .fits in (
+    let b : Bytes (now (start (c .before .before .before) .args .names)) = λ i. after-shared-slice-known (c .before .before .before) .shared-slice-known .given i .fits in (
       (λ l n x i f k.
           let nameMapping = mappingOn (start (c .before .before .before) .args .head) l in
-          front-refused (start (c .before .before .before) .args .head) l n (opened (after-slice (c .before .before .before)) i f) k (after-opening-length (c .before .before .before) .opening-length .ensures) (after-lists-length (c .before .before .before) .lists-length .ensures) (c .before .before .before .before .before .if1 .left)
-          (name-mapping-settled (freeIn (now (start (c .before .before .before) .args .ids))) nameMapping b (in-time (after-slice (c .before .before .before))) x) (c .before .before .before .judge-name-mapping .ensures .0 nameMapping (in-time (after-slice (c .before .before .before))) x) (c .before .before .shift .ensures) (ap toldReach (c .enum-told .given .1))),
+          front-refused (start (c .before .before .before) .args .head) l n (opened (after-shared-slice-known (c .before .before .before)) i f) k (after-opening-length (c .before .before .before) .opening-length .ensures) (after-lists-length (c .before .before .before) .lists-length .ensures) (c .before .before .before .before .before .if1 .left)
+          (name-mapping-settled (freeIn (now (start (c .before .before .before) .args .ids))) nameMapping b (in-time (after-shared-slice-known (c .before .before .before))) x) (c .before .before .before .judge-name-mapping .ensures .0 nameMapping (in-time (after-shared-slice-known (c .before .before .before))) x) (c .before .before .shift .ensures) (ap toldReach (c .enum-told .given .1))),
       (
         omega (arith, after-lists-length (c .before .before .before) .lists-length .ensures, lists-few (start (c .before .before .before) .args .head .version), after-opening-length (c .before .before .before) .opening-length .ensures, opening-few (start (c .before .before .before) .args .head .version), c .before .before .before .judge-name-mapping .ensures .1, shift-reach (after-opening-length (c .before .before .before) .opening-length .result) (toldReach (c .before .before .before .judge-name-mapping .result)), ap reach (c .before .before .shift .ensures)),
         (λ n x. not-done (sym (ap toldReach (c .enum-told .given .1)) ∙ x)),
@@ -83,11 +83,11 @@ add-t9 c = omega (arith, after-lists-length (c .before .before .before .before) 
 
 returns-3 : tie.Need-returns-3
 returns-3 c =
-    let b : Bytes (now (start (c .before .before .before .before) .args .names)) = λ i. after-slice (c .before .before .before .before) .shared-slice-known .given i .fits in (
+    let b : Bytes (now (start (c .before .before .before .before) .args .names)) = λ i. after-shared-slice-known (c .before .before .before .before) .shared-slice-known .given i .fits in (
       (λ l n x i f k.
           let nameMapping = mappingOn (start (c .before .before .before .before) .args .head) l in
-          front-named (start (c .before .before .before .before) .args .head) l n (opened (after-slice (c .before .before .before .before)) i f) k (after-opening-length (c .before .before .before .before) .opening-length .ensures) (after-lists-length (c .before .before .before .before) .lists-length .ensures) (c .before .before .before .before .before .before .if1 .left)
-          (name-mapping-settled (freeIn (now (start (c .before .before .before .before) .args .ids))) nameMapping b (in-time (after-slice (c .before .before .before .before))) x) (c .before .before .before .before .judge-name-mapping .ensures .0 nameMapping (in-time (after-slice (c .before .before .before .before))) x) (c .before .before .before .shift .ensures) (ap toldReach (c .before .named .given .1))),
+          front-named (start (c .before .before .before .before) .args .head) l n (opened (after-shared-slice-known (c .before .before .before .before)) i f) k (after-opening-length (c .before .before .before .before) .opening-length .ensures) (after-lists-length (c .before .before .before .before) .lists-length .ensures) (c .before .before .before .before .before .before .if1 .left)
+          (name-mapping-settled (freeIn (now (start (c .before .before .before .before) .args .ids))) nameMapping b (in-time (after-shared-slice-known (c .before .before .before .before))) x) (c .before .before .before .before .judge-name-mapping .ensures .0 nameMapping (in-time (after-shared-slice-known (c .before .before .before .before))) x) (c .before .before .before .shift .ensures) (ap toldReach (c .before .named .given .1))),
       (
         omega (arith, after-lists-length (c .before .before .before .before) .lists-length .ensures, lists-few (start (c .before .before .before .before) .args .head .version), after-opening-length (c .before .before .before .before) .opening-length .ensures, opening-few (start (c .before .before .before .before) .args .head .version), c .before .before .before .before .judge-name-mapping .ensures .1, shift-reach (after-opening-length (c .before .before .before .before) .opening-length .result) (toldReach (c .before .before .before .before .judge-name-mapping .result)), ap reach (c .before .before .before .shift .ensures), ap (λ r. reach (toldReach r)) (c .before .named .given .1)),
         (λ n x. same-end x (omega (arith, after-lists-length (c .before .before .before .before) .lists-length .ensures))),

@@ -13,21 +13,21 @@ use Rattle.block_writer.proofs.BlockJudging.{metadata-settled, objects-
 use Rattle.block_writer.proofs.TimersJudging.{early-settled}
 use Rattle.block_writer.proofs.PiecesJudging.{shift-reach}
 
--- places in the function, each from the places behind it
+-- places in the function, each reached from one further on
 abbrev start₁ : tie.After-enum-told → tie.Start
 start₁ c = c .before .before .before .before .before .before .before
 
 abbrev start₂ : tie.After-judge-early-timers → tie.Start
 start₂ c = c .before .before .before .before .before .before .before .before .before
 
-abbrev after-slice2 : tie.After-judge-early-timers → tie.After-shared-slice-known2
-after-slice2 c = c .before .before .before .before .before .before .before
+abbrev after-shared-slice-known2 : tie.After-judge-early-timers → tie.After-shared-slice-known2
+after-shared-slice-known2 c = c .before .before .before .before .before .before .before
 
-abbrev after-slice3 : tie.After-judge-early-timers → tie.After-shared-slice-known3
-after-slice3 c = c .before .before .before .before .before .before
+abbrev after-shared-slice-known3 : tie.After-judge-early-timers → tie.After-shared-slice-known3
+after-shared-slice-known3 c = c .before .before .before .before .before .before
 
-abbrev after-slice4 : tie.After-judge-early-timers → tie.After-shared-slice-known4
-after-slice4 c = c .before .before .before .before .before
+abbrev after-shared-slice-known4 : tie.After-judge-early-timers → tie.After-shared-slice-known4
+after-shared-slice-known4 c = c .before .before .before .before .before
 
 abbrev after-judge-metadata : tie.After-judge-early-timers → tie.After-judge-metadata
 after-judge-metadata c = c .before .before .before .before
@@ -69,8 +69,8 @@ shift-requires c κs = omega (arith, c .before .before .before .before .before .
 
 returns-2 : tie.Need-returns-2
 returns-2 c =
-    let bm : Bytes (now (start₂ (c .before .before .before) .args .metadata)) = λ i. after-slice2 (c .before .before .before) .shared-slice-known2 .given i .fits in
-    let bt : Bytes (now (start₂ (c .before .before .before) .args .timers)) = λ i. after-slice4 (c .before .before .before) .shared-slice-known4 .given i .fits in
+    let bm : Bytes (now (start₂ (c .before .before .before) .args .metadata)) = λ i. after-shared-slice-known2 (c .before .before .before) .shared-slice-known2 .given i .fits in
+    let bt : Bytes (now (start₂ (c .before .before .before) .args .timers)) = λ i. after-shared-slice-known4 (c .before .before .before) .shared-slice-known4 .given i .fits in
     let h = start₂ (c .before .before .before) .args .head in (
       (λ l m o k w f t.
           rest-no-early h l m o k (metadata-settled (h .version) bm (w .metadata)) (sym (ap toldReach (c .before .before .before .before .before .first .given .1)) ∙ after-judge-metadata (c .before .before .before) .judge-metadata .ensures .0 m (w .metadata))
@@ -95,10 +95,10 @@ shift-requires-2 c κs = omega (arith, after-judge-metadata (c .before .before .
 
 returns-3 : tie.Need-returns-3
 returns-3 c =
-    let bm : Bytes (now (start₂ (c .before .before .before .before .before .before) .args .metadata)) = λ i. after-slice2 (c .before .before .before .before .before .before) .shared-slice-known2 .given i .fits in
-    let bt : Bytes (now (start₂ (c .before .before .before .before .before .before) .args .timers)) = λ i. after-slice4 (c .before .before .before .before .before .before) .shared-slice-known4 .given i .fits in
+    let bm : Bytes (now (start₂ (c .before .before .before .before .before .before) .args .metadata)) = λ i. after-shared-slice-known2 (c .before .before .before .before .before .before) .shared-slice-known2 .given i .fits in
+    let bt : Bytes (now (start₂ (c .before .before .before .before .before .before) .args .timers)) = λ i. after-shared-slice-known4 (c .before .before .before .before .before .before) .shared-slice-known4 .given i .fits in
     let h = start₂ (c .before .before .before .before .before .before) .args .head in
-    let bo : Bytes (now (start₂ (c .before .before .before .before .before .before) .args .objects)) = λ i. after-slice3 (c .before .before .before .before .before .before) .shared-slice-known3 .given i .fits in (
+    let bo : Bytes (now (start₂ (c .before .before .before .before .before .before) .args .objects)) = λ i. after-shared-slice-known3 (c .before .before .before .before .before .before) .shared-slice-known3 .given i .fits in (
       (λ l m o k w f t.
           rest-on h l m o k (metadata-settled (h .version) bm (w .metadata)) (sym (ap toldReach (after-first (c .before .before .before .before .before .before) .first .given .1)) ∙ after-judge-metadata (c .before .before .before .before .before .before) .judge-metadata .ensures .0 m (w .metadata))
           (early-settled h bt (w .timers) f (timer-byte (after-judge-metadata (c .before .before .before .before .before .before))) t) (sym (ap toldReach (c .before .before .before .before .second .given .1)) ∙ c .before .before .before .before .before .before .judge-early-timers .ensures .0 k (w .timers) f t)

@@ -9,7 +9,7 @@ use Prim.Native.Nat.{_<_}
 use Rattle.block_writer.proofs.TimersJudging.{early-above, early-zero, early-one}
 use Rattle.block_writer.proofs.PiecesJudging.{shift-reach}
 
--- places in the function, each from the places behind it
+-- places in the function, each reached from one further on
 
 abbrev start : tie.After-shift → tie.Start
 start c = c .before .before .before .before .before .before .before

@@ -13,15 +13,15 @@ use Rattle.block_writer.specs.BlockParts.{BlockParts, WellTyped, blockPa
 use Rattle.block_writer.specs.Sections.{countsIn, toldCounts}
 use Rattle.block_writer.proofs.Written.{bad-version, misfit, ragged, section-rows, blockIs, small, refuses, writes}
 
--- places in the function, each from the places behind it
+-- places in the function, each reached from one further on
 abbrev start : tie.After-shared-slice-known7 → tie.Start
 start c = c .before .before .before .before .before .before .before
 
-abbrev after-slice7₁ : tie.After-enum-told → tie.After-shared-slice-known7
-after-slice7₁ c = c .before .before .before .before .before .before .before
+abbrev after-shared-slice-known7₁ : tie.After-enum-told → tie.After-shared-slice-known7
+after-shared-slice-known7₁ c = c .before .before .before .before .before .before .before
 
-abbrev after-slice7₂ : tie.After-known-told → tie.After-shared-slice-known7
-after-slice7₂ c = c .before .before .before .before .before .before .before .before
+abbrev after-shared-slice-known7₂ : tie.After-known-told → tie.After-shared-slice-known7
+after-shared-slice-known7₂ c = c .before .before .before .before .before .before .before .before
 
 abbrev else1 : tie.After-known-told → tie.Else1
 else1 c = c .before .before .before .before .before .before
@@ -56,14 +56,14 @@ version-is c = sym (c .before .is-version .ensures) ∙ not-false _ (c .if1 .lef
 fit-is : (c : tie.Else2) → fits (parts (c .before .before .before .before)) ≡ true
 fit-is c = sym (c .before .fit .ensures) ∙ not-false _ (c .if2 .left)
 
-count-is : (c : tie.After-known-told) → let p = parts (after-slice7₂ c) in some (c .before .counts .given .0 .0) ≡ countsIn (p .head .version) (p .names) (p .metadata) (p .objects) (p .timers)
+count-is : (c : tie.After-known-told) → let p = parts (after-shared-slice-known7₂ c) in some (c .before .counts .given .0 .0) ≡ countsIn (p .head .version) (p .names) (p .metadata) (p .objects) (p .timers)
 count-is c = sym (ap toldCounts (c .before .counts .given .1)) ∙ c .before .before .before .count-all .ensures
 
 -- what the reader says
-verdictOn-is : (c : tie.After-judge) → let p = parts (after-slice7₂ (c .before)) in let b = blockIs p (c .before .before .counts .given .0 .0) (fit-is (c .before .before .before .before .before)) (count-is (c .before)) in
+verdictOn-is : (c : tie.After-judge) → let p = parts (after-shared-slice-known7₂ (c .before)) in let b = blockIs p (c .before .before .counts .given .0 .0) (fit-is (c .before .before .before .before .before)) (count-is (c .before)) in
     toldReach (c .judge .result) ≡ ended (verdict all (block all .encode (made p (b .names) (b .metadata) (b .objects) (b .timers))))
 verdictOn-is c =
-    let p = parts (after-slice7₂ (c .before)) in
+    let p = parts (after-shared-slice-known7₂ (c .before)) in
     let b = blockIs p (c .before .before .counts .given .0 .0) (fit-is (c .before .before .before .before .before)) (count-is (c .before)) in
     let rows = section-rows p (c .before .before .counts .given .0 .0) (fit-is (c .before .before .before .before .before)) (count-is (c .before)) in
     c .judge .ensures (b .names) (b .metadata) (b .objects) (b .timers) rows
@@ -93,8 +93,8 @@ judge-requires : tie.Need-judge-requires
 judge-requires c κs = record {
   version = version-is (c .before .before .before .before .before .before);
   fit = fit-is (c .before .before .before .before);
-  typed = held-parts (after-slice7₂ c);
-  small = small (parts (after-slice7₂ c)) (c .before .counts .given .0 .0) (fit-is (c .before .before .before .before)) (count-is c) (held-parts (after-slice7₂ c));
+  typed = held-parts (after-shared-slice-known7₂ c);
+  small = small (parts (after-shared-slice-known7₂ c)) (c .before .counts .given .0 .0) (fit-is (c .before .before .before .before)) (count-is c) (held-parts (after-shared-slice-known7₂ c));
 }
 
 enum-known-fault : tie.Need-enum-known-fault
@@ -104,13 +104,13 @@ enum-known-n : tie.Need-enum-known-n
 enum-known-n c = search needs
 
 returns-3 : tie.Need-returns-3
-returns-3 c = ragged (parts (after-slice7₁ c)) (version-is (c .before .before .before .before .before)) (fit-is (c .before .before .before)) (sym (ap toldCounts (c .enum-told .given .1)) ∙ c .before .before .count-all .ensures)
+returns-3 c = ragged (parts (after-shared-slice-known7₁ c)) (version-is (c .before .before .before .before .before)) (fit-is (c .before .before .before)) (sym (ap toldCounts (c .enum-told .given .1)) ∙ c .before .before .count-all .ensures)
 
 returns-4 : tie.Need-returns-4
-returns-4 c = refuses (parts (after-slice7₂ (c .before .before .before .before))) (c .before .before .before .before .before .counts .given .0 .0) (fit-is (else2 (c .before .before .before .before))) (count-is (c .before .before .before .before)) (held-parts (after-slice7₂ (c .before .before .before .before))) (version-is (else1 (c .before .before .before .before))) (sym (ap toldReach (c .before .fault .given .1)) ∙ verdictOn-is (c .before .before .before))
+returns-4 c = refuses (parts (after-shared-slice-known7₂ (c .before .before .before .before))) (c .before .before .before .before .before .counts .given .0 .0) (fit-is (else2 (c .before .before .before .before))) (count-is (c .before .before .before .before)) (held-parts (after-shared-slice-known7₂ (c .before .before .before .before))) (version-is (else1 (c .before .before .before .before))) (sym (ap toldReach (c .before .fault .given .1)) ∙ verdictOn-is (c .before .before .before))
 
 returns-5 : tie.Need-returns-5
-returns-5 c = writes (parts (after-slice7₂ (c .before .before .before .before))) (c .before .before .before .before .before .counts .given .0 .0) (fit-is (else2 (c .before .before .before .before))) (count-is (c .before .before .before .before)) (held-parts (after-slice7₂ (c .before .before .before .before))) (version-is (else1 (c .before .before .before .before))) (sym (ap toldReach (c .before .n .given .1)) ∙ verdictOn-is (c .before .before .before))
+returns-5 c = writes (parts (after-shared-slice-known7₂ (c .before .before .before .before))) (c .before .before .before .before .before .counts .given .0 .0) (fit-is (else2 (c .before .before .before .before))) (count-is (c .before .before .before .before)) (held-parts (after-shared-slice-known7₂ (c .before .before .before .before))) (version-is (else1 (c .before .before .before .before))) (sym (ap toldReach (c .before .n .given .1)) ∙ verdictOn-is (c .before .before .before))
 
 pub measure-spec : {M : Type 1} → statement M
 measure-spec =

@@ -10,7 +10,7 @@ use Rattle.wire.proofs.Puts.{put-room, put-two}
 use Rattle.block_writer.proofs.write.put_block.Statement.{statement}
 use Rattle.block_writer.proofs.write.put_block.Tie as tie
 
--- places in the function, each from the places behind it
+-- places in the function, each reached from one further on
 abbrev start₁ : tie.After-put-front-arg → tie.Start
 start₁ c = c .before .before .before .before .before .before .before .before .before
 

@@ -4,7 +4,7 @@ use Rattle.wire.proofs.Puts.{put-number, put-two}
 use Rattle.block_writer.proofs.write.put_byte_and_list.Statement.{statement}
 use Rattle.block_writer.proofs.write.put_byte_and_list.Tie as tie
 
--- places in the function, each from the places behind it
+-- places in the function, each reached from one further on
 abbrev start : tie.After-slice-known3 → tie.Start
 start c = c .before .before .before .before .before .before .before .before .before .before
 

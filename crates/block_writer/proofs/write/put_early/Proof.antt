@@ -11,7 +11,7 @@ use Rattle.block_writer.proofs.PutPieces.{early-timed, early-noTimers, 
 use Rattle.block_writer.proofs.write.put_early.Statement.{statement}
 use Rattle.block_writer.proofs.write.put_early.Tie as tie
 
--- places in the function, each from the places behind it
+-- places in the function, each reached from one further on
 abbrev start₁ : tie.After-struct-known2 → tie.Start
 start₁ c = c .before .before .before .before .before
 

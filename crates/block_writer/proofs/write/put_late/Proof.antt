@@ -5,7 +5,7 @@ use Rattle.wire.proofs.Puts.{put-nothing}
 use Rattle.block_writer.proofs.write.put_late.Statement.{statement}
 use Rattle.block_writer.proofs.write.put_late.Tie as tie
 
--- places in the function, each from the places behind it
+-- places in the function, each reached from one further on
 abbrev start : tie.After-slice-known2 → tie.Start
 start c = c .before .before .before .before .before .before .before
 

@@ -17,7 +17,7 @@ use Rattle.block_writer.proofs.PutPieces.{metadata-22, metadata-23}
 use Rattle.block_writer.proofs.write.put_metadata.Statement.{statement}
 use Rattle.block_writer.proofs.write.put_metadata.Tie as tie
 
--- places in the function, each from the places behind it
+-- places in the function, each reached from one further on
 abbrev start : tie.After-put-list-arg → tie.Start
 start c = c .before .before .before .before .before .before .before .before
 

@@ -3,7 +3,7 @@ use Rattle.block_writer.proofs.PutPieces.{opening-old, opening-new}
 use Rattle.block_writer.proofs.write.put_opening.Statement.{statement}
 use Rattle.block_writer.proofs.write.put_opening.Tie as tie
 
--- places in the function, each from the places behind it
+-- places in the function, each reached from one further on
 abbrev start : tie.After-struct-known → tie.Start
 start c = c .before .before .before .before .before .before .before .before .before .before
 

@@ -9,7 +9,7 @@ use Rattle.block_writer.proofs.Entries.{entries-length, narrow-put, wid
 use Rattle.block_writer.proofs.write.put_param0.Statement.{statement}
 use Rattle.block_writer.proofs.write.put_param0.Tie as tie
 
--- places in the function, each from the places behind it
+-- places in the function, each reached from one further on
 abbrev start : tie.After-shared-slice-known → tie.Start
 start c = c .before .before
 

@@ -12,7 +12,7 @@ use Rattle.block_writer.proofs.PutPieces.{before-29}
 use Rattle.block_writer.proofs.write.put_rest.Statement.{statement}
 use Rattle.block_writer.proofs.write.put_rest.Tie as tie
 
--- places in the function, each from the places behind it
+-- places in the function, each reached from one further on
 abbrev after-put-byte-and-list : tie.After-put-late-arg → tie.After-put-byte-and-list
 after-put-byte-and-list c = c .before .before .before .before .before .before .before .before
 

@@ -11,7 +11,7 @@ use Rattle.block_writer.specs.BlockParts.{BlockParts, blockParts}
 use Rattle.block_writer.specs.Measured.{Written, MeasuredAs}
 use Rattle.block_writer.proofs.Written.{answers-by, answers-written}
 
--- places in the function, each from the places behind it
+-- places in the function, each reached from one further on
 abbrev start₁ : tie.After-slice-known → tie.Start
 start₁ c = c .before .before .before .before .before .before .before .before
 

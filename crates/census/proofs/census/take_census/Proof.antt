@@ -12,13 +12,6 @@ use Rattle.census.proofs.CensusTaken.{census-none, census-some}
 use Rattle.census.proofs.census.take_census.Statement.{statement}
 use Rattle.census.proofs.census.take_census.Tie as tie
 
--- places in the function, each from the places behind it
-abbrev after-slice : tie.After-has → tie.After-shared-slice-known
-after-slice c = c .before .before .before .before .before .before .before
-
-abbrev after-sized2 : tie.After-sort-first-arg2 → tie.After-sized2
-after-sized2 c = c .before .before .before .before .before .before .before .before .before .before .before .before .before .before .before .before
-
 -- the places of the calls, and where the function starts, from the last call and from the test of the span
 abbrev tested : tie.After-sort-first → tie.Else1
 tested c = c .before .before .before .before .before .before .before .before .before .before .before .before .before
@@ -32,8 +25,14 @@ counted c = c .before .before .before .before .before .before .before .before
 abbrev entry : tie.After-has → tie.Start
 entry c = c .before .before .before .before .before .before .before .before
 
+abbrev after-shared-slice-known : tie.After-has → tie.After-shared-slice-known
+after-shared-slice-known c = c .before .before .before .before .before .before .before
+
+abbrev after-sized2 : tie.After-sort-first-arg2 → tie.After-sized2
+after-sized2 c = c .before .before .before .before .before .before .before .before .before .before .before .before .before .before .before .before
+
 block-bytes : (c : tie.After-has) → Bytes (now (entry c .args .block))
-block-bytes c i = after-slice c .shared-slice-known .given i .fits
+block-bytes c i = after-shared-slice-known c .shared-slice-known .given i .fits
 
 within : (c : tie.Else1) → inSpan (entry (c .before) .args .part .span) (entry (c .before) .args .scanned .head .timestamp) ≡ true
 within c = sym (c .before .has .ensures) ∙ not-false _ (c .if1 .left)

@@ -2,7 +2,7 @@ use borrow.Author.Needs.{needs}
 use Rattle.census.proofs.clip.clip_to.Statement.{statement}
 use Rattle.census.proofs.clip.clip_to.Tie as tie
 
--- the places that the proofs below go back to
+-- places in the function, each reached from one further on
 abbrev after-below3 : tie.After-upto3 → tie.After-below3
 after-below3 c = c .before .before .before .before .before .before .before .before .before
 

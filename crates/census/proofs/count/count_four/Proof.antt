@@ -8,7 +8,7 @@ use borrow.Author.Needs.{needs}
 use Rattle.census.proofs.count.count_four.Statement.{statement}
 use Rattle.census.proofs.count.count_four.Tie as tie
 
--- the places that the proofs below go back to
+-- places in the function, each reached from one further on
 abbrev after-wide-id2 : tie.After-wide-id4 → tie.After-wide-id2
 after-wide-id2 c = c .before .before
 

@@ -10,7 +10,7 @@ use Rattle.census.proofs.Clips.{clip-sides, lot-counted}
 use Rattle.census.proofs.count.count_in.Statement.{statement}
 use Rattle.census.proofs.count.count_in.Tie as tie
 
--- the places that the proofs below go back to
+-- places in the function, each reached from one further on
 abbrev entry : tie.After-count-clip-arg → tie.Start
 entry c = c .before .before .before .before .before .before .before
 

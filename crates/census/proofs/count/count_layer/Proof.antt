@@ -16,7 +16,7 @@ Inv-loop version lists clip z counts₀ y₀ counts y = (clip .y0 ≤ y) × (y �
 abbrev μ-loop : tie.MeasureT-loop
 μ-loop version lists clip z counts₀ y₀ counts y = clip .y1 - y
 
--- the places that the proofs below go back to
+-- places in the function, each reached from one further on
 abbrev entry : tie.After-count-row-arg Inv-loop μ-loop → tie.Start Inv-loop μ-loop
 entry c = c .before .before .before .before .before .before .before
 

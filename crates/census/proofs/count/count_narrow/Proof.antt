@@ -16,7 +16,7 @@ Inv-loop version lists from until counts₀ i₀ counts i = (from ≤ i) × (i -
 abbrev μ-loop : tie.MeasureT-loop
 μ-loop version lists from until counts₀ i₀ counts i = until - i
 
--- the places that the proofs below go back to
+-- places in the function, each reached from one further on
 abbrev entry : tie.After-wrapping-add-u16 Inv-loop μ-loop → tie.Start Inv-loop μ-loop
 entry c = c .before .before .before .before .before .before .before .before
 

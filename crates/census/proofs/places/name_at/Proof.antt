@@ -10,7 +10,7 @@ use Rattle.census.proofs.RowsAt.{row-beyond, start-beyond, row-refused,
 use Rattle.census.proofs.places.name_at.Statement.{statement}
 use Rattle.census.proofs.places.name_at.Tie as tie
 
--- the places that the proofs below go back to
+-- places in the function, each reached from one further on
 abbrev entry : tie.After-name-row → tie.Start
 entry c = c .before .before .before .before
 

@@ -15,7 +15,7 @@ Inv-loop s a mid b₀ i₀ j₀ o₀ b i j o = Joining s a mid b i j o × (lengt
 abbrev μ-loop : tie.MeasureT-loop
 μ-loop s a mid b₀ i₀ j₀ o₀ b i j o = length a - o
 
--- the places that the proofs below go back to
+-- places in the function, each reached from one further on
 abbrev entry : tie.After-left Inv-loop μ-loop → tie.Start Inv-loop μ-loop
 entry c = c .before .before .before .before .before .before
 

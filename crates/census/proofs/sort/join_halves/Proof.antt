@@ -4,7 +4,7 @@ use Rattle.census.proofs.Halves.{in-order}
 use Rattle.census.proofs.sort.join_halves.Statement.{statement}
 use Rattle.census.proofs.sort.join_halves.Tie as tie
 
--- the places that the proofs below go back to
+-- places in the function, each reached from one further on
 abbrev after-join : tie.After-slice-known6 → tie.After-join
 after-join c = c .before .before .before .before .before .before .before
 

@@ -5,7 +5,7 @@ use Rattle.census.proofs.Joining.{left-ended, right-ended, left-picks}
 use Rattle.census.proofs.sort.left.Statement.{statement}
 use Rattle.census.proofs.sort.left.Tie as tie
 
--- the places that the proofs below go back to
+-- places in the function, each reached from one further on
 abbrev entry : tie.After-comes-before → tie.Start
 entry c = c .before .before .before .before .before .before .before
 

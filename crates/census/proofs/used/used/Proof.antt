@@ -23,7 +23,7 @@ Inv-loop s counts places₀ rest₀ at₀ n₀ places rest at n = Using s counts
 abbrev μ-loop : tie.MeasureT-loop
 μ-loop s counts places₀ rest₀ at₀ n₀ places rest at n = length rest
 
--- the places that the proofs below go back to
+-- places in the function, each reached from one further on
 abbrev tested : tie.After-rest Inv-loop μ-loop → tie.In-loop Inv-loop μ-loop
 tested c = c .before .before .before .before .before .before .before .before
 

@@ -20,7 +20,7 @@ Inv-loop s at₀ fresh₀ t4 at fresh = later at (through fresh (drop at s)) ≡
 abbrev μ-loop : tie.MeasureT-loop
 μ-loop s at₀ fresh₀ t4 at fresh = length s - at
 
--- places in the function, each from the places behind it
+-- places in the function, each reached from one further on
 abbrev start : tie.Then2 Inv-loop μ-loop → tie.Start Inv-loop μ-loop
 start c = c .before .before .before .before .before .before .before
 

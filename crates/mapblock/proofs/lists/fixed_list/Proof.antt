@@ -16,30 +16,30 @@ use Rattle.mapblock.proofs.RowLists.{fixed-told}
 use Rattle.mapblock.proofs.lists.fixed_list.Statement.{statement}
 use Rattle.mapblock.proofs.lists.fixed_list.Tie as tie
 
--- places on the way, each from one that lies further on
+-- places in the function, each reached from one further on
 abbrev start : tie.After-known-told → tie.Start
 start c = c .before .before .before .before .before
 
-abbrev at-known-told : tie.After-f → tie.After-known-told
-at-known-told c = c .before .before .before .before .before
+abbrev after-known-told₁ : tie.After-f → tie.After-known-told
+after-known-told₁ c = c .before .before .before .before .before
 
-abbrev at-known-told-2 : tie.After-n → tie.After-known-told
-at-known-told-2 c = c .before .before .before .before .before
+abbrev after-known-told₂ : tie.After-n → tie.After-known-told
+after-known-told₂ c = c .before .before .before .before .before
 
 byte : (c : tie.After-known-told) → num 1 .read (now (c .before .before .before .before .before .args .s)) ≡ done (c .before .v .given .0 .0) 1
 byte c = by-number 1 _ toldU8 (c .before .before .before .u8-at .ensures) (c .before .v .given .1)
 
 -- the list behind it: refused, or read
-no-list : (c : tie.After-known-told2) → let a = start (at-known-told (c .before)) .args in
+no-list : (c : tie.After-known-told2) → let a = start (after-known-told₁ (c .before)) .args in
     refused (c .before .f .given .0 .0) (1 + c .before .f .given .0 .1 .0) ≡ ended (fixed 1 (a .value) (a .fault) (listed 2 (rowAfter (a .kind) (a .version))) .read (now (a .s)))
 no-list c =
-    let a = start (at-known-told (c .before)) .args in
+    let a = start (after-known-told₁ (c .before)) .args in
     fixed-told 1 (a .value) (a .fault) (listed 2 (rowAfter (a .kind) (a .version))) (now (a .s)) (byte (c .before .before .before .before .before .before)) (c .before .before .before .before .before .if1 .left) (c .before .before .before .listed .ensures) (c .before .f .given .1)
 
-whole-list : (c : tie.After-known-told3) → let a = start (at-known-told-2 (c .before)) .args in
+whole-list : (c : tie.After-known-told3) → let a = start (after-known-told₂ (c .before)) .args in
     done tt (1 + c .before .n .given .0 .0) ≡ ended (fixed 1 (a .value) (a .fault) (listed 2 (rowAfter (a .kind) (a .version))) .read (now (a .s)))
 whole-list c =
-    let a = start (at-known-told-2 (c .before)) .args in
+    let a = start (after-known-told₂ (c .before)) .args in
     fixed-told 1 (a .value) (a .fault) (listed 2 (rowAfter (a .kind) (a .version))) (now (a .s)) (byte (c .before .before .before .before .before .before)) (c .before .before .before .before .before .if1 .left) (c .before .before .before .listed .ensures) (c .before .n .given .1)
 
 u8-at-requires : tie.Need-u8-at-requires
@@ -77,13 +77,13 @@ enum-known-f : tie.Need-enum-known-f
 enum-known-f c = search needs
 
 add-t19 : tie.Need-add-t19
-add-t19 c = let a = start (at-known-told (c .before)) .args in omega (arith, within-ended (fixed 1 (a .value) (a .fault) (listed 2 (rowAfter (a .kind) (a .version)))) _ (no-list c))
+add-t19 c = let a = start (after-known-told₁ (c .before)) .args in omega (arith, within-ended (fixed 1 (a .value) (a .fault) (listed 2 (rowAfter (a .kind) (a .version)))) _ (no-list c))
 
 enum-known-n : tie.Need-enum-known-n
 enum-known-n c = search needs
 
 add-t20 : tie.Need-add-t20
-add-t20 c = let a = start (at-known-told-2 (c .before)) .args in omega (arith, within-ended (fixed 1 (a .value) (a .fault) (listed 2 (rowAfter (a .kind) (a .version)))) _ (whole-list c))
+add-t20 c = let a = start (after-known-told₂ (c .before)) .args in omega (arith, within-ended (fixed 1 (a .value) (a .fault) (listed 2 (rowAfter (a .kind) (a .version)))) _ (whole-list c))
 
 returns-3 : tie.Need-returns-3
 returns-3 c = no-list c

@@ -16,33 +16,33 @@ use Rattle.mapblock.proofs.RowLists.{fixed-told, metadata-old}
 use Rattle.mapblock.proofs.lists.old_metadata.Statement.{statement}
 use Rattle.mapblock.proofs.lists.old_metadata.Tie as tie
 
--- places on the way, each from one that lies further on
+-- places in the function, each reached from one further on
 abbrev start : tie.After-known-told → tie.Start
 start c = c .before .before .before .before .before
 
-abbrev at-known-told : tie.After-fault → tie.After-known-told
-at-known-told c = c .before .before .before .before .before
+abbrev after-known-told₁ : tie.After-fault → tie.After-known-told
+after-known-told₁ c = c .before .before .before .before .before
 
-abbrev at-known-told-2 : tie.After-n → tie.After-known-told
-at-known-told-2 c = c .before .before .before .before .before
+abbrev after-known-told₂ : tie.After-n → tie.After-known-told
+after-known-told₂ c = c .before .before .before .before .before
 
 number : (c : tie.After-known-told) → num 2 .read (now (c .before .before .before .before .before .args .s)) ≡ done (c .before .v .given .0 .0) 2
 number c = by-number 2 _ toldU16 (c .before .before .before .u16-at .ensures) (c .before .v .given .1)
 
 -- the list behind it: refused, or read
-no-list : (c : tie.After-known-told2) → let a = start (at-known-told (c .before)) .args in
+no-list : (c : tie.After-known-told2) → let a = start (after-known-told₁ (c .before)) .args in
     refused (c .before .fault .given .0 .0) (2 + c .before .fault .given .0 .1 .0) ≡ ended (metadata (a .version) .read (now (a .s)))
 no-list c =
-    let a = start (at-known-told (c .before)) .args in
+    let a = start (after-known-told₁ (c .before)) .args in
     fixed-told 2 1 fault.MetadataVersion (listed 2 (metadataRow (a .version))) (now (a .s)) (number (c .before .before .before .before .before .before)) (c .before .before .before .before .before .if1 .left) (c .before .before .before .listed .ensures) (c .before .fault .given .1)
-    ∙ ap ended (sym (metadata-old (a .version) (now (a .s)) (start (at-known-told (c .before)) .pre)))
+    ∙ ap ended (sym (metadata-old (a .version) (now (a .s)) (start (after-known-told₁ (c .before)) .pre)))
 
-whole-list : (c : tie.After-known-told3) → let a = start (at-known-told-2 (c .before)) .args in
+whole-list : (c : tie.After-known-told3) → let a = start (after-known-told₂ (c .before)) .args in
     done tt (2 + c .before .n .given .0 .0) ≡ ended (metadata (a .version) .read (now (a .s)))
 whole-list c =
-    let a = start (at-known-told-2 (c .before)) .args in
+    let a = start (after-known-told₂ (c .before)) .args in
     fixed-told 2 1 fault.MetadataVersion (listed 2 (metadataRow (a .version))) (now (a .s)) (number (c .before .before .before .before .before .before)) (c .before .before .before .before .before .if1 .left) (c .before .before .before .listed .ensures) (c .before .n .given .1)
-    ∙ ap ended (sym (metadata-old (a .version) (now (a .s)) (start (at-known-told-2 (c .before)) .pre)))
+    ∙ ap ended (sym (metadata-old (a .version) (now (a .s)) (start (after-known-told₂ (c .before)) .pre)))
 
 u16-at-requires : tie.Need-u16-at-requires
 u16-at-requires c κs = search needs
@@ -79,13 +79,13 @@ enum-known-fault : tie.Need-enum-known-fault
 enum-known-fault c = search needs
 
 add-t18 : tie.Need-add-t18
-add-t18 c = let a = start (at-known-told (c .before)) .args in omega (arith, within-ended (metadata (a .version)) _ (no-list c))
+add-t18 c = let a = start (after-known-told₁ (c .before)) .args in omega (arith, within-ended (metadata (a .version)) _ (no-list c))
 
 enum-known-n : tie.Need-enum-known-n
 enum-known-n c = search needs
 
 add-t19 : tie.Need-add-t19
-add-t19 c = let a = start (at-known-told-2 (c .before)) .args in omega (arith, within-ended (metadata (a .version)) _ (whole-list c))
+add-t19 c = let a = start (after-known-told₂ (c .before)) .args in omega (arith, within-ended (metadata (a .version)) _ (whole-list c))
 
 returns-3 : tie.Need-returns-3
 returns-3 c = no-list c

@@ -13,27 +13,27 @@ use Rattle.mapblock.proofs.RowLists.{early-ends, early-above, early-non
 use Rattle.mapblock.proofs.lists.timers_of_24.Statement.{statement}
 use Rattle.mapblock.proofs.lists.timers_of_24.Tie as tie
 
--- places on the way, each from one that lies further on
+-- places in the function, each reached from one further on
 abbrev start : tie.After-known-told → tie.Start
 start c = c .before .before .before .before .before
 
-abbrev at-known-told : tie.At-match2-keys1 → tie.After-known-told
-at-known-told c = c .before .before .before .before .before
+abbrev after-known-told₁ : tie.At-match2-keys1 → tie.After-known-told
+after-known-told₁ c = c .before .before .before .before .before
 
-abbrev at-known-told-2 : tie.At-match2-keys2 → tie.After-known-told
-at-known-told-2 c = c .before .before .before .before .before
+abbrev after-known-told₂ : tie.At-match2-keys2 → tie.After-known-told
+after-known-told₂ c = c .before .before .before .before .before
 
 first : (c : tie.After-known-told) → num 1 .read (now (c .before .before .before .before .before .args .s)) ≡ done (c .before .byte .given .0 .0) 1
 first c = by-number 1 _ toldU8 (c .before .before .before .u8-at .ensures) (c .before .byte .given .1)
 
 -- the list behind it: refused, or read
 no-list : (c : tie.After-known-told2) →
-    refused (c .before .fault .given .0 .0) (1 + c .before .fault .given .0 .1 .0) ≡ mapRead timerByte (earlyTimers 24 .read (now (start (at-known-told (c .before .before)) .args .s)))
-no-list c = early-some _ (first (at-known-told (c .before .before))) (omega arith) (c .before .before .before .listed .ensures) (c .before .fault .given .1)
+    refused (c .before .fault .given .0 .0) (1 + c .before .fault .given .0 .1 .0) ≡ mapRead timerByte (earlyTimers 24 .read (now (start (after-known-told₁ (c .before .before)) .args .s)))
+no-list c = early-some _ (first (after-known-told₁ (c .before .before))) (omega arith) (c .before .before .before .listed .ensures) (c .before .fault .given .1)
 
 whole-list : (c : tie.After-known-told3) →
-    done 1 (1 + c .before .n .given .0 .0) ≡ mapRead timerByte (earlyTimers 24 .read (now (start (at-known-told-2 (c .before .before)) .args .s)))
-whole-list c = early-some _ (first (at-known-told-2 (c .before .before))) (omega arith) (c .before .before .before .listed .ensures) (c .before .n .given .1)
+    done 1 (1 + c .before .n .given .0 .0) ≡ mapRead timerByte (earlyTimers 24 .read (now (start (after-known-told₂ (c .before .before)) .args .s)))
+whole-list c = early-some _ (first (after-known-told₂ (c .before .before))) (omega arith) (c .before .before .before .listed .ensures) (c .before .n .given .1)
 
 u8-at-requires : tie.Need-u8-at-requires
 u8-at-requires c κs = search needs

@@ -13,7 +13,7 @@ use Rattle.mapblock.proofs.MetadataRows.{key-ends, value-ends, value-do
 use Rattle.mapblock.proofs.metadata.key_and_value.Statement.{statement}
 use Rattle.mapblock.proofs.metadata.key_and_value.Tie as tie
 
--- places in the function, each from the places behind it
+-- places in the function, each reached from one further on
 abbrev start : tie.After-run32-at → tie.Start
 start c = c .before .before .before .before .before .before
 

@@ -17,15 +17,15 @@ use Rattle.mapblock.proofs.MetadataRows.{count-ends, variables-refused,
 use Rattle.mapblock.proofs.metadata.new_row.Statement.{statement}
 use Rattle.mapblock.proofs.metadata.new_row.Tie as tie
 
--- places on the way, each from one that lies further on
+-- places in the function, each reached from one further on
 abbrev start : tie.After-known-told → tie.Start
 start c = c .before .before .before .before .before
 
-abbrev at-known-told : tie.After-known-told2 → tie.After-known-told
-at-known-told c = c .before .before .before .before .before
+abbrev after-known-told₁ : tie.After-known-told2 → tie.After-known-told
+after-known-told₁ c = c .before .before .before .before .before
 
-abbrev at-known-told-2 : tie.After-known-told3 → tie.After-known-told
-at-known-told-2 c = c .before .before .before .before .before
+abbrev after-known-told₂ : tie.After-known-told3 → tie.After-known-told
+after-known-told₂ c = c .before .before .before .before .before
 
 -- the count, and that it lies in the bytes
 count : (c : tie.After-known-told) → num 4 .read (drop 2 (now (c .before .before .before .before .before .args .s))) ≡ done (c .before .count .given .0 .0) 4
@@ -39,17 +39,17 @@ no-variables : (c : tie.After-known-told2) → let b = c .before .before .before
     let a = b .before .before .before .before .args in
     refused (c .before .fault .given .0 .0) (c .before .fault .given .0 .1 .0) ≡ ended (times (b .count .given .0 .0) (variableFor (a .values) (a .version)) .read (drop 6 (now (a .s))))
 no-variables c =
-    let s = now (start (at-known-told c) .args .s) in
+    let s = now (start (after-known-told₁ c) .args .s) in
     rw (rest-is 6 s) at (sym (ap toldReach (c .before .fault .given .1)) ∙ c .before .before .before .variables .ensures)
 
 some-variables : (c : tie.After-known-told3) → let b = c .before .before .before .before .before .before in
     let a = b .before .before .before .before .args in
     done tt (c .before .n .given .0 .0) ≡ ended (times (b .count .given .0 .0) (variableFor (a .values) (a .version)) .read (drop 6 (now (a .s))))
 some-variables c =
-    let s = now (start (at-known-told-2 c) .args .s) in
+    let s = now (start (after-known-told₂ c) .args .s) in
     rw (rest-is 6 s) at (sym (ap toldReach (c .before .n .given .1)) ∙ c .before .before .before .variables .ensures)
 
-variables-in : (c : tie.After-known-told3) → 6 + c .before .n .given .0 .0 ≤ length (now (start (at-known-told-2 c) .args .s))
+variables-in : (c : tie.After-known-told3) → 6 + c .before .n .given .0 .0 ≤ length (now (start (after-known-told₂ c) .args .s))
 variables-in c = omega (arith, six (c .before .before .before .before .before), rw length-drop at (within-ended (times _ _) _ (some-variables c)))
 
 -- the inventory: refused, or read

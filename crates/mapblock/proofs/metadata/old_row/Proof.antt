@@ -13,7 +13,7 @@ use Rattle.mapblock.proofs.MetadataRows.{kind-ends, content-ends, conte
 use Rattle.mapblock.proofs.metadata.old_row.Statement.{statement}
 use Rattle.mapblock.proofs.metadata.old_row.Tie as tie
 
--- places on the way, each from one that lies further on
+-- places in the function, each reached from one further on
 abbrev start : tie.After-known-told → tie.Start
 start c = c .before .before .before .before .before
 

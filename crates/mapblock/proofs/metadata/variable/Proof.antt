@@ -15,7 +15,7 @@ use Rattle.mapblock.proofs.MetadataRows.{keyAndValue, variable-refused,
 use Rattle.mapblock.proofs.metadata.variable.Statement.{statement}
 use Rattle.mapblock.proofs.metadata.variable.Tie as tie
 
--- places in the function, each from the places behind it
+-- places in the function, each reached from one further on
 abbrev start : tie.After-known-told2 → tie.Start
 start c = c .before .before .before .before .before .before .before .before .before .before
 

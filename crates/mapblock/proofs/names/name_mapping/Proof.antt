@@ -20,33 +20,33 @@ use mathlib.Core.Path.{_≡_, ap, sym, _∙_}
 use Rattle.mapblock.proofs.names.name_mapping.Statement.{statement}
 use Rattle.mapblock.proofs.names.name_mapping.Tie as tie
 
--- places on the way, each from one that lies further on
+-- places in the function, each reached from one further on
 abbrev start : tie.After-known-told → tie.Start
 start c = c .before .before .before .before .before
 
-abbrev at-known-told : tie.Else1 → tie.After-known-told
-at-known-told c = c .before .before .before .before .before
+abbrev after-known-told₁ : tie.Else1 → tie.After-known-told
+after-known-told₁ c = c .before .before .before .before .before
 
-abbrev at-known-told-2 : tie.Then1 → tie.After-known-told
-at-known-told-2 c = c .before .before .before .before .before
+abbrev after-known-told₂ : tie.Then1 → tie.After-known-told
+after-known-told₂ c = c .before .before .before .before .before
 
 abbrev at-else1 : tie.After-name-rows-arg → tie.Else1
 at-else1 c = c .before .before .before .before .before
 
-abbrev at-name-rows-arg : tie.After-known-told4 → tie.After-name-rows-arg
-at-name-rows-arg c = c .before .before .before .before .before
+abbrev after-name-rows-arg₁ : tie.After-known-told4 → tie.After-name-rows-arg
+after-name-rows-arg₁ c = c .before .before .before .before .before
 
-abbrev at-name-rows-arg-2 : tie.After-known-told5 → tie.After-name-rows-arg
-at-name-rows-arg-2 c = c .before .before .before .before .before
+abbrev after-name-rows-arg₂ : tie.After-known-told5 → tie.After-name-rows-arg
+after-name-rows-arg₂ c = c .before .before .before .before .before
 
 -- the three numbers in front
 time-is : (c : tie.After-timestamp) → num 4 .read (now (c .before .before .before .before .args .s)) ≡ done (c .timestamp .given .0 .0) 4
 time-is c = by-number 4 _ toldU32 (c .before .before .u32-at .ensures) (c .timestamp .given .1)
 
-zero-is : (c : tie.Else1) → num 1 .read (drop 4 (now (start (at-known-told c) .args .s))) ≡ done 0 1
+zero-is : (c : tie.Else1) → num 1 .read (drop 4 (now (start (after-known-told₁ c) .args .s))) ≡ done 0 1
 zero-is c = by-number 1 _ toldU8 (c .before .before .before .before .u8-at .ensures) (c .before .before .zero .given .1) ∙ ap (λ (x : ℕ). done x 1) (c .if1 .left)
 
-count-is : (c : tie.After-count) → num 2 .read (drop 5 (now (start (at-known-told (c .before .before .before)) .args .s))) ≡ done (c .count .given .0 .0) 2
+count-is : (c : tie.After-count) → num 2 .read (drop 5 (now (start (after-known-told₁ (c .before .before .before)) .args .s))) ≡ done (c .count .given .0 .0) 2
 count-is c = by-number 2 _ toldU16 (c .before .before .u16-at .ensures) (c .count .given .1)
 
 u32-at-requires : tie.Need-u32-at-requires
@@ -77,8 +77,8 @@ returns-2 c =
 
 returns-3 : tie.Need-returns-3
 returns-3 c =
-    let a = start (at-known-told-2 c) .args in
-    told-refused (now (a .ids)) (now (a .s)) (name-mapping-other _ _ (by-number 4 _ toldU32 (at-known-told-2 c .before .before .before .u32-at .ensures) (c .before .before .before .before .before .before .timestamp .given .1)) (by-number 1 _ toldU8 (c .before .before .before .before .u8-at .ensures) (c .before .before .zero .given .1)) (c .if1 .taken))
+    let a = start (after-known-told₂ c) .args in
+    told-refused (now (a .ids)) (now (a .s)) (name-mapping-other _ _ (by-number 4 _ toldU32 (after-known-told₂ c .before .before .before .u32-at .ensures) (c .before .before .before .before .before .before .timestamp .given .1)) (by-number 1 _ toldU8 (c .before .before .before .before .u8-at .ensures) (c .before .before .zero .given .1)) (c .if1 .taken))
 
 u16-at-requires : tie.Need-u16-at-requires
 u16-at-requires c κs = search needs
@@ -91,14 +91,14 @@ enum-told-3 c = search needs
 
 returns-4 : tie.Need-returns-4
 returns-4 c =
-    let a = start (at-known-told (c .before .before .before)) .args in
-    told-refused (now (a .ids)) (now (a .s)) (name-mapping-no-count _ _ (time-is (at-known-told (c .before .before .before) .before)) (zero-is (c .before .before .before)) (by-number 2 _ toldU16 (c .before .before .u16-at .ensures) (c .enum-told3 .given .1)))
+    let a = start (after-known-told₁ (c .before .before .before)) .args in
+    told-refused (now (a .ids)) (now (a .s)) (name-mapping-no-count _ _ (time-is (after-known-told₁ (c .before .before .before) .before)) (zero-is (c .before .before .before)) (by-number 2 _ toldU16 (c .before .before .u16-at .ensures) (c .enum-told3 .given .1)))
 
 sub-name-rows : tie.Need-sub-name-rows
-sub-name-rows c = read-behind (num 2) 5 (now (start (at-known-told (c .before .before .before .before)) .args .s)) (count-is (c .before)) (lit< tt)
+sub-name-rows c = read-behind (num 2) 5 (now (start (after-known-told₁ (c .before .before .before .before)) .args .s)) (count-is (c .before)) (lit< tt)
 
 part-name-rows-start : tie.Need-part-name-rows-start
-part-name-rows-start c = read-behind (num 2) 5 (now (start (at-known-told (c .before .before .before .before)) .args .s)) (count-is (c .before)) (lit< tt)
+part-name-rows-start c = read-behind (num 2) 5 (now (start (after-known-told₁ (c .before .before .before .before)) .args .s)) (count-is (c .before)) (lit< tt)
 
 part-name-rows-end : tie.Need-part-name-rows-end
 part-name-rows-end c = search needs
@@ -111,40 +111,40 @@ enum-known-fault c = search needs
 
 add-t24 : tie.Need-add-t24
 add-t24 c =
-    let s = now ((start (at-known-told (at-else1 (at-name-rows-arg c)))) .args .s) in
-    let t = now ((start (at-known-told (at-else1 (at-name-rows-arg c)))) .args .ids) in
+    let s = now ((start (after-known-told₁ (at-else1 (after-name-rows-arg₁ c)))) .args .s) in
+    let t = now ((start (after-known-told₁ (at-else1 (after-name-rows-arg₁ c)))) .args .ids) in
     let e = rw (rest-is 7 s) at (c .before .before .before .name-rows .ensures .0) in
-    omega (arith, length-drop 7 s, read-behind (num 2) 5 s (count-is (at-name-rows-arg c .before .before)) (lit< tt), within-ended (items (nameRow (freeIn t)) (at-name-rows-arg c .before .before .count .given .0 .0)) (drop 7 s) (sym (ap toldReach (c .before .fault .given .1)) ∙ e))
+    omega (arith, length-drop 7 s, read-behind (num 2) 5 s (count-is (after-name-rows-arg₁ c .before .before)) (lit< tt), within-ended (items (nameRow (freeIn t)) (after-name-rows-arg₁ c .before .before .count .given .0 .0)) (drop 7 s) (sym (ap toldReach (c .before .fault .given .1)) ∙ e))
 
 enum-known-n : tie.Need-enum-known-n
 enum-known-n c = search needs
 
 add-t25 : tie.Need-add-t25
 add-t25 c =
-    let s = now ((start (at-known-told (at-else1 (at-name-rows-arg-2 c)))) .args .s) in
-    let t = now ((start (at-known-told (at-else1 (at-name-rows-arg-2 c)))) .args .ids) in
+    let s = now ((start (after-known-told₁ (at-else1 (after-name-rows-arg₂ c)))) .args .s) in
+    let t = now ((start (after-known-told₁ (at-else1 (after-name-rows-arg₂ c)))) .args .ids) in
     let e = rw (rest-is 7 s) at (c .before .before .before .name-rows .ensures .0) in
-    omega (arith, length-drop 7 s, read-behind (num 2) 5 s (count-is (at-name-rows-arg-2 c .before .before)) (lit< tt), within-ended (items (nameRow (freeIn t)) (at-name-rows-arg-2 c .before .before .count .given .0 .0)) (drop 7 s) (sym (ap toldReach (c .before .n .given .1)) ∙ e))
+    omega (arith, length-drop 7 s, read-behind (num 2) 5 s (count-is (after-name-rows-arg₂ c .before .before)) (lit< tt), within-ended (items (nameRow (freeIn t)) (after-name-rows-arg₂ c .before .before .count .given .0 .0)) (drop 7 s) (sym (ap toldReach (c .before .n .given .1)) ∙ e))
 
 -- the table after the rows
-marks : (c : tie.After-name-rows) → let a = start (at-known-told (at-else1 (c .before .before))) .args in
+marks : (c : tie.After-name-rows) → let a = start (after-known-told₁ (at-else1 (c .before .before))) .args in
     RowsMarked (now (a .ids)) (c .name-rows .last .1 .1 .0) (items (nameRow (freeIn (now (a .ids)))) (c .before .before .before .before .count .given .0 .0) .read (drop 7 (now (a .s))))
 marks c =
-    let a = start (at-known-told (at-else1 (c .before .before))) .args in
+    let a = start (after-known-told₁ (at-else1 (c .before .before))) .args in
     let e = rw (rest-is 7 (now (a .s))) at (c .name-rows .ensures) in
-    marked-rows (now (a .ids)) (drop 7 (now (a .s))) _ (e .1 .1) (bytes-drop 7 (now (a .s)) (λ i. at-known-told (at-else1 (c .before .before)) .before .before .before .before .shared-slice-known .given i .fits)) (e .1 .0)
+    marked-rows (now (a .ids)) (drop 7 (now (a .s))) _ (e .1 .1) (bytes-drop 7 (now (a .s)) (λ i. after-known-told₁ (at-else1 (c .before .before)) .before .before .before .before .shared-slice-known .given i .fits)) (e .1 .0)
 
 returns-5 : tie.Need-returns-5
 returns-5 c =
-    let a = start (at-known-told (at-else1 (at-name-rows-arg c))) .args in
+    let a = start (after-known-told₁ (at-else1 (after-name-rows-arg₁ c))) .args in
     let e = rw (rest-is 7 (now (a .s))) at (c .before .before .before .name-rows .ensures) in
-    told-no-rows (now (a .ids)) (now (a .s)) (time-is (at-known-told (at-else1 (at-name-rows-arg c)) .before)) (zero-is (at-else1 (at-name-rows-arg c))) (count-is (at-name-rows-arg c .before .before)) (c .before .before .before .name-rows .last .1 .1 .0) (sym (ap toldReach (c .before .fault .given .1)) ∙ e .0) (marks (c .before .before .before))
+    told-no-rows (now (a .ids)) (now (a .s)) (time-is (after-known-told₁ (at-else1 (after-name-rows-arg₁ c)) .before)) (zero-is (at-else1 (after-name-rows-arg₁ c))) (count-is (after-name-rows-arg₁ c .before .before)) (c .before .before .before .name-rows .last .1 .1 .0) (sym (ap toldReach (c .before .fault .given .1)) ∙ e .0) (marks (c .before .before .before))
 
 returns-6 : tie.Need-returns-6
 returns-6 c =
-    let a = start (at-known-told (at-else1 (at-name-rows-arg-2 c))) .args in
+    let a = start (after-known-told₁ (at-else1 (after-name-rows-arg₂ c))) .args in
     let e = rw (rest-is 7 (now (a .s))) at (c .before .before .before .name-rows .ensures) in
-    told-rows (now (a .ids)) (now (a .s)) (time-is (at-known-told (at-else1 (at-name-rows-arg-2 c)) .before)) (zero-is (at-else1 (at-name-rows-arg-2 c))) (count-is (at-name-rows-arg-2 c .before .before)) (c .before .before .before .name-rows .last .1 .1 .0) (sym (ap toldReach (c .before .n .given .1)) ∙ e .0) (marks (c .before .before .before))
+    told-rows (now (a .ids)) (now (a .s)) (time-is (after-known-told₁ (at-else1 (after-name-rows-arg₂ c)) .before)) (zero-is (at-else1 (after-name-rows-arg₂ c))) (count-is (after-name-rows-arg₂ c .before .before)) (c .before .before .before .name-rows .last .1 .1 .0) (sym (ap toldReach (c .before .n .given .1)) ∙ e .0) (marks (c .before .before .before))
 
 pub name-mapping-spec : {M : Type 1} → statement M
 name-mapping-spec =

@@ -18,7 +18,7 @@ Inv-loop s count ids₀ rest₀ at₀ left₀ ids rest at left = Named ids₀ s 
 abbrev μ-loop : tie.MeasureT-loop
 μ-loop s count ids₀ rest₀ at₀ left₀ ids rest at left = left
 
--- places on the way, each from one that lies further on
+-- places in the function, each reached from one further on
 abbrev start : tie.In-loop Inv-loop μ-loop → tie.Start Inv-loop μ-loop
 start c = c .before .before .before .before .before
 

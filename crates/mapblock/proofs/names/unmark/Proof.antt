@@ -23,7 +23,7 @@ Inv-loop s count ids₀ rest₀ left₀ ids rest left = (unmarked ids (frontRows
 abbrev μ-loop : tie.MeasureT-loop
 μ-loop s count ids₀ rest₀ left₀ ids rest left = left
 
--- places in the function, each from the places behind it
+-- places in the function, each reached from one further on
 abbrev at-loop : tie.After-rest Inv-loop μ-loop → tie.At-loop Inv-loop μ-loop
 at-loop c = c .before .before .before .before .before .before .before
 

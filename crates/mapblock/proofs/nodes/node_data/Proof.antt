@@ -17,21 +17,21 @@ use Rattle.mapblock.proofs.Entries.{nodes-refused, nodes-other, nodes-r
 use Rattle.mapblock.proofs.nodes.node_data.Statement.{statement}
 use Rattle.mapblock.proofs.nodes.node_data.Tie as tie
 
--- places on the way, each from one that lies further on
+-- places in the function, each reached from one further on
 abbrev start-2 : tie.After-known-told → tie.Start
 start-2 c = c .before .before .before .before .before
 
-abbrev at-known-told : tie.After-two → tie.After-known-told
-at-known-told c = c .before .before .before .before .before
+abbrev after-known-told₁ : tie.After-two → tie.After-known-told
+after-known-told₁ c = c .before .before .before .before .before
 
-abbrev at-known-told-2 : tie.After-enum-told2 → tie.After-known-told
-at-known-told-2 c = c .before .before .before .before .before
+abbrev after-known-told₂ : tie.After-enum-told2 → tie.After-known-told
+after-known-told₂ c = c .before .before .before .before .before
 
 -- what the two bytes are
 first : (c : tie.After-known-told) → u8 {ends = fault.Ends} .read (now (c .before .before .before .before .before .args .s)) ≡ done (c .before .content .given .0 .0) 1
 first c = by-number 1 _ toldU8 (c .before .before .before .u8-at .ensures) (c .before .content .given .1)
 
-second : (c : tie.After-known-told2) → u8 {ends = fault.Ends} .read (drop 1 (now (start-2 (at-known-told (c .before)) .args .s))) ≡ done (c .before .two .given .0 .0) 1
+second : (c : tie.After-known-told2) → u8 {ends = fault.Ends} .read (drop 1 (now (start-2 (after-known-told₁ (c .before)) .args .s))) ≡ done (c .before .two .given .0 .0) 1
 second c = by-number 1 _ toldU8 (c .before .before .before .u8-at2 .ensures) (c .before .two .given .1)
 
 -- behind them
@@ -42,7 +42,7 @@ long : (c : tie.Else2) → 2 ≤ length (now (start c .args .s))
 long c = read-behind u8 1 (now (start c .args .s)) (second (c .before)) (omega arith)
 
 ready : (c : tie.Else2) → let a = start c .args in ended (nodes (a .version) .read (now (a .s))) ≡ shift 2 (λ x. x) (ended (params (a .version) .read (drop 2 (now (a .s)))))
-ready c = let a = start c .args in nodes-on (a .version) (now (a .s)) (first (at-known-told (c .before .before))) (omega arith) (second (c .before)) (omega arith)
+ready c = let a = start c .args in nodes-on (a .version) (now (a .s)) (first (after-known-told₁ (c .before .before))) (omega arith) (second (c .before)) (omega arith)
 
 told : (c : tie.After-params) {r : Reach} → c .params .result ≡ r → let a = start (c .before .before) .args in toldReach r ≡ ended (params (a .version) .read (drop 2 (now (a .s))))
 told c e = sym (ap toldReach e) ∙ (rw rest-is at (c .params .ensures))
@@ -91,13 +91,13 @@ enum-told-2 c = search needs
 
 returns-3 : tie.Need-returns-3
 returns-3 c =
-    let a = start-2 (at-known-told-2 c) .args in
+    let a = start-2 (after-known-told₂ c) .args in
     rw (nodes-refused-2 (a .version) (now (a .s)) (first (c .before .before .before .before .before)) (omega arith) (by-number 1 _ toldU8 (c .before .before .u8-at2 .ensures) (c .enum-told2 .given .1)))
 
 returns-4 : tie.Need-returns-4
 returns-4 c =
-    let a = start-2 (at-known-told (c .before .before)) .args in
-    rw (nodes-other-2 (a .version) (now (a .s)) (first (at-known-told (c .before .before))) (omega arith) (second (c .before)) (omega arith))
+    let a = start-2 (after-known-told₁ (c .before .before)) .args in
+    rw (nodes-other-2 (a .version) (now (a .s)) (first (after-known-told₁ (c .before .before))) (omega arith) (second (c .before)) (omega arith))
 
 sub-params : tie.Need-sub-params
 sub-params c = long c

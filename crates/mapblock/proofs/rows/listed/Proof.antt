@@ -15,31 +15,31 @@ use Rattle.mapblock.proofs.RowLists.{listed-told}
 use Rattle.mapblock.proofs.rows.listed.Statement.{statement}
 use Rattle.mapblock.proofs.rows.listed.Tie as tie
 
--- places on the way, each from one that lies further on
+-- places in the function, each reached from one further on
 abbrev start : tie.After-known-told → tie.Start
 start c = c .before .before .before .before .before
 
-abbrev at-known-told : tie.After-known-told2 → tie.After-known-told
-at-known-told c = c .before .before .before .before .before
+abbrev after-known-told₁ : tie.After-known-told2 → tie.After-known-told
+after-known-told₁ c = c .before .before .before .before .before
 
-abbrev at-known-told-2 : tie.After-known-told3 → tie.After-known-told
-at-known-told-2 c = c .before .before .before .before .before
+abbrev after-known-told₂ : tie.After-known-told3 → tie.After-known-told
+after-known-told₂ c = c .before .before .before .before .before
 
 -- the count
 count : (c : tie.After-known-told) → num 2 .read (now (c .before .before .before .before .before .args .s)) ≡ done (c .before .count .given .0 .0) 2
 count c = by-number 2 _ toldU16 (c .before .before .before .u16-at .ensures) (c .before .count .given .1)
 
 -- the rows behind it: refused, or read
-no-rows : (c : tie.After-known-told2) → let a = start (at-known-told c) .args in
+no-rows : (c : tie.After-known-told2) → let a = start (after-known-told₁ c) .args in
     refused (c .before .fault .given .0 .0) (2 + c .before .fault .given .0 .1 .0) ≡ ended (listed 2 (rowAfter (a .kind) (a .version)) .read (now (a .s)))
 no-rows c =
-    let a = start (at-known-told c) .args in
+    let a = start (after-known-told₁ c) .args in
     listed-told 2 (rowAfter (a .kind) (a .version)) (now (a .s)) (count (c .before .before .before .before .before)) (c .before .before .before .rows .ensures) (c .before .fault .given .1)
 
-all-rows : (c : tie.After-known-told3) → let a = start (at-known-told-2 c) .args in
+all-rows : (c : tie.After-known-told3) → let a = start (after-known-told₂ c) .args in
     done tt (2 + c .before .n .given .0 .0) ≡ ended (listed 2 (rowAfter (a .kind) (a .version)) .read (now (a .s)))
 all-rows c =
-    let a = start (at-known-told-2 c) .args in
+    let a = start (after-known-told₂ c) .args in
     listed-told 2 (rowAfter (a .kind) (a .version)) (now (a .s)) (count (c .before .before .before .before .before)) (c .before .before .before .rows .ensures) (c .before .n .given .1)
 
 u16-at-requires : tie.Need-u16-at-requires
@@ -70,13 +70,13 @@ enum-known-fault : tie.Need-enum-known-fault
 enum-known-fault c = search needs
 
 add-t16 : tie.Need-add-t16
-add-t16 c = let a = start (at-known-told c) .args in omega (arith, within-ended (listed 2 (rowAfter (a .kind) (a .version))) _ (no-rows c))
+add-t16 c = let a = start (after-known-told₁ c) .args in omega (arith, within-ended (listed 2 (rowAfter (a .kind) (a .version))) _ (no-rows c))
 
 enum-known-n : tie.Need-enum-known-n
 enum-known-n c = search needs
 
 add-t17 : tie.Need-add-t17
-add-t17 c = let a = start (at-known-told-2 c) .args in omega (arith, within-ended (listed 2 (rowAfter (a .kind) (a .version))) _ (all-rows c))
+add-t17 c = let a = start (after-known-told₂ c) .args in omega (arith, within-ended (listed 2 (rowAfter (a .kind) (a .version))) _ (all-rows c))
 
 returns-2 : tie.Need-returns-2
 returns-2 c = no-rows c

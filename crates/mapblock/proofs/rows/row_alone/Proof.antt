@@ -7,7 +7,7 @@ use Rattle.mapblock.proofs.RowLists.{row-told}
 use Rattle.mapblock.proofs.rows.row_alone.Statement.{statement}
 use Rattle.mapblock.proofs.rows.row_alone.Tie as tie
 
--- places in the function, each from the places behind it
+-- places in the function, each reached from one further on
 abbrev start : tie.After-metadata-row → tie.Start
 start c = c .before .before .before .before
 

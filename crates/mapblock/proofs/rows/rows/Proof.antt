@@ -18,7 +18,7 @@ Inv-loop kind version s count marks₀ rest₀ at₀ left₀ marks rest at left 
 abbrev μ-loop : tie.MeasureT-loop
 μ-loop kind version s count marks₀ rest₀ at₀ left₀ marks rest at left = left
 
--- places in the function, each from the places behind it
+-- places in the function, each reached from one further on
 abbrev at-loop : tie.After-rest Inv-loop μ-loop → tie.At-loop Inv-loop μ-loop
 at-loop c = c .before .before .before .before .before .before .before
 

@@ -10,12 +10,12 @@ use mathlib.Core.Path.{refl, ap, sym, _∙_}
 use Rattle.mapblock.proofs.timers.timer_row.Statement.{statement}
 use Rattle.mapblock.proofs.timers.timer_row.Tie as tie
 
--- places on the way, each from one that lies further on
-abbrev at-known-told2 : tie.After-s32-at2 → tie.After-known-told2
-at-known-told2 c = c .before .before .before .before .before
+-- places in the function, each reached from one further on
+abbrev after-known-told2 : tie.After-s32-at2 → tie.After-known-told2
+after-known-told2 c = c .before .before .before .before .before
 
-abbrev at-s32-at : tie.After-s32-at2 → tie.After-s32-at
-at-s32-at c = c .before .before .before .before
+abbrev after-s32-at : tie.After-s32-at2 → tie.After-s32-at
+after-s32-at c = c .before .before .before .before
 
 position-requires : tie.Need-position-requires
 position-requires c κs = search needs
@@ -49,7 +49,7 @@ enum-told-2 c = search needs
 
 returns-2 : tie.Need-returns-2
 returns-2 c =
-    timer-no-elapsed _ (sym (at-known-told2 (c .before .before) .before .before .before .position .ensures) ∙ ap toldPosition (at-known-told2 (c .before .before) .before .position2 .given .1)) (by-signed 4 half32 refl _ toldS32 (c .before .before .before .before .before .before .s32-at .ensures) (c .before .before .before .before .timeout .given .1))
+    timer-no-elapsed _ (sym (after-known-told2 (c .before .before) .before .before .before .position .ensures) ∙ ap toldPosition (after-known-told2 (c .before .before) .before .position2 .given .1)) (by-signed 4 half32 refl _ toldS32 (c .before .before .before .before .before .before .s32-at .ensures) (c .before .before .before .before .timeout .given .1))
     (by-signed 4 half32 refl _ toldS32 (c .before .before .s32-at2 .ensures) (c .enum-told2 .given .1))
 
 returns-3 : tie.Need-returns-3
@@ -58,7 +58,7 @@ returns-3 c = timer-no-position _ (sym (c .before .before .before .position .ens
 returns-4 : tie.Need-returns-4
 returns-4 c =
     rw (toZ-ofZ w32 _ (record { sfits = c .before .before .before .before .known-told3 .given .0 .1 }), toZ-ofZ w32 _ (record { sfits = c .known-told4 .given .0 .1 }))
-    (timer-done _ (sym (at-known-told2 (c .before .before .before) .before .before .before .position .ensures) ∙ ap toldPosition (at-known-told2 (c .before .before .before) .before .position2 .given .1)) (by-signed 4 half32 refl _ toldS32 (at-s32-at (c .before .before .before) .s32-at .ensures) (c .before .before .before .before .before .timeout .given .1))
+    (timer-done _ (sym (after-known-told2 (c .before .before .before) .before .before .before .position .ensures) ∙ ap toldPosition (after-known-told2 (c .before .before .before) .before .position2 .given .1)) (by-signed 4 half32 refl _ toldS32 (after-s32-at (c .before .before .before) .s32-at .ensures) (c .before .before .before .before .before .timeout .given .1))
     (by-signed 4 half32 refl _ toldS32 (c .before .before .before .s32-at2 .ensures) (c .before .elapsed .given .1)))
 
 pub timer-row-spec : {M : Type 1} → statement M

@@ -7,7 +7,7 @@ use borrow.Author.Needs.{needs}
 use Rattle.meter.proofs.adding.add_block.Statement.{statement}
 use Rattle.meter.proofs.adding.add_block.Tie as tie
 
--- places in the function, each from the places behind it
+-- places in the function, each reached from one further on
 abbrev after-slice-of : tie.After-clear → tie.After-slice-of
 after-slice-of c = c .before .before .before .before .before .before .before .before .before .before
 

@@ -15,15 +15,15 @@ use borrow.Author.Needs.{needs}
 use Rattle.meter.proofs.block_tally.put_tally.Statement.{statement}
 use Rattle.meter.proofs.block_tally.put_tally.Tie as tie
 
--- places in the function, each from the places behind it
+-- places in the function, each reached from one further on
 abbrev start₁ : tie.After-add-block → tie.Start
 start₁ c = c .before .before .before .before .before .before .before .before .before
 
 abbrev start₂ : tie.After-struct-known2 → tie.Start
 start₂ c = start₁ (c .before .before .before .before .before .before .before .before .before)
 
-abbrev after-slice : tie.After-add-block → tie.After-shared-slice-known
-after-slice c = c .before .before .before .before .before .before .before .before
+abbrev after-shared-slice-known : tie.After-add-block → tie.After-shared-slice-known
+after-shared-slice-known c = c .before .before .before .before .before .before .before .before
 
 abbrev else1₁ : tie.After-slice-known2 → tie.Else1
 else1₁ c = c .before .before .before .before .before .before .before .before
@@ -40,11 +40,11 @@ absorbed : (c : tie.After-add-block) (b : Block) → ScannedAs (now (start₁ c 
     (tallyOf byOne (nodesIn (start₁ c .args .part) (placed (start₁ c .args .at) b ∷ [])))
 unfolding clearTable
 absorbed c b f =
-    put-absorbed (start₁ c .args .part) (start₁ c .args .at) (λ i. after-slice c .shared-slice-known .given i .fits) f _ (c .before .empty .ensures) (λ R. c .add-block .ensures .1 b R)
+    put-absorbed (start₁ c .args .part) (start₁ c .args .at) (λ i. after-shared-slice-known c .shared-slice-known .given i .fits) f _ (c .before .empty .ensures) (λ R. c .add-block .ensures .1 b R)
 
 rowsFit : (c : tie.After-add-block) (b : Block) → ScannedAs (now (start₁ c .args .block)) (start₁ c .args .scanned) b
     → length (tallyOf byOne (nodesIn (start₁ c .args .part) (placed (start₁ c .args .at) b ∷ []))) ≤ 4096
-rowsFit c b f = put-few (start₁ c .args .part) (start₁ c .args .at) (λ i. after-slice c .shared-slice-known .given i .fits) f
+rowsFit c b f = put-few (start₁ c .args .part) (start₁ c .args .at) (λ i. after-shared-slice-known c .shared-slice-known .given i .fits) f
 
 returns : tie.Need-returns
 returns c = λ b f. put-headless (c .before .before .before .args .part) (c .before .before .before .args .at) (λ i. c .before .before .shared-slice-known .given i .fits) f (now (c .before .before .before .args .out)) (c .if1 .taken)

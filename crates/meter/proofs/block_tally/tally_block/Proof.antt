@@ -19,8 +19,8 @@ after-scan c = c .before .before .before .before .before .before .before
 abbrev start : tie.After-scan → tie.Start
 start k = k .before .before .before .before .before .before .before .before .before .before
 
-abbrev after-slice : tie.After-scan → tie.After-shared-slice-known
-after-slice k = k .before .before .before .before .before .before .before .before .before
+abbrev after-shared-slice-known : tie.After-scan → tie.After-shared-slice-known
+after-shared-slice-known k = k .before .before .before .before .before .before .before .before .before
 
 abbrev after-is-good : tie.After-scan → tie.After-is-good
 after-is-good k = k .before .before .before .before .before .before .before
@@ -68,7 +68,7 @@ enum-known-scanned c = search needs
 put-tally-requires : tie.Need-put-tally-requires
 put-tally-requires c κs =
     let k = c .before .before .before .before in
-    block-found _ _ (start k .args .part) (now (start k .args .out)) (part-told (after-is-good k) (not-false _ (else1 k .if1 .left))) (told-as toldSplit (told (k .before .before .before .before .before)) (k .before .before .before .at .given .1)) (λ i. after-slice k .shared-slice-known .given i .fits) (told-as toldScan (k .scan .ensures .0) (c .before .before .scanned .given .1))
+    block-found _ _ (start k .args .part) (now (start k .args .out)) (part-told (after-is-good k) (not-false _ (else1 k .if1 .left))) (told-as toldSplit (told (k .before .before .before .before .before)) (k .before .before .before .at .given .1)) (λ i. after-shared-slice-known k .shared-slice-known .given i .fits) (told-as toldScan (k .scan .ensures .0) (c .before .before .scanned .given .1))
 
 returns-3 : tie.Need-returns-3
 returns-3 c =
@@ -81,7 +81,7 @@ same-length c = search needs
 returns-4 : tie.Need-returns-4
 returns-4 c =
     let k = after-scan c in
-    block-put _ _ (start k .args .part) (now (start k .args .out)) (part-told (after-is-good k) (not-false _ (else1 k .if1 .left))) (told-as toldSplit (told (k .before .before .before .before .before)) (k .before .before .before .at .given .1)) (λ i. after-slice k .shared-slice-known .given i .fits) (told-as toldScan (k .scan .ensures .0) (c .before .before .before .before .before .scanned .given .1)) _ (c .before .before .put-tally .result) (c .before .before .put-tally .ensures)
+    block-put _ _ (start k .args .part) (now (start k .args .out)) (part-told (after-is-good k) (not-false _ (else1 k .if1 .left))) (told-as toldSplit (told (k .before .before .before .before .before)) (k .before .before .before .at .given .1)) (λ i. after-shared-slice-known k .shared-slice-known .given i .fits) (told-as toldScan (k .scan .ensures .0) (c .before .before .before .before .before .scanned .given .1)) _ (c .before .before .put-tally .result) (c .before .before .put-tally .ensures)
 
 pub tally-block-spec : {M : Type 1} → statement M
 tally-block-spec =

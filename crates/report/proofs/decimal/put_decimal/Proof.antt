@@ -4,7 +4,7 @@ use Rattle.report.proofs.Decimals.{decimal-front, decimal-many}
 use Rattle.report.proofs.decimal.put_decimal.Statement.{statement}
 use Rattle.report.proofs.decimal.put_decimal.Tie as tie
 
--- places in the function, each from the places behind it
+-- places in the function, each reached from one further on
 abbrev start : tie.After-slice-known2 → tie.Start
 start c = c .before .before .before .before .before .before .before .before
 

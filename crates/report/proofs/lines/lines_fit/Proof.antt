@@ -21,7 +21,7 @@ Inv-loop rows room rest₀ left₀ rest left = Measuring rows rest room left
 abbrev μ-loop : tie.MeasureT-loop
 μ-loop rows room rest₀ left₀ rest left = length rest
 
--- places in the function, each from the places behind it
+-- places in the function, each reached from one further on
 abbrev start : tie.After-decimal-length Inv-loop μ-loop → tie.Start Inv-loop μ-loop
 start c = c .before .before .before .before .before .before .before
 

@@ -20,7 +20,7 @@ Inv-loop out₀ from rows rest₀ at₀ out rest at = Writing from rows rest out
 abbrev μ-loop : tie.MeasureT-loop
 μ-loop out₀ from rows rest₀ at₀ out rest at = length rest
 
--- places in the function, each from the places behind it
+-- places in the function, each reached from one further on
 abbrev start : tie.After-put-line-arg Inv-loop μ-loop → tie.Start Inv-loop μ-loop
 start c = c .before .before .before .before .before .before .before .before
 

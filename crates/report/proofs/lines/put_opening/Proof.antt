@@ -5,7 +5,7 @@ use Rattle.report.proofs.Texts.{opening-put}
 use Rattle.report.proofs.lines.put_opening.Statement.{statement}
 use Rattle.report.proofs.lines.put_opening.Tie as tie
 
--- places in the function, each from the places behind it
+-- places in the function, each reached from one further on
 abbrev start : tie.After-slice-known3 → tie.Start
 start c = c .before .before .before .before .before .before .before .before .before .before
 

@@ -5,7 +5,7 @@ use Rattle.report.proofs.Texts.{refusal-short, refusal-all}
 use Rattle.report.proofs.refusal.refusal_text.Statement.{statement}
 use Rattle.report.proofs.refusal.refusal_text.Tie as tie
 
--- places in the function, each from the places behind it
+-- places in the function, each reached from one further on
 abbrev after-decimal-length : tie.After-slice-known6 → tie.After-decimal-length
 after-decimal-length c = c .before .before .before .before .before .before .before .before .before .before .before .before .before .before .before .before .before .before .before .before .before .before .before .before .before
 

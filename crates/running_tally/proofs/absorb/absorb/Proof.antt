@@ -12,7 +12,7 @@ use Rattle.running_tally.proofs.Absorbing.{still-over, not-short, no-ro
 use Rattle.running_tally.proofs.absorb.absorb.Statement.{statement}
 use Rattle.running_tally.proofs.absorb.absorb.Tie as tie
 
--- the places that the proofs below go back to
+-- places in the function, each reached from one further on
 abbrev if1-left₁ : tie.After-raise → tie.Else1
 if1-left₁ c = c .before .before .before
 

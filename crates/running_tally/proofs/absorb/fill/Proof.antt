@@ -16,7 +16,7 @@ Inv-loop s counts places t₀ missing end hole₀ i₀ t hole i = Filling s coun
 abbrev μ-loop : tie.MeasureT-loop
 μ-loop s counts places t₀ missing end hole₀ i₀ t hole i = length places - i
 
--- the places that the proofs below go back to
+-- places in the function, each reached from one further on
 abbrev turn : tie.After-fill-row-arg Inv-loop μ-loop → tie.At-loop Inv-loop μ-loop
 turn c = c .before .before .before .before .before .before .before
 

@@ -12,7 +12,7 @@ use Rattle.running_tally.proofs.FilledRow.{row-in, row-passed, place-in
 use Rattle.running_tally.proofs.absorb.fill_row.Statement.{statement}
 use Rattle.running_tally.proofs.absorb.fill_row.Tie as tie
 
--- the places that the proofs below go back to
+-- places in the function, each reached from one further on
 abbrev after-slice-known : tie.After-look-up → tie.After-slice-known
 after-slice-known c = c .before .before .before .before
 

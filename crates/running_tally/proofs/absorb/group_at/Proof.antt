@@ -15,7 +15,7 @@ Inv-loop s counts places i first name count₀ j₀ count j = Gathering s counts
 abbrev μ-loop : tie.MeasureT-loop
 μ-loop s counts places i first name count₀ j₀ count j = length places - j
 
--- the places that the proofs below go back to
+-- places in the function, each reached from one further on
 abbrev tested : tie.After-compare Inv-loop μ-loop → tie.In-loop Inv-loop μ-loop
 tested c = c .before .before .before
 

@@ -19,7 +19,7 @@ Inv-loop s counts places t₀ size room at₀ missing₀ rows₀ i₀ t at missi
 abbrev μ-loop : tie.MeasureT-loop
 μ-loop s counts places t₀ size room at₀ missing₀ rows₀ i₀ t at missing rows i = length places - i
 
--- the places that the proofs below go back to
+-- places in the function, each reached from one further on
 abbrev turn : tie.After-raise-row Inv-loop μ-loop → tie.At-loop Inv-loop μ-loop
 turn c = c .before .before .before .before .before .before
 

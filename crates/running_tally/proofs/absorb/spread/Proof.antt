@@ -5,7 +5,7 @@ use Rattle.running_tally.proofs.Filling.{spread-none, spread-filled}
 use Rattle.running_tally.proofs.absorb.spread.Statement.{statement}
 use Rattle.running_tally.proofs.absorb.spread.Tie as tie
 
--- the places that the proofs below go back to
+-- places in the function, each reached from one further on
 abbrev entry : tie.After-slice-known3 → tie.Start
 entry c = c .before .before .before .before .before .before .before .before .before .before .before .before
 

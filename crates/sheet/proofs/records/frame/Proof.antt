@@ -8,7 +8,7 @@ use borrow.Author.Needs.{needs}
 use Rattle.sheet.proofs.records.frame.Statement.{statement}
 use Rattle.sheet.proofs.records.frame.Tie as tie
 
--- places in the function, each from the places behind it
+-- places in the function, each reached from one further on
 abbrev after-s64-at : tie.After-known-told2 → tie.After-s64-at
 after-s64-at c = c .before .before .before .before .before .before .before
 

@@ -11,7 +11,7 @@ use borrow.Author.Needs.{needs}
 use Rattle.sheet.proofs.records.judge_record.Statement.{statement}
 use Rattle.sheet.proofs.records.judge_record.Tie as tie
 
--- places in the function, each from the places behind it
+-- places in the function, each reached from one further on
 abbrev after-split : tie.After-scan → tie.After-split
 after-split c = c .before .before .before .before .before .before .before
 

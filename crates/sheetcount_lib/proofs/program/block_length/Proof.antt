@@ -6,7 +6,7 @@ use Rattle.sheetcount_lib.proofs.Sheetcount.{twelve-no-key, twelve-no-l
 use Rattle.sheetcount_lib.proofs.program.block_length.Statement.{statement}
 use Rattle.sheetcount_lib.proofs.program.block_length.Tie as tie
 
--- places in the function, each from the places behind it
+-- places in the function, each reached from one further on
 abbrev after-s64-at : tie.After-known-told → tie.After-s64-at
 after-s64-at c = c .before .before .before .before .before .before
 

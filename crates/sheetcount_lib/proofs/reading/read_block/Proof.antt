@@ -10,7 +10,7 @@ use Rattle.sheetcount_lib.proofs.Counts.{within-part}
 use Rattle.sheetcount_lib.proofs.reading.read_block.Statement.{statement}
 use Rattle.sheetcount_lib.proofs.reading.read_block.Tie as tie
 
--- places in the function, each from the places behind it
+-- places in the function, each reached from one further on
 abbrev start : tie.After-slice-known2 → tie.Start
 start c = c .before .before .before .before .before
 

@@ -16,7 +16,7 @@ use Rattle.sheetcount_lib.proofs.Counts.{within-part, within-more, reco
 use Rattle.sheetcount_lib.proofs.reading.read_record.Statement.{statement}
 use Rattle.sheetcount_lib.proofs.reading.read_record.Tie as tie
 
--- places in the function, each from the places behind it
+-- places in the function, each reached from one further on
 abbrev start₁ : tie.After-known-told → tie.Start
 start₁ c = c .before .before .before .before .before .before .before .before
 
@@ -26,8 +26,8 @@ start₂ c = start₁ (c .before .before .before .before .before .before .before
 abbrev after-bytes : tie.After-known-told2 → tie.After-bytes
 after-bytes c = c .before .before .before .before .before .before .before .before .before
 
-abbrev after-told : tie.After-slice-known3 → tie.After-known-told
-after-told c = c .before .before .before .before .before .before .before .before .before
+abbrev after-known-told : tie.After-slice-known3 → tie.After-known-told
+after-known-told c = c .before .before .before .before .before .before .before .before .before
 
 -- how many of the first twelve bytes there are, and the buffer that holds them
 abbrev head : tie.After-known-told → ℕ
@@ -112,7 +112,7 @@ same-length-4 c = search needs
 returns-4 : tie.Need-returns-4
 returns-4 c =
     let k = c .before .before .before .before in
-    let h = after-told c in
+    let h = after-known-told c in
     let b = after-bytes (c .before .before .before .before) in
     let e = c .before .before in
     let room : 12 + k .before .size .given .0 .0 ≤ length (now (start₂ c .args .bytes)) = omega (arith, short k, start₂ c .pre) in

@@ -16,7 +16,7 @@ use Rattle.tally.proofs.Adding.{add-long, add-beyond, add-malformed, no
 use Rattle.tally.proofs.add.add.Statement.{statement}
 use Rattle.tally.proofs.add.add.Tie as tie
 
--- places in the function, each from the places behind it
+-- places in the function, each reached from one further on
 abbrev start₁ : tie.After-enum-told → tie.Start
 start₁ c = c .before .before .before .before .before .before .before .before
 
@@ -29,8 +29,8 @@ else1 c = c .before .before .before .before .before .before
 abbrev else2 : tie.After-add-row-arg → tie.Else2
 else2 c = c .before .before .before .before .before .before .before
 
-abbrev after-lent : tie.After-add-row-arg → tie.After-slice-known
-after-lent c = c .before .before .before .before .before .before .before .before .before .before
+abbrev after-slice-known : tie.After-add-row-arg → tie.After-slice-known
+after-slice-known c = c .before .before .before .before .before .before .before .before .before .before
 
 -- the row to be added
 abbrev asked : tie.Start → Row ℕ
@@ -81,7 +81,7 @@ returns-4 c =
 add-row-requires : tie.Need-add-row-requires
 add-row-requires c κs =
     let s = start₂ (c .before .before) in
-    may-add (now (s .args .buffer)) (s .args .used) _ (asked s) (else1 (c .before .before) .if1 .left) (else2 c .if2 .left) (a-tally (c .before .before)) (λ i. after-lent c .slice-known .given i .fits) (omega arith)
+    may-add (now (s .args .buffer)) (s .args .used) _ (asked s) (else1 (c .before .before) .if1 .left) (else2 c .if2 .left) (a-tally (c .before .before)) (λ i. after-slice-known c .slice-known .given i .fits) (omega arith)
 
 same-length-3 : tie.Need-same-length-3
 same-length-3 c = search needs

@@ -13,18 +13,18 @@ use Rattle.tally.proofs.Adding.{row-place, row-full, row-counted, new-p
 use Rattle.tally.proofs.add.add_row.Statement.{statement}
 use Rattle.tally.proofs.add.add_row.Tie as tie
 
--- places in the function, each from the places behind it
-abbrev after-lent₁ : tie.After-look-up → tie.After-slice-known
-after-lent₁ c = c .before .before .before .before
+-- places in the function, each reached from one further on
+abbrev after-slice-known₁ : tie.After-look-up → tie.After-slice-known
+after-slice-known₁ c = c .before .before .before .before
 
-abbrev after-lent₂ : tie.After-slice-known2 → tie.After-slice-known
-after-lent₂ c = after-lent₁ (c .before .before .before .before .before .before .before .before)
+abbrev after-slice-known₂ : tie.After-slice-known2 → tie.After-slice-known
+after-slice-known₂ c = after-slice-known₁ (c .before .before .before .before .before .before .before .before)
 
-abbrev after-lent₃ : tie.After-slice-known4 → tie.After-slice-known
-after-lent₃ c = after-lent₁ (c .before .before .before .before .before .before .before .before .before .before .before .before .before)
+abbrev after-slice-known₃ : tie.After-slice-known4 → tie.After-slice-known
+after-slice-known₃ c = after-slice-known₁ (c .before .before .before .before .before .before .before .before .before .before .before .before .before)
 
-abbrev after-told2 : tie.After-slice-known4 → tie.After-known-told2
-after-told2 c = c .before .before .before .before .before .before .before .before .before .before
+abbrev after-known-told2 : tie.After-slice-known4 → tie.After-known-told2
+after-known-told2 c = c .before .before .before .before .before .before .before .before .before .before
 
 -- the row to be added, and the rows that are there
 abbrev asked : tie.Start → Row ℕ
@@ -38,7 +38,7 @@ abbrev start₁ : tie.After-known-told → tie.Start
 start₁ c = c .before .before .before .before .before .before .before .before
 
 a-row : (c : tie.After-known-told) → LookedUp (part (start₁ c)) (now (start₁ c .args .name)) (lookups.Present (c .before .at .given .0 .0) (c .before .at .given .0 .1 .0))
-a-row c = let s = start₁ c in looked-up-told (now (s .args .buffer)) 9 (s .args .used - 9) (now (s .args .name)) (λ i. after-lent₁ (c .before .before .before) .slice-known .given i .fits) (c .before .before .before .look-up .ensures) (c .before .at .given .1)
+a-row c = let s = start₁ c in looked-up-told (now (s .args .buffer)) 9 (s .args .used - 9) (now (s .args .name)) (λ i. after-slice-known₁ (c .before .before .before) .slice-known .given i .fits) (c .before .before .before .look-up .ensures) (c .before .at .given .1)
 
 row-in : (c : tie.After-known-told) → (let s = start₁ c in c .before .at .given .0 .0 + (length (now (s .args .name)) + 10) + 9 ≤ s .args .used)
 row-in c = let s = start₁ c in row-place (now (s .args .buffer)) (s .args .used) (s .args .rows) (asked s) (s .pre) _ _ (a-row c)
@@ -47,7 +47,7 @@ abbrev start₂ : tie.After-known-told2 → tie.Start
 start₂ c = c .before .before .before .before .before .before .before .before
 
 a-place : (c : tie.After-known-told2) → LookedUp (part (start₂ c)) (now (start₂ c .args .name)) (lookups.Absent (c .before .at2 .given .0 .0))
-a-place c = let s = start₂ c in looked-up-told (now (s .args .buffer)) 9 (s .args .used - 9) (now (s .args .name)) (λ i. after-lent₁ (c .before .before .before) .slice-known .given i .fits) (c .before .before .before .look-up .ensures) (c .before .at2 .given .1)
+a-place c = let s = start₂ c in looked-up-told (now (s .args .buffer)) 9 (s .args .used - 9) (now (s .args .name)) (λ i. after-slice-known₁ (c .before .before .before) .slice-known .given i .fits) (c .before .before .before .look-up .ensures) (c .before .at2 .given .1)
 
 place-in : (c : tie.After-known-told2) → (let s = start₂ c in c .before .at2 .given .0 .0 + 9 ≤ s .args .used)
 place-in c = let s = start₂ c in new-place (now (s .args .buffer)) (s .args .used) (s .args .rows) (asked s) (s .pre) _ (a-place c)
@@ -77,7 +77,7 @@ returns : tie.Need-returns
 returns c L e =
     let k = c .before in
     let s = start₁ k in
-    row-full (now (s .args .buffer)) (s .args .used) (s .args .rows) (asked s) (s .pre) (λ i. after-lent₁ (c .before .before .before .before) .slice-known .given i .fits) L e _ _ (a-row k) (c .if1 .taken)
+    row-full (now (s .args .buffer)) (s .args .used) (s .args .rows) (asked s) (s .pre) (λ i. after-slice-known₁ (c .before .before .before .before) .slice-known .given i .fits) L e _ _ (a-row k) (c .if1 .taken)
 
 add-put-u64 : tie.Need-add-put-u64
 add-put-u64 c = omega (arith, row-in (c .before .before))
@@ -104,7 +104,7 @@ returns-2 : tie.Need-returns-2
 returns-2 c L e =
     let k = c .before in
     let s = start₂ k in
-    new-many (now (s .args .buffer)) (s .args .used) (s .args .rows) (asked s) (s .pre) (λ i. after-lent₁ (c .before .before .before .before) .slice-known .given i .fits) L e _ (a-place k) (c .if2 .taken)
+    new-many (now (s .args .buffer)) (s .args .used) (s .args .rows) (asked s) (s .pre) (λ i. after-slice-known₁ (c .before .before .before .before) .slice-known .given i .fits) L e _ (a-place k) (c .if2 .taken)
 
 add-size : tie.Need-add-size
 add-size c = search needs
@@ -119,7 +119,7 @@ returns-3 : tie.Need-returns-3
 returns-3 c L e =
     let k = c .before .before in
     let s = start₂ k in
-    new-full (now (s .args .buffer)) (s .args .used) (s .args .rows) (asked s) (s .pre) (λ i. after-lent₁ (c .before .before .before .before .before) .slice-known .given i .fits) L e _ (a-place k) (omega arith) (omega arith) (c .if3 .taken)
+    new-full (now (s .args .buffer)) (s .args .used) (s .args .rows) (asked s) (s .pre) (λ i. after-slice-known₁ (c .before .before .before .before .before) .slice-known .given i .fits) L e _ (a-place k) (omega arith) (omega arith) (c .if3 .taken)
 
 add-place : tie.Need-add-place
 add-place c = omega (arith, place-in (c .before .before))
@@ -158,16 +158,16 @@ returns-4 : tie.Need-returns-4
 returns-4 c L e =
     let k = c .before .before .before .before .before in
     let s = start₁ k in
-    row-counted (now (s .args .buffer)) (s .args .used) (s .args .rows) (asked s) (s .pre) (λ i. after-lent₂ c .slice-known .given i .fits) L e _ _ (a-row k) _ (c .before .before .before .before .if1 .left) (omega arith) (c .before .before .put-u64 .ensures)
+    row-counted (now (s .args .buffer)) (s .args .used) (s .args .rows) (asked s) (s .pre) (λ i. after-slice-known₂ c .slice-known .given i .fits) L e _ _ (a-row k) _ (c .before .before .before .before .if1 .left) (omega arith) (c .before .before .put-u64 .ensures)
 
 same-length-5 : tie.Need-same-length-5
 same-length-5 c = search needs
 
 returns-5 : tie.Need-returns-5
 returns-5 c L e =
-    let k = after-told2 c in
+    let k = after-known-told2 c in
     let s = start₂ k in
-    new-added (now (s .args .buffer)) (s .args .used) (s .args .rows) (asked s) (s .pre) (λ i. after-lent₃ c .slice-known .given i .fits) L e _ (a-place k) (omega arith) _ (c .before .before .before .before .before .before .insert-row .ensures) _ (omega arith) (omega arith) (c .before .before .put-u32 .ensures)
+    new-added (now (s .args .buffer)) (s .args .used) (s .args .rows) (asked s) (s .pre) (λ i. after-slice-known₃ c .slice-known .given i .fits) L e _ (a-place k) (omega arith) _ (c .before .before .before .before .before .before .insert-row .ensures) _ (omega arith) (omega arith) (c .before .before .put-u32 .ensures)
 
 pub add-row-spec : {M : Type 1} → statement M
 add-row-spec =

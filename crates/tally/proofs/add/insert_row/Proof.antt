@@ -5,7 +5,7 @@ use Rattle.tally.proofs.Opening.{row-opened}
 use Rattle.tally.proofs.add.insert_row.Statement.{statement}
 use Rattle.tally.proofs.add.insert_row.Tie as tie
 
--- places in the function, each from the places behind it
+-- places in the function, each reached from one further on
 abbrev start : tie.After-slice-known3 → tie.Start
 start c = c .before .before .before .before .before .before .before .before .before .before
 

@@ -27,7 +27,7 @@ Inv-loop s count rest₀ last₀ first₀ left₀ rest last first left = Checkin
 abbrev μ-loop : tie.MeasureT-loop
 μ-loop s count rest₀ last₀ first₀ left₀ rest last first left = left
 
--- places in the function, each from the places behind it
+-- places in the function, each reached from one further on
 abbrev at-loop : tie.After-may-follow Inv-loop μ-loop → tie.At-loop Inv-loop μ-loop
 at-loop c = c .before .before .before .before .before .before .before
 

@@ -16,12 +16,12 @@ use borrow.Author.Needs.{needs}
 use Rattle.tally.proofs.check.check.Statement.{statement}
 use Rattle.tally.proofs.check.check.Tie as tie
 
--- places in the function, each from the places behind it
+-- places in the function, each reached from one further on
 abbrev start : tie.After-are-rows → tie.Start
 start c = c .before .before .before .before .before .before .before
 
-abbrev after-slice : tie.After-are-rows → tie.After-shared-slice-known
-after-slice c = c .before .before .before .before .before .before
+abbrev after-shared-slice-known : tie.After-are-rows → tie.After-shared-slice-known
+after-shared-slice-known c = c .before .before .before .before .before .before
 
 -- the number of rows that the head states, and whether they are there
 rows : (c : tie.After-known-told) → toldHead (heads.Count (c .before .count .given .0 .0)) ≡ toOption (tallyHead .read (now (c .before .before .before .before .before .args .t)))
@@ -55,10 +55,10 @@ are-rows-requires : tie.Need-are-rows-requires
 are-rows-requires c κs = search needs
 
 returns-2 : tie.Need-returns-2
-returns-2 c = check-good (now (start (c .before) .args .t)) (c .before .before .before .before .count .given .0 .0) (λ i. after-slice (c .before) .shared-slice-known .given i .fits) (stated _ (rows (c .before .before .before)) .1) (taken (c .before) (c .if1 .taken))
+returns-2 c = check-good (now (start (c .before) .args .t)) (c .before .before .before .before .count .given .0 .0) (λ i. after-shared-slice-known (c .before) .shared-slice-known .given i .fits) (stated _ (rows (c .before .before .before)) .1) (taken (c .before) (c .if1 .taken))
 
 returns-3 : tie.Need-returns-3
-returns-3 c = check-bad (now (start (c .before) .args .t)) (c .before .before .before .before .count .given .0 .0) (λ i. after-slice (c .before) .shared-slice-known .given i .fits) (stated _ (rows (c .before .before .before)) .1) (taken (c .before) (c .if1 .left))
+returns-3 c = check-bad (now (start (c .before) .args .t)) (c .before .before .before .before .count .given .0 .0) (λ i. after-shared-slice-known (c .before) .shared-slice-known .given i .fits) (stated _ (rows (c .before .before .before)) .1) (taken (c .before) (c .if1 .left))
 
 pub check-spec : {M : Type 1} → statement M
 check-spec =

@@ -19,7 +19,7 @@ Inv-loop a b x₀ y₀ rows₀ size₀ x y rows size = Measuring a b x y rows si
 abbrev μ-loop : tie.MeasureT-loop
 μ-loop a b x₀ y₀ rows₀ size₀ x y rows size = length x + length y
 
--- places in the function, each from the places behind it
+-- places in the function, each reached from one further on
 abbrev start : tie.After-y Inv-loop μ-loop → tie.Start Inv-loop μ-loop
 start c = c .before .before .before .before .before .before .before .before .before
 

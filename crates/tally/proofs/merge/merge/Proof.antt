@@ -11,18 +11,18 @@ use Rattle.tally.proofs.Merging.{first-bad, second-bad, both-good}
 use Rattle.tally.proofs.merge.merge.Statement.{statement}
 use Rattle.tally.proofs.merge.merge.Tie as tie
 
--- places in the function, each from the places behind it
+-- places in the function, each reached from one further on
 abbrev start₁ : tie.After-check2 → tie.Start
 start₁ c = c .before .before .before .before .before .before .before
 
 abbrev start₂ : tie.After-slice-known2 → tie.Start
 start₂ c = start₁ (c .before .before .before .before .before .before .before .before)
 
-abbrev after-slice2 : tie.After-enum-told3 → tie.After-shared-slice-known2
-after-slice2 c = c .before .before .before .before .before .before .before
+abbrev after-shared-slice-known2 : tie.After-enum-told3 → tie.After-shared-slice-known2
+after-shared-slice-known2 c = c .before .before .before .before .before .before .before
 
-abbrev after-else : tie.After-slice-known2 → tie.After-enum-told
-after-else c = c .before .before .before .before .before .before .before .before .before
+abbrev after-enum-told : tie.After-slice-known2 → tie.After-enum-told
+after-enum-told c = c .before .before .before .before .before .before .before .before .before
 
 -- the two, and that they are tallies
 abbrev a : tie.Start → List ℕ
@@ -41,7 +41,7 @@ open-first : (c : tie.After-enum-told) → Opened one (a (c .before .before .bef
 open-first c = opened one (a (c .before .before .before .before .before .before)) (first c .l) (λ i. c .before .before .before .before .before .shared-slice-known .given i .fits) (first c .is)
 
 open-second : (c : tie.After-enum-told3) → Opened one (b (start₁ (c .before .before))) (second c .l)
-open-second c = opened one (b (start₁ (c .before .before))) (second c .l) (λ i. after-slice2 c .shared-slice-known2 .given i .fits) (second c .is)
+open-second c = opened one (b (start₁ (c .before .before))) (second c .l) (λ i. after-shared-slice-known2 c .shared-slice-known2 .given i .fits) (second c .is)
 
 check-requires : tie.Need-check-requires
 check-requires c κs = search needs
@@ -96,7 +96,7 @@ same-length c = search needs
 returns-3 : tie.Need-returns-3
 returns-3 c =
     let s = start₂ c in
-    let f = after-else c in
+    let f = after-enum-told c in
     let g = c .before .before .before .before .before .before in
     both-good (a s) (b s) (now (s .args .out)) (c .before .before .merge-rows .result) (first f) (second g) (open-first f) (open-second g) (c .before .before .merge-rows .ensures)
 

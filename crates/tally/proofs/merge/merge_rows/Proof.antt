@@ -10,12 +10,12 @@ use Rattle.tally.proofs.Merging.{merged-many, merged-rows, merged-room,
 use Rattle.tally.proofs.merge.merge_rows.Statement.{statement}
 use Rattle.tally.proofs.merge.merge_rows.Tie as tie
 
--- places in the function, each from the places behind it
+-- places in the function, each reached from one further on
 abbrev start : tie.After-known-told → tie.Start
 start c = c .before .before .before .before .before .before .before
 
-abbrev after-told : tie.After-slice-known3 → tie.After-known-told
-after-told c = c .before .before .before .before .before .before .before .before .before .before .before
+abbrev after-known-told : tie.After-slice-known3 → tie.After-known-told
+after-known-told c = c .before .before .before .before .before .before .before .before .before .before .before
 
 abbrev else1 : tie.After-slice-known3 → tie.Else1
 else1 c = c .before .before .before .before .before .before .before .before .before .before
@@ -92,7 +92,7 @@ same-length c = search needs
 
 returns-5 : tie.Need-returns-5
 returns-5 c =
-    let m = after-told c in
+    let m = after-known-told c in
     let s = start m in
     merged-all (a s) (b s) (out s) (rows m) (size m) (measured m) (else1 c .if1 .left) (c .before .before .before .before .before .before .put-head .last .0) (c .before .before .put-rows .last .0) (omega arith) (c .before .before .before .before .before .before .put-head .ensures) (c .before .before .put-rows .ensures)
 

@@ -19,7 +19,7 @@ Inv-loop out₀ a b x₀ y₀ at₀ out x y at = Writing a b x y out₀ out at
 abbrev μ-loop : tie.MeasureT-loop
 μ-loop out₀ a b x₀ y₀ at₀ out x y at = length x + length y
 
--- places in the function, each from the places behind it
+-- places in the function, each reached from one further on
 abbrev start : tie.After-put-sum-row-arg Inv-loop μ-loop → tie.Start Inv-loop μ-loop
 start c = c .before .before .before .before .before .before .before .before .before
 

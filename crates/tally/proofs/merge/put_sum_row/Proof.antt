@@ -4,7 +4,7 @@ use Rattle.tally.proofs.SumRows.{side-first, side-second}
 use Rattle.tally.proofs.merge.put_sum_row.Statement.{statement}
 use Rattle.tally.proofs.merge.put_sum_row.Tie as tie
 
--- places in the function, each from the places behind it
+-- places in the function, each reached from one further on
 abbrev start : tie.After-shared-slice-known2 → tie.Start
 start c = c .before .before .before
 

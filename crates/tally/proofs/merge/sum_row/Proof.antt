@@ -11,12 +11,12 @@ use Rattle.tally.proofs.SumRows.{Front, first-ended, first-alone, both-
 use Rattle.tally.proofs.merge.sum_row.Statement.{statement}
 use Rattle.tally.proofs.merge.sum_row.Tie as tie
 
--- places in the function, each from the places behind it
+-- places in the function, each reached from one further on
 abbrev start : tie.After-front-row2 → tie.Start
 start c = c .before .before .before .before .before .before .before
 
-abbrev after-told : tie.After-compare → tie.After-known-told
-after-told c = c .before .before .before .before .before .before .before
+abbrev after-known-told : tie.After-compare → tie.After-known-told
+after-known-told c = c .before .before .before .before .before .before .before
 
 -- the row in front of the first list
 abbrev x : tie.After-known-told → List ℕ
@@ -119,10 +119,10 @@ enum-told-3 : tie.Need-enum-told-3
 enum-told-3 c = search needs
 
 add-t23 : tie.Need-add-t23
-add-t23 c = omega (arith, inside-x (after-told (c .before .before)))
+add-t23 c = omega (arith, inside-x (after-known-told (c .before .before)))
 
 add-t24 : tie.Need-add-t24
-add-t24 c = omega (arith, inside-x (after-told (c .before .before)))
+add-t24 c = omega (arith, inside-x (after-known-told (c .before .before)))
 
 enum-told-4 : tie.Need-enum-told-4
 enum-told-4 c = search needs
@@ -146,13 +146,13 @@ returns-3 c =
     both-many (x f) (y b) (n f) (many f) (m b) (more b) (front-x f) (front-y b) (c .before .before .before .compare .ensures) (c .before .enum-told5 .given .1) (c .if1 .taken)
 
 add-t29 : tie.Need-add-t29
-add-t29 c = omega (arith, inside-x (after-told (c .before .before .before)))
+add-t29 c = omega (arith, inside-x (after-known-told (c .before .before .before)))
 
 add-t30 : tie.Need-add-t30
 add-t30 c = omega (arith, inside-y (c .before .before .before .before .before .before))
 
 add-t31 : tie.Need-add-t31
-add-t31 c = omega (arith, inside-x (after-told (c .before .before .before)))
+add-t31 c = omega (arith, inside-x (after-known-told (c .before .before .before)))
 
 add-t27 : tie.Need-add-t27
 add-t27 c = search needs

@@ -14,12 +14,12 @@ use borrow.Author.Needs.{needs}
 use Rattle.tally.proofs.rows.front_row.Statement.{statement}
 use Rattle.tally.proofs.rows.front_row.Tie as tie
 
--- places in the function, each from the places behind it
+-- places in the function, each reached from one further on
 abbrev start : tie.After-known-told2 → tie.Start
 start c = c .before .before .before .before .before .before .before .before .before
 
-abbrev after-slice : tie.After-known-told2 → tie.After-shared-slice-known
-after-slice c = c .before .before .before .before .before .before .before .before
+abbrev after-shared-slice-known : tie.After-known-told2 → tie.After-shared-slice-known
+after-shared-slice-known c = c .before .before .before .before .before .before .before .before
 
 -- the name's length, the count, and that what is read is bytes
 run : (c : tie.After-known-told) → toldRun 2 (now (c .before .before .before .before .before .args .s)) (runs.Bytes (c .before .n .given .0 .0)) ≡ prefixed {ends = short} 2 .read (now (c .before .before .before .before .before .args .s))
@@ -29,7 +29,7 @@ count : (c : tie.After-known-told2) → toldU64 (u64s.Value (c .before .count .g
 count c = told-as toldU64 (c .before .before .before .u64-at .ensures) (c .before .count .given .1)
 
 bytes : (c : tie.After-known-told2) → Bytes (now (start c .args .s))
-bytes c = λ i. after-slice c .shared-slice-known .given i .fits
+bytes c = λ i. after-shared-slice-known c .shared-slice-known .given i .fits
 
 run16-at-requires : tie.Need-run16-at-requires
 run16-at-requires c κs = search needs

@@ -8,7 +8,7 @@ use Rattle.tally.specs.Rows.{Row}
 use Rattle.tally.proofs.rows.put_row.Statement.{statement}
 use Rattle.tally.proofs.rows.put_row.Tie as tie
 
--- places in the function, each from the places behind it
+-- places in the function, each reached from one further on
 abbrev start : tie.After-slice-known4 → tie.Start
 start c = c .before .before .before .before .before .before .before .before .before .before .before .before .before .before .before .before .before
 

@@ -21,7 +21,7 @@ Inv-loop s at k v₀ p₀ left₀ v p left =
 abbrev μ-loop : tie.MeasureT-loop
 μ-loop s at k v₀ p₀ left₀ v p left = left
 
--- places in the function, each from the places behind it
+-- places in the function, each reached from one further on
 abbrev start : tie.After-wide Inv-loop μ-loop → tie.Start Inv-loop μ-loop
 start c = c .before .before .before .before .before .before .before
 

@@ -15,7 +15,7 @@ use borrow.Author.Needs.{needs}
 use Rattle.wire.proofs.heads.read_head.Statement.{statement}
 use Rattle.wire.proofs.heads.read_head.Tie as tie
 
--- places in the function, each from the places behind it
+-- places in the function, each reached from one further on
 abbrev start : tie.After-known-told → tie.Start
 start c = c .before .before .before .before .before .before .before .before
 

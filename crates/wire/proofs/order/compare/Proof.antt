@@ -20,22 +20,22 @@ Inv-loop a b i₀ i = (i ≤ length a) × (i ≤ length b) × (order (drop i a) 
 abbrev μ-loop : tie.MeasureT-loop
 μ-loop a b i₀ i = length a - i
 
--- places in the function, each from the places behind it
+-- places in the function, each reached from one further on
 abbrev start : tie.After-known-told Inv-loop μ-loop → tie.Start Inv-loop μ-loop
 start c = c .before .before .before .before .before .before .before
 
 abbrev at-loop : tie.After-u64-at2 Inv-loop μ-loop → tie.At-loop Inv-loop μ-loop
 at-loop c = c .before .before .before .before .before
 
-abbrev after-slice2 : tie.After-known-told2 Inv-loop μ-loop → tie.After-shared-slice-known2 Inv-loop μ-loop
-after-slice2 c = c .before .before .before .before .before .before .before .before .before
+abbrev after-shared-slice-known2 : tie.After-known-told2 Inv-loop μ-loop → tie.After-shared-slice-known2 Inv-loop μ-loop
+after-shared-slice-known2 c = c .before .before .before .before .before .before .before .before .before
 
 -- the words at the place
 first : (c : tie.After-known-told Inv-loop μ-loop) → Word (now (start c .args .a)) (c .before .before .before .before .loop .i) (c .before .x .given .0 .0)
 first c = word-at _ _ _ (λ j. c .before .before .before .before .before .before .shared-slice-known .given j .fits) (told-as toldU64 (c .before .before .before .u64-at .ensures) (c .before .x .given .1))
 
 second : (c : tie.After-known-told2 Inv-loop μ-loop) → Word (now (start (c .before .before .before .before) .args .b)) (at-loop (c .before .before .before) .loop .i) (c .before .y .given .0 .0)
-second c = word-at _ _ _ (λ j. after-slice2 c .shared-slice-known2 .given j .fits) (told-as toldU64 (c .before .before .before .u64-at2 .ensures) (c .before .y .given .1))
+second c = word-at _ _ _ (λ j. after-shared-slice-known2 c .shared-slice-known2 .given j .fits) (told-as toldU64 (c .before .before .before .u64-at2 .ensures) (c .before .y .given .1))
 
 -- what is left, as the code slices it
 left : (c : tie.At-loop Inv-loop μ-loop) {r : Order} → let a = now (c .before .before .before .args .a) in let b = now (c .before .before .before .args .b) in let i = c .loop .i in
