@@ -1,4 +1,4 @@
-/* Anowhetele: the nodes standing on a lot of a Luanti world, counted name by name.
+/* Anowhetele: the nodes standing on a lot of a Luanti world, counted name by name, and what they cost.
  *
  * A buffer is two arguments, its pointer and its length in elements. No function keeps a pointer, has state or takes memory; each may be called from
  * any thread. What is left to the caller is C's own: a pointer is not NULL and good for its length, an output overlaps no other buffer, and
@@ -31,9 +31,10 @@ enum {
     ANOW_NO_ROOM = 11, /* result longer than the output lent */
     ANOW_PARTS_MISFIT = 12, /* parts do not fit */
     ANOW_TALLY_MALFORMED = 13, /* tally malformed */
-    ANOW_TOO_MANY = 14, /* a count above 2^64-1, or more than 2^32-1 rows */
+    ANOW_TOO_MANY = 14, /* a count or a total above 2^64-1, or more than 2^32-1 rows */
     ANOW_SHEET_MALFORMED = 15, /* sheet mark, version, framing, or keys not rising */
-    ANOW_NO_SUCH = 16 /* no such row or node */
+    ANOW_NO_SUCH = 16, /* no such row or node */
+    ANOW_RATES_MALFORMED = 40 /* rate sheet malformed */
 };
 
 /* Whether a refusal has an offset: the place of the field that was refused, from the first byte of its block or part. */
@@ -71,9 +72,10 @@ static inline const char *anow_words(uint32_t number)
     case ANOW_NO_ROOM: return "result longer than the output lent";
     case ANOW_PARTS_MISFIT: return "parts do not fit";
     case ANOW_TALLY_MALFORMED: return "tally malformed";
-    case ANOW_TOO_MANY: return "a count above 2^64-1, or more than 2^32-1 rows";
+    case ANOW_TOO_MANY: return "a count or a total above 2^64-1, or more than 2^32-1 rows";
     case ANOW_SHEET_MALFORMED: return "sheet mark, version, framing, or keys not rising";
     case ANOW_NO_SUCH: return "no such row or node";
+    case ANOW_RATES_MALFORMED: return "rate sheet malformed";
     }
     return "unknown";
 }
@@ -106,6 +108,9 @@ typedef struct { anow_answer answer; uint32_t id; anow_part name; } anow_name_ro
 typedef struct { anow_answer answer; uint32_t position, type, variables; anow_part content, variable_rows, inventory; } anow_metadata_row;
 typedef struct { anow_answer answer; uint32_t type; int32_t x, y, z; anow_part data; } anow_object_row;
 typedef struct { anow_answer answer; uint32_t position; int32_t timeout, elapsed; } anow_timer_row;
+
+/* What nodes cost, in thousandths, and how many of them have no price. answer.length is 0. */
+typedef struct { anow_answer answer; uint64_t total; uint64_t unpriced; } anow_bill;
 
 #ifdef __cplusplus
 #define ANOW_VALUE(type) type
@@ -165,6 +170,17 @@ anow_answer anow_tally_block(int64_t key, const uint8_t *block, size_t length, a
  * the fault, or the number of records for trailing bytes, 11 and 14. Refused: 10; 12 for a short spare; 15; by record 15, 9, 15 and 1 to 8, with the
  * offset from the block's first byte; 11; 14. */
 anow_answer anow_tally_sheet(const uint8_t *sheet, size_t length, anow_lot lot, anow_span span, uint8_t *out, size_t room, uint8_t *spare, size_t spare_length);
+
+/* Whether bytes are a rate sheet: RTE, u16 1, u32 number of rates, rates of u16 length, name, u32 from-second and u32 price in thousandths for each
+ * node, in the order of the names, and of one name in the order of the seconds. Refused: 40. */
+anow_answer anow_rates_check(const uint8_t *rates, size_t rates_length);
+/* Prices the nodes of the block at a key that stand in a lot, if the block was saved within a span. A node costs the price of the rate of its name with
+ * the greatest from-second not above the block's timestamp; a price of 0 is a price. A node with no such rate is unpriced. Refused: 10; 40; 9;
+ * 1 to 8. */
+anow_bill anow_price_block(int64_t key, const uint8_t *block, size_t block_length, const uint8_t *rates, size_t rates_length, anow_lot lot, anow_span span);
+/* The same of a sheet. The answer's record is that of the fault, or the number of records for trailing bytes and 14. Refused: 10; 40; 15; by record 15,
+ * 9, 15 and 1 to 8, with the offset from the block's first byte; 14 for a total above 2^64-1. */
+anow_bill anow_price_sheet(const uint8_t *sheet, size_t sheet_length, const uint8_t *rates, size_t rates_length, anow_lot lot, anow_span span);
 
 #ifdef __cplusplus
 }

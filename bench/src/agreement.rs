@@ -1,12 +1,15 @@
-//! Runs that are not timed: on blocks, sheets and tallies, whole and damaged, the programs must do the same.
+//! Runs that are not timed: on blocks, sheets, tallies and rate sheets, whole and damaged, the programs must do the
+//! same.
 
+use crate::bills::BILL;
 use crate::merging::{damaged_pair, Pair};
 use crate::names::world_pool;
+use crate::pricing::{damaged_rates, few_rates, Priced};
 use crate::race::{stop, Programs};
 use crate::random::Random;
 use crate::worlds::mixed_block;
 use crate::writing::{make_sheet, put_record, start_sheet, write_block};
-use crate::{BLOCK_PROGRAMS, MERGE_PROGRAMS, SHEET_PROGRAMS};
+use crate::{BLOCK_PROGRAMS, MERGE_PROGRAMS, PRICE_BLOCK_PROGRAMS, PRICE_SHEET_PROGRAMS, SHEET_PROGRAMS};
 
 /// All three refuse, or all three write the same; refused, an output stays as it was.
 fn agree<I: ?Sized>(programs: &Programs<I>, input: &I, room: usize) -> bool {
@@ -80,5 +83,41 @@ pub fn on_merges() {
         "agreement: {} merges of damaged tallies, too large counts and short outputs",
         count
     );
+    println!("({} refused, by all three alike): results are the same", refused);
+}
+
+/// Blocks and sheets of two blocks, some damaged, by rates of which half are.
+fn damaged_prices(random: &mut Random, count: usize) -> usize {
+    let pool = world_pool();
+    let mut refused = 0;
+    for _ in 0..count {
+        let plain = mixed_block(random, &pool);
+        let mut block = write_block(random, &plain);
+        let mut sheet = make_sheet(random, 2, |random, _| mixed_block(random, &pool));
+        if random.below(2) == 0 {
+            damage(random, &mut block);
+            damage(random, &mut sheet);
+        }
+        let mut priced = Priced {
+            bytes: block,
+            rates: damaged_rates(random),
+        };
+        refused += agree(&PRICE_BLOCK_PROGRAMS, &priced, BILL) as usize;
+        priced.bytes = sheet;
+        refused += agree(&PRICE_SHEET_PROGRAMS, &priced, BILL) as usize;
+    }
+    refused
+}
+
+pub fn on_prices() {
+    let mut random = Random(0x9216d5d98979fb1b);
+    let pool = world_pool();
+    let bytes = make_sheet(&mut random, 100, |random, _| mixed_block(random, &pool));
+    let rates = few_rates(&mut random);
+    if agree(&PRICE_SHEET_PROGRAMS, &Priced { bytes, rates }, BILL) {
+        stop("the mixed sheet was refused a price");
+    }
+    let refused = damaged_prices(&mut random, 2000);
+    println!("agreement: prices of a sheet of 100 blocks, and of 4000 blocks and sheets, damaged or by damaged rates");
     println!("({} refused, by all three alike): results are the same", refused);
 }

@@ -6,7 +6,7 @@ use crate::reading::NODES;
 use crate::writing::{make_sheet, write_block, Plain};
 use crate::{BLOCK_PROGRAMS, SHEET_PROGRAMS};
 
-fn hostile_name(number: usize) -> Vec<u8> {
+pub fn hostile_name(number: usize) -> Vec<u8> {
     format!("hostile:{:08x}", number as u32).into_bytes()
 }
 
@@ -24,7 +24,7 @@ fn hostile_block(random: &mut Random, names: Vec<(u16, Vec<u8>)>, ids: Vec<u16>)
 }
 
 /// `count` names falling, given to the 4,096 ids in rounds.
-fn falling(random: &mut Random, count: usize) -> Vec<u8> {
+pub fn falling(random: &mut Random, count: usize) -> Vec<u8> {
     let names = (0..NODES)
         .map(|row| (row as u16, hostile_name(count - row % count)))
         .collect();

@@ -82,7 +82,8 @@ fn first_row(bytes: &[u8]) -> Vec<u8> {
     bytes[HEAD..HEAD + name + AROUND].to_vec()
 }
 
-fn damage(random: &mut Random, bytes: &mut Vec<u8>) {
+/// Damage to a tally, or to a rate sheet, whose rows are as long: a second and a price stand in the place of the count.
+pub fn damage(random: &mut Random, bytes: &mut Vec<u8>) {
     let place = random.below(bytes.len());
     match random.below(10) {
         0 => bytes.truncate(place),
@@ -90,7 +91,7 @@ fn damage(random: &mut Random, bytes: &mut Vec<u8>) {
         2 => bytes.push(0),
         3 => bytes[random.below(HEAD)] ^= 1,
         // The last count becomes 0.
-        4 => *bytes.last_mut().expect("tallies have rows") = 0,
+        4 => *bytes.last_mut().expect("there are rows") = 0,
         // The first row stands there twice.
         5 => {
             let row = first_row(bytes);

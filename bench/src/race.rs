@@ -16,6 +16,7 @@ pub const NAMES: [&str; 3] = ["ours", "tuned", "obvious"];
 pub enum Unit {
     Block,
     Row,
+    Rate,
 }
 
 impl Unit {
@@ -24,13 +25,14 @@ impl Unit {
         match self {
             Unit::Block => ["block", "blocks"],
             Unit::Row => ["row", "rows"],
+            Unit::Rate => ["rate", "rates"],
         }
     }
 
     fn shown(self) -> (&'static str, f64) {
         match self {
             Unit::Block => ("us", 1e6),
-            Unit::Row => ("ns", 1e9),
+            Unit::Row | Unit::Rate => ("ns", 1e9),
         }
     }
 }
@@ -50,6 +52,15 @@ pub struct Race<'a, I: ?Sized> {
     pub turns: [usize; 3],
 }
 
+/// Our tally of what a race prices, timed by the same turns; its spare is as long as its output.
+pub struct Beside<I: ?Sized> {
+    pub tally: Program<I>,
+    pub room: usize,
+}
+
+/// The name of that tally in the results, where the programs have theirs.
+const TALLY: &str = "tally";
+
 /// The lines of the results' file, one for each program of each race.
 pub struct Results {
     run: usize,
@@ -62,21 +73,19 @@ impl Results {
         Results { run, lines }
     }
 
-    fn keep<I: ?Sized>(&mut self, race: &Race<I>, best: &[f64; 3], rows: u32) {
-        for (which, program) in NAMES.iter().enumerate() {
-            self.lines.push(format!(
-                "{},{},\"{}\",{},{},{},{},{},{:.9}",
-                self.run,
-                race.group,
-                race.workload,
-                race.unit.names()[0],
-                race.units,
-                rows,
-                program,
-                race.turns[which],
-                best[which]
-            ));
-        }
+    fn keep<I: ?Sized>(&mut self, race: &Race<I>, rows: u32, program: &str, turns: usize, best: f64) {
+        self.lines.push(format!(
+            "{},{},\"{}\",{},{},{},{},{},{:.9}",
+            self.run,
+            race.group,
+            race.workload,
+            race.unit.names()[0],
+            race.units,
+            rows,
+            program,
+            turns,
+            best
+        ));
     }
 
     /// Adds the lines to a file, which starts with the names of the columns.
@@ -111,10 +120,35 @@ fn timed<I: ?Sized>(program: Program<I>, input: &I, out: &mut [u8], spare: &mut 
 
 /// Best seconds of each program, run by turns; the whole output must be the same each time.
 pub fn run<I: ?Sized>(race: &Race<I>, results: &mut Results) -> [f64; 3] {
+    let best = run_turns(race, || {}, results);
+    println!("{}", shown(race, &best));
+    best
+}
+
+/// The same, with our tally of the same input in each turn.
+pub fn run_beside<I: ?Sized>(race: &Race<I>, beside: &Beside<I>, results: &mut Results) -> [f64; 3] {
+    let (mut out, mut spare) = (vec![0; beside.room], vec![0; beside.room]);
+    let (mut tally, mut rows) = (f64::MAX, 0);
+    let turn = || {
+        let (seconds, length) = timed(beside.tally, race.input, &mut out, &mut spare);
+        if length.is_none() {
+            stop(&format!("the tally of {} was refused", race.workload));
+        }
+        tally = tally.min(seconds);
+        rows = result_rows(&out);
+    };
+    let best = run_turns(race, turn, results);
+    results.keep(race, rows, TALLY, race.turns[0], tally);
+    println!("{} {:>10.3}", shown(race, &best), best[0] / tally);
+    best
+}
+
+fn run_turns<I: ?Sized>(race: &Race<I>, mut beside: impl FnMut(), results: &mut Results) -> [f64; 3] {
     let (mut out, mut spare) = (vec![0; race.room], vec![0; race.spare]);
     let mut best = [f64::MAX; 3];
     let mut expected: Option<(usize, Vec<u8>)> = None;
     for turn in 0..race.turns[0] {
+        beside();
         for which in (0..3).filter(|which| turn < race.turns[*which]) {
             let (seconds, length) = timed(race.programs[which], race.input, &mut out, &mut spare);
             let length = length.unwrap_or_else(|| stop(&format!("{} refused {}", NAMES[which], race.workload)));
@@ -125,16 +159,24 @@ pub fn run<I: ?Sized>(race: &Race<I>, results: &mut Results) -> [f64; 3] {
             }
         }
     }
-    show(race, &best);
-    // A tally has its number of rows behind mark and version.
-    results.keep(race, &best, u32::from_be_bytes([out[5], out[6], out[7], out[8]]));
+    for (which, program) in NAMES.iter().enumerate() {
+        results.keep(race, result_rows(&out), program, race.turns[which], best[which]);
+    }
     best
 }
 
-fn show<I: ?Sized>(race: &Race<I>, best: &[f64; 3]) {
+/// A tally has its number of rows behind mark and version; a bill has none.
+fn result_rows(out: &[u8]) -> u32 {
+    match out {
+        [b'T', b'L', b'Y', _, _, a, b, c, d, ..] => u32::from_be_bytes([*a, *b, *c, *d]),
+        _ => 0,
+    }
+}
+
+fn shown<I: ?Sized>(race: &Race<I>, best: &[f64; 3]) -> String {
     let (_, scale) = race.unit.shown();
     let [ours, tuned, obvious] = best.map(|seconds| seconds * scale / race.units as f64);
-    println!(
+    format!(
         "{:<35} {:>8} {:>10.2} {:>10.2} {:>10.2} {:>12.3} {:>10.3}",
         race.workload,
         race.units,
@@ -143,18 +185,26 @@ fn show<I: ?Sized>(race: &Race<I>, best: &[f64; 3]) {
         obvious,
         ours / obvious,
         ours / tuned
-    );
+    )
 }
 
 /// The head of a table; its times are for one unit.
 pub fn heading(title: &str, unit: Unit) {
+    println!("{}", headed(title, unit));
+}
+
+/// The same where our tally is run beside.
+pub fn heading_beside(title: &str, unit: Unit) {
+    println!("{} {:>10}", headed(title, unit), "ours/tally");
+}
+
+fn headed(title: &str, unit: Unit) -> String {
     let [one, many] = unit.names();
     let (second, _) = unit.shown();
-    println!("\n{}, {} a {}", title, second, one);
-    println!(
-        "{:<35} {:>8} {:>10} {:>10} {:>10} {:>12} {:>10}",
-        "", many, NAMES[0], NAMES[1], NAMES[2], "ours/obvious", "ours/tuned"
-    );
+    format!(
+        "\n{}, {} a {}\n{:<35} {:>8} {:>10} {:>10} {:>10} {:>12} {:>10}",
+        title, second, one, "", many, NAMES[0], NAMES[1], NAMES[2], "ours/obvious", "ours/tuned"
+    )
 }
 
 /// How much longer the large input takes than its size alone would make it.

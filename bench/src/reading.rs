@@ -50,7 +50,7 @@ pub fn demand(holds: bool) -> Option<()> {
 }
 
 pub struct Nodes<'a> {
-    timestamp: u32,
+    pub timestamp: u32,
     pub wide: bool,
     pub param0: &'a [u8],
     pub param2: &'a [u8],

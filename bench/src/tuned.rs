@@ -3,25 +3,28 @@
 use crate::reading::{demand, narrow_id, read_block, read_sheet, Nodes, NODES};
 use crate::tallies::{write_tally, Tally};
 
-struct Tuned<'a> {
+/// Counters and marks by id, clear between two blocks, and the name rows of a block.
+pub struct Counters<'a> {
     counts: Vec<u32>,
     marks: Vec<bool>,
     rows: Vec<(u16, &'a [u8])>,
-    tally: Tally,
 }
 
-impl<'a> Tuned<'a> {
-    fn new() -> Self {
+impl<'a> Counters<'a> {
+    pub fn new() -> Self {
         let (counts, marks) = (vec![0; 65536], vec![false; 65536]);
-        Tuned {
+        Counters {
             counts,
             marks,
             rows: Vec::new(),
-            tally: Tally::new(),
         }
     }
 
-    fn add(&mut self, block: &'a [u8]) -> Option<()> {
+    /// Judges a block and hands on each name that is used, how often, and the block's timestamp.
+    pub fn each_used<F>(&mut self, block: &'a [u8], used: F) -> Option<()>
+    where
+        F: FnMut(&'a [u8], u64, u32),
+    {
         let (rows, marks) = (&mut self.rows, &mut self.marks);
         rows.clear();
         let nodes = read_block(block, |id, name| {
@@ -29,7 +32,7 @@ impl<'a> Tuned<'a> {
             demand(!std::mem::replace(&mut marks[id as usize], true))
         })?;
         self.count(&nodes);
-        self.gather(nodes.counted())
+        self.gather(&nodes, used)
     }
 
     fn count(&mut self, nodes: &Nodes) {
@@ -45,14 +48,17 @@ impl<'a> Tuned<'a> {
     }
 
     /// Takes the counts of the mapped ids and leaves counters and marks clear for the next block.
-    fn gather(&mut self, counted: bool) -> Option<()> {
-        let mut mapped = 0;
+    fn gather<F>(&mut self, nodes: &Nodes, mut used: F) -> Option<()>
+    where
+        F: FnMut(&'a [u8], u64, u32),
+    {
+        let (mut mapped, counted) = (0, nodes.counted());
         for (id, name) in &self.rows {
             let count = std::mem::replace(&mut self.counts[*id as usize], 0);
             self.marks[*id as usize] = false;
             mapped += count as usize;
             if count > 0 && counted {
-                add_count(&mut self.tally, name, count as u64);
+                used(name, count as u64, nodes.timestamp);
             }
         }
         demand(mapped == NODES)
@@ -69,13 +75,15 @@ fn add_count(tally: &mut Tally, name: &[u8], count: u64) {
 }
 
 pub fn sheet(sheet: &[u8], out: &mut [u8], _: &mut [u8]) -> Option<usize> {
-    let mut tuned = Tuned::new();
-    read_sheet(sheet, |block| tuned.add(block))?;
-    write_tally(&tuned.tally, out)
+    let (mut counters, mut tally) = (Counters::new(), Tally::new());
+    read_sheet(sheet, |block| {
+        counters.each_used(block, |name, count, _| add_count(&mut tally, name, count))
+    })?;
+    write_tally(&tally, out)
 }
 
 pub fn block(block: &[u8], out: &mut [u8], _: &mut [u8]) -> Option<usize> {
-    let mut tuned = Tuned::new();
-    tuned.add(block)?;
-    write_tally(&tuned.tally, out)
+    let mut tally = Tally::new();
+    Counters::new().each_used(block, |name, count, _| add_count(&mut tally, name, count))?;
+    write_tally(&tally, out)
 }

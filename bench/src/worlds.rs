@@ -119,7 +119,7 @@ pub fn mixed_block(random: &mut Random, pool: &[Vec<u8>]) -> Plain {
 }
 
 /// Blocks, seed and turns of each world-like sheet; with a seed for each, another sheet leaves these as they are.
-const SHEETS: [(usize, u64, [usize; 3]); 5] = [
+pub const SHEETS: [(usize, u64, [usize; 3]); 5] = [
     (1, 0xfa1b162d07104f2a, [200, 200, 50]),
     (10, 0x2545f4914f6cdd1d, [200, 200, 50]),
     (100, 0x12aceb54422c43bb, [50, 50, 20]),
@@ -133,9 +133,13 @@ pub fn world_sheets(results: &mut Results) {
     show_growth(Unit::Block, best[2], best[4]);
 }
 
-fn world_sheet(results: &mut Results, blocks: usize, seed: u64, turns: [usize; 3]) -> [f64; 3] {
+pub fn make_world(blocks: usize, seed: u64) -> Vec<u8> {
     let pool = world_pool();
-    let bytes = make_sheet(&mut Random(seed), blocks, |random, _| world_block(random, &pool));
+    make_sheet(&mut Random(seed), blocks, |random, _| world_block(random, &pool))
+}
+
+fn world_sheet(results: &mut Results, blocks: usize, seed: u64, turns: [usize; 3]) -> [f64; 3] {
+    let bytes = make_world(blocks, seed);
     let race = Race {
         group: "world sheet",
         workload: "world",

@@ -1,4 +1,4 @@
-"""Anowhetele: the nodes standing on a lot of a Luanti world, counted name by name. Bytes in, bytes out, over a library that is proved.
+"""Anowhetele: the nodes standing on a lot of a Luanti world, counted name by name, and what they cost. Bytes in, bytes out, over a library that is proved.
 
     import anowhetele
     with open('world.wsh', 'rb') as file:
@@ -6,7 +6,7 @@
     for name, count in tally:
         print(count, name.decode())
 
-A call that is refused raises Refused, with document 01's number and words, and where the fault lies.
+A call that is refused raises Refused, with the number and words of the refusal, and where the fault lies.
 
 Where bytes are taken, any bytes-like object will do: bytes, a bytearray, a memoryview, a mapped file, an array. The library reads it where it stands;
 one that is not contiguous is copied first. During the call it cannot be resized or closed, and nobody may write it, neither another thread
@@ -26,7 +26,7 @@ import sys
 from array import array
 from ctypes import c_int, c_int32, c_int64, c_size_t, c_ssize_t, c_uint8, c_uint16, c_uint32, c_uint64, c_void_p
 from mmap import mmap
-from typing import Iterator, NamedTuple, Optional, Tuple, Union
+from typing import Iterable, Iterator, NamedTuple, Optional, Tuple, Union
 
 NODES = 4096
 
@@ -35,7 +35,7 @@ BytesLike = Union[bytes, bytearray, memoryview, mmap, array]
 
 # numbers: made by bindings/make from bindings/numbers.txt
 class Refusal(enum.IntEnum):
-    """The numbers of document 01 with which a call is refused."""
+    """The numbers of documents 01 and 02 with which a call is refused."""
     ENDS_INSIDE = 1
     VERSION_OUTSIDE = 2
     FIXED_DIFFERS = 3
@@ -52,6 +52,7 @@ class Refusal(enum.IntEnum):
     TOO_MANY = 14
     SHEET_MALFORMED = 15
     NO_SUCH = 16
+    RATES_MALFORMED = 40
 
 
 _TABLE = {
@@ -69,9 +70,10 @@ _TABLE = {
     Refusal.NO_ROOM: (False, 'result longer than the output lent'),
     Refusal.PARTS_MISFIT: (False, 'parts do not fit'),
     Refusal.TALLY_MALFORMED: (False, 'tally malformed'),
-    Refusal.TOO_MANY: (False, 'a count above 2^64-1, or more than 2^32-1 rows'),
+    Refusal.TOO_MANY: (False, 'a count or a total above 2^64-1, or more than 2^32-1 rows'),
     Refusal.SHEET_MALFORMED: (False, 'sheet mark, version, framing, or keys not rising'),
     Refusal.NO_SUCH: (False, 'no such row or node'),
+    Refusal.RATES_MALFORMED: (False, 'rate sheet malformed'),
 }
 # end of numbers
 
@@ -123,6 +125,7 @@ _MetadataRow = _struct('_MetadataRow', ('answer', _Answer), ('position', c_uint3
                        ('content', _Part), ('variable_rows', _Part), ('inventory', _Part))
 _ObjectRow = _struct('_ObjectRow', ('answer', _Answer), ('kind', c_uint32), ('x', c_int32), ('y', c_int32), ('z', c_int32), ('data', _Part))
 _TimerRow = _struct('_TimerRow', ('answer', _Answer), ('position', c_uint32), ('timeout', c_int32), ('elapsed', c_int32))
+_Bill = _struct('_Bill', ('answer', _Answer), ('total', c_uint64), ('unpriced', c_uint64))
 
 _BYTES = [c_void_p, c_size_t]
 _OUT = [c_void_p, c_size_t]
@@ -146,6 +149,9 @@ _SIGNATURES = {
     'anow_tally_merge': (_Answer, _BYTES * 2 + _OUT),
     'anow_tally_block': (_Answer, [c_int64] + _BYTES + [_Lot, _Span] + _OUT),
     'anow_tally_sheet': (_Answer, _BYTES + [_Lot, _Span] + _OUT * 2),
+    'anow_rates_check': (_Answer, _BYTES),
+    'anow_price_block': (_Bill, [c_int64] + _BYTES * 2 + [_Lot, _Span]),
+    'anow_price_sheet': (_Bill, _BYTES * 2 + [_Lot, _Span]),
 }
 
 
@@ -664,3 +670,75 @@ def tally_sheet(sheet: BytesLike, lot: Lot = Lot.WORLD, span: Span = Span.ALL_TI
         out, spare = _output(room), _output(room)
         answer = _library.anow_tally_sheet(start, length, lot._c(), span._c(), out, len(out), spare, len(spare))
         return _written(out, _told(answer, answer.record))
+
+
+# ---- Rate sheets, and prices
+
+
+class Rate(NamedTuple):
+    """What a node of a name costs, in thousandths, in a block saved at the second `start` or later, up to the name's next rate."""
+    name: bytes
+    start: int
+    price: int
+
+
+class Bill(NamedTuple):
+    """What nodes cost, in thousandths, and how many of them have no price."""
+    total: int
+    unpriced: int
+
+
+def rate_sheet(rates: Iterable[Rate]) -> bytes:
+    """The rate sheet that has these rates, which may come in any order, and as plain tuples. ValueError for a name above 65,535 bytes, and for two
+    rates of a name from one second on; OverflowError for a second or a price that a u32 does not hold, and for more than 2^32-1 rates."""
+    rows = sorted((_bytes(name), *_unsigned(32, start, price)) for name, start, price in rates)
+    for (name, start, _), (next_name, next_start, _) in zip(rows, rows[1:]):
+        if (name, start) == (next_name, next_start):
+            raise ValueError(f'two rates of {name!r} from second {start} on')
+    count, = _unsigned(32, len(rows))
+    return b''.join([b'RTE\0\1', count.to_bytes(4, 'big'), *(_rate_bytes(*row) for row in rows)])
+
+
+def _rate_bytes(name: bytes, start: int, price: int) -> bytes:
+    if len(name) > 65535:
+        raise ValueError(f'a name of {len(name)} bytes, more than 65535')
+    return len(name).to_bytes(2, 'big') + name + start.to_bytes(4, 'big') + price.to_bytes(4, 'big')
+
+
+def check_rates(rates: BytesLike) -> None:
+    """Refused: 40 for bytes that are no rate sheet."""
+    with _Loans() as loans:
+        _told(_library.anow_rates_check(*loans.lend(rates)))
+
+
+def rate_rows(rates: BytesLike) -> Iterator[Rate]:
+    """The rates of a rate sheet, by name and then by second. Refused: 40."""
+    data = _bytes(rates)
+    check_rates(data)
+    return _rates(data)
+
+
+def _rates(data: bytes) -> Iterator[Rate]:
+    at = 9
+    while at < len(data):
+        name = at + 2
+        start = name + int.from_bytes(data[at:name], 'big')
+        price, at = start + 4, start + 8
+        yield Rate(data[name:start], int.from_bytes(data[start:price], 'big'), int.from_bytes(data[price:at], 'big'))
+
+
+def price_block(key: int, block: BytesLike, rates: BytesLike, lot: Lot = Lot.WORLD, span: Span = Span.ALL_TIME) -> Bill:
+    """What the nodes of the block at a key that stand in a lot cost, if the block was saved within a span: each the price of the rate of its name with
+    the greatest start not above the block's timestamp; a node with no such rate is unpriced. Refused: 10; 40; 9; 1 to 8."""
+    with _Loans() as loans:
+        bill = _library.anow_price_block(*_s64(key), *loans.lend(block), *loans.lend(rates), lot._c(), span._c())
+    _told(bill.answer)
+    return Bill(bill.total, bill.unpriced)
+
+
+def price_sheet(sheet: BytesLike, rates: BytesLike, lot: Lot = Lot.WORLD, span: Span = Span.ALL_TIME) -> Bill:
+    """The same of a sheet. Refused: 10; 40; 15; by record 15, 9, 15 and 1 to 8; 14 for a total above 2^64-1."""
+    with _Loans() as loans:
+        bill = _library.anow_price_sheet(*loans.lend(sheet), *loans.lend(rates), lot._c(), span._c())
+    _told(bill.answer, bill.answer.record)
+    return Bill(bill.total, bill.unpriced)

@@ -14,7 +14,7 @@ from concurrent.futures import ThreadPoolExecutor
 from unittest import mock
 
 import anowhetele
-from anowhetele import Head, Lot, MetadataRow, NameRow, ObjectRow, Refusal, Refused, Row, Span, Tally, TimerRow
+from anowhetele import Bill, Head, Lot, MetadataRow, NameRow, ObjectRow, Rate, Refusal, Refused, Row, Span, Tally, TimerRow
 
 HERE = os.path.dirname(os.path.abspath(__file__))
 AIR = bytes.fromhex('54 4C 59 00 01 00 00 00 01 00 03 61 69 72 00 00 00 00 00 00 10 00')
@@ -60,6 +60,9 @@ OBJECT = b'\7\xff\xff\xff\xff\0\0\0\2\0\0\0\3\0\2ox'
 TIMER = b'\0\t\0\0\3\xe8\xff\xff\xff\xfe'
 FURNISHED = air(5, b'\2\0\1' + METADATA + b'\0\0\1' + OBJECT + b'\n\0\1' + TIMER)
 
+# air at 1500 thousandths, and at 2000 from second 1,000,000 on
+AIR_RATES = anowhetele.rate_sheet([Rate(b'air', 0, 1500), Rate(b'air', 1_000_000, 2000)])
+
 
 class Case(unittest.TestCase):
     def refused(self, text, call, *arguments, **named):
@@ -103,7 +106,8 @@ class Places(Case):
 
     def test_no_number_is_cut(self):
         for call in (lambda: anowhetele.key_join(2**32, 0, 0), lambda: anowhetele.key_split(2**64), lambda: Span(0, 2**32 + 5).has(1),
-                     lambda: Lot.WORLD._replace(x0=2**32).has(0, 0, 0), lambda: anowhetele.node_name(air(), -1)):
+                     lambda: Lot.WORLD._replace(x0=2**32).has(0, 0, 0), lambda: anowhetele.node_name(air(), -1),
+                     lambda: anowhetele.price_block(2**63, air(), AIR_RATES)):
             with self.assertRaises(OverflowError):
                 call()
 
@@ -210,7 +214,7 @@ class Tallies(Case):
         tally = Tally.EMPTY.add(b'default:stone', 3).add(b'air', 2**64 - 1).add(b'default:dirt', 0)
         self.assertEqual(list(tally), [Row(b'air', 2**64 - 1), Row(b'default:stone', 3)])
         self.assertEqual(len(tally), 2)
-        self.refused('refused 14: a count above 2^64-1, or more than 2^32-1 rows', tally.add, b'air', 1)
+        self.refused('refused 14: a count or a total above 2^64-1, or more than 2^32-1 rows', tally.add, b'air', 1)
         self.refused('refused 13: tally malformed', Tally, b'TLY')
 
     def test_counts_by_name(self):
@@ -240,6 +244,65 @@ class Tallies(Case):
             tally.bytes = b''
         self.assertNotEqual(tally, AIR)
         self.assertEqual(tally, mock.ANY)
+
+
+class Prices(Case):
+    def test_rates_are_put_in_order(self):
+        rates = [Rate(b'b', 0, 1), Rate(b'a', 10, 2), Rate(b'', 7, 2**32 - 1), Rate(b'a', 9, 3), Rate(b'ab', 0, 0), Rate(b'\xff', 2**32 - 1, 4)]
+        made = anowhetele.rate_sheet(rates)
+        self.assertEqual(made[:22], b'RTE\0\1\0\0\0\6\0\0\0\0\0\7\xff\xff\xff\xff\0\1a')
+        anowhetele.check_rates(made)
+        self.assertEqual(list(anowhetele.rate_rows(made)), [rates[place] for place in (2, 3, 1, 4, 0, 5)])
+        self.assertEqual(anowhetele.rate_sheet((bytearray(name), start, price) for name, start, price in reversed(rates)), made)
+        anowhetele.check_rates(anowhetele.rate_sheet([Rate(bytes(65535), 5, 6)]))
+        self.assertEqual(anowhetele.rate_sheet([]), b'RTE\0\1\0\0\0\0')
+
+    def test_what_makes_no_rate_sheet(self):
+        for rates, error in (([(b'a', 9, 1), (b'b', 9, 1), (b'a', 9, 2)], ValueError), ([(bytes(65536), 0, 0)], ValueError),
+                             ([(b'a', 2**32, 1)], OverflowError), ([(b'a', -1, 1)], OverflowError), ([(b'a', 1, 2**32)], OverflowError),
+                             ([(b'a', 1, -1)], OverflowError), ([('a', 1, 1)], TypeError), ([(b'a', 1.0, 1)], TypeError), ([(b'a', 1, '1')], TypeError)):
+            with self.assertRaises(error):
+                anowhetele.rate_sheet(rates)
+
+    def test_others_are_refused(self):
+        good = anowhetele.rate_sheet([(b'a', 9, 1), (b'a', 10, 1)])
+        # a rate of this name has eleven bytes
+        for bad in (good[:9] + good[20:] + good[9:20], good + b'\0', good[1:], good[:8], good[:-1], b'', AIR):
+            self.refused('refused 40: rate sheet malformed', anowhetele.check_rates, bad)
+            self.refused('refused 40: rate sheet malformed', anowhetele.rate_rows, bad)
+
+    def test_a_block_s_time_decides(self):
+        for timestamp, total in ((999_998, 6_144_000), (999_999, 6_144_000), (1_000_000, 8_192_000), (2**32 - 1, 0)):
+            self.assertEqual(anowhetele.price_block(-1, air(timestamp), AIR_RATES), Bill(total, 0))
+
+    def test_a_price_of_none_is_a_price(self):
+        self.assertEqual(anowhetele.price_block(-1, air(5), anowhetele.rate_sheet([(b'air', 0, 0)])), Bill(0, 0))
+        for rates in ([(b'air', 6, 1)], [(b'ai', 0, 1), (b'air2', 0, 1)], []):
+            self.assertEqual(anowhetele.price_block(-1, air(5), anowhetele.rate_sheet(rates)), Bill(0, 4096))
+
+    def test_parts_add_up(self):
+        bytes_ = sheet((-1, air(5)), (0, air(1_000_000)))
+        rates, total = anowhetele.rate_sheet([(b'air', 6, 2**32 - 1)]), 4096 * (2**32 - 1)
+        for x0, x1, span, bill in ((-16, 15, Span.ALL_TIME, Bill(total, 4096)), (0, 7, Span.ALL_TIME, Bill(total // 2, 0)),
+                                   (8, 15, Span.ALL_TIME, Bill(total // 2, 0)), (-16, 15, Span(0, 6), Bill(0, 4096)),
+                                   (-16, 15, Span(6, 2**32 - 1), Bill(total, 0))):
+            self.assertEqual(anowhetele.price_sheet(bytes_, rates, Lot.WORLD._replace(x0=x0, x1=x1), span), bill)
+
+    def test_refusals_have_their_order(self):
+        bad = bytearray(air())
+        bad[PARAM0 + 1] = 9
+        words = 'refused 10: lot out of the world or turned round; span turned round'
+        self.refused(words, anowhetele.price_block, 2**40, bad, b'', span=Span(2, 1))
+        self.refused('refused 40: rate sheet malformed', anowhetele.price_block, 2**40, bad, b'')
+        self.refused('refused 9: key or coordinate out of range', anowhetele.price_block, 2**40, bad, AIR_RATES)
+        self.refused('refused 8 at offset 20: used id unmapped', anowhetele.price_block, 0, bad, AIR_RATES)
+        self.refused('refused 40 at record 0: rate sheet malformed', anowhetele.price_sheet, b'', b'')
+        self.refused('refused 15 at record 0: sheet mark, version, framing, or keys not rising', anowhetele.price_sheet, b'', AIR_RATES)
+        self.refused('refused 8 at offset 20 of record 1: used id unmapped', anowhetele.price_sheet, sheet((-1, air()), (5, bad)), AIR_RATES)
+
+    def test_the_program_s_example(self):
+        with open(os.path.join(HERE, '../../crates/sheetcount/stdin'), 'rb') as f:
+            self.assertEqual(anowhetele.price_sheet(f.read(), AIR_RATES), Bill(6_144_000, 0))
 
 
 class Rooms(Case):
@@ -311,6 +374,10 @@ class Buffers(Case):
             self.assertEqual(list(anowhetele.timer_rows(data)), 2 * [TimerRow(9, 1000, -2)])
         for data in self.each(AIR):
             self.assertEqual(Tally(data), Tally(AIR))
+        for data, rates, block in zip(self.each(good), self.each(AIR_RATES), self.each(FURNISHED)):
+            self.assertEqual(anowhetele.price_sheet(data, rates), Bill(6_144_000, 0))
+            self.assertEqual(anowhetele.price_block(-1, block, rates), Bill(6_144_000, 0))
+            self.assertEqual(list(anowhetele.rate_rows(rates)), list(anowhetele.rate_rows(AIR_RATES)))
         block, nodes = anowhetele.read(FURNISHED)
         for parts in zip(*map(self.each, block[1:])):
             self.assertEqual(anowhetele.write(block._make((block.head, *parts)), nodes), FURNISHED)
@@ -329,6 +396,7 @@ class Buffers(Case):
         good = sheet(*((key, air()) for key in range(100)))
         for data in (good, bytearray(good), memoryview(good), array('B', good)):
             self.assertLess(self.taken(anowhetele.tally_sheet, data, room=64), 4096)
+            self.assertLess(self.taken(anowhetele.price_sheet, data, AIR_RATES), 4096)
         tally = Tally(AIR)
         for call, given in ((tally.merge, (tally,)), (tally.add, (b'air', 1))):
             self.assertLess(self.taken(call, *given), 4096)
@@ -367,7 +435,8 @@ class Buffers(Case):
         kept = []
         anowhetele.tally_sheet(good)
         for call in (anowhetele.tally_sheet, anowhetele.sections, anowhetele.read, lambda data: anowhetele.tally_block(-1, data), Tally,
-                     lambda data: anowhetele.node_name(data, 0), anowhetele.timer_row, lambda data: anowhetele.metadata_row(30, data)):
+                     lambda data: anowhetele.node_name(data, 0), anowhetele.timer_row, lambda data: anowhetele.metadata_row(30, data),
+                     anowhetele.check_rates, lambda data: anowhetele.price_sheet(good, data), lambda data: anowhetele.price_block(-1, data, AIR_RATES)):
             with self.assertRaises(Refused) as caught:
                 call(bad)
             # an exception keeps the call's variables alive
@@ -397,7 +466,8 @@ class Buffers(Case):
         rows.append(0)
 
     def test_what_is_no_bytes(self):
-        for call in (anowhetele.tally_sheet, anowhetele.sections, anowhetele.name_row, anowhetele.name_rows, Tally):
+        for call in (anowhetele.tally_sheet, anowhetele.sections, anowhetele.name_row, anowhetele.name_rows, Tally, anowhetele.check_rates,
+                     anowhetele.rate_rows, lambda data: anowhetele.price_sheet(data, AIR_RATES), lambda data: anowhetele.price_block(0, air(), data)):
             for data in ('air', 5, None, [1, 2]):
                 with self.assertRaises(TypeError):
                     call(data)

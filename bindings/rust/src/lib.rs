@@ -1,4 +1,4 @@
-//! Anowhetele: the nodes standing on a lot of a Luanti world, counted name by name. Safe functions over slices, on a library that is proved.
+//! Anowhetele: the nodes standing on a lot of a Luanti world, counted name by name, and what they cost. Safe functions over slices, on a library that is proved.
 //!
 //! ```
 //! use anowhetele::{tally_sheet, Lot, Span};
@@ -15,9 +15,21 @@
 //! # Ok::<(), anowhetele::Refused>(())
 //! ```
 //!
+//! What the same nodes cost by a rate sheet, in thousandths:
+//!
+//! ```
+//! use anowhetele::{price_sheet, rate_sheet, Lot, Rate, Span};
+//!
+//! let rates = rate_sheet([Rate { name: b"default:stone", from: 1_000_000, price: 1500 }])?;
+//! let bill = price_sheet(b"WSH\x00\x01\x00\x00\x00\x00", &rates, Lot::WORLD, Span::ALL_TIME)?;
+//! assert_eq!((bill.total, bill.unpriced), (0, 0));
+//! # Ok::<(), Box<dyn std::error::Error>>(())
+//! ```
+//!
 //! A function may be called from any thread that has 1 MB of stack.
 mod block;
 mod position;
+mod price;
 pub mod raw;
 mod refusal;
 mod rows;
@@ -25,6 +37,7 @@ mod tally;
 
 pub use block::{light_count, node_name, read, sections, write, Block, Head, NODES};
 pub use position::{key_join, key_split, Lot, Span};
+pub use price::{check_rates, price_block, price_sheet, rate_rows, rate_sheet, BadRates, Bill, Rate};
 pub use refusal::{Refusal, Refused};
 pub use rows::{
     metadata_row, metadata_rows, name_row, name_rows, object_row, object_rows, timer_row, timer_rows, Front,

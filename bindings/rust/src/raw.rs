@@ -133,6 +133,15 @@ pub struct Node {
     pub name: Part,
 }
 
+/// The total is in thousandths; `unpriced` is a number of nodes.
+#[repr(C)]
+#[derive(Clone, Copy, Debug, PartialEq, Eq)]
+pub struct Bill {
+    pub answer: Answer,
+    pub total: u64,
+    pub unpriced: u64,
+}
+
 #[rustfmt::skip]
 extern "C" {
     pub fn anow_key_join(x: i32, y: i32, z: i32) -> Key;
@@ -160,4 +169,9 @@ extern "C" {
     pub fn anow_tally_block(key: i64, block: *const u8, length: usize, lot: Lot, span: Span, out: *mut u8, room: usize) -> Answer;
     pub fn anow_tally_sheet(sheet: *const u8, length: usize, lot: Lot, span: Span, out: *mut u8, room: usize, spare: *mut u8,
         spare_length: usize) -> Answer;
+
+    pub fn anow_rates_check(rates: *const u8, rates_length: usize) -> Answer;
+    pub fn anow_price_block(key: i64, block: *const u8, block_length: usize, rates: *const u8, rates_length: usize, lot: Lot,
+        span: Span) -> Bill;
+    pub fn anow_price_sheet(sheet: *const u8, sheet_length: usize, rates: *const u8, rates_length: usize, lot: Lot, span: Span) -> Bill;
 }

@@ -3,7 +3,7 @@ use crate::raw;
 use std::error::Error;
 use std::fmt;
 
-/// Why a call was refused: the numbers of document 01, to which others may be added.
+/// Why a call was refused: the numbers of documents 01 and 02, to which others may be added.
 // numbers: made by bindings/make from bindings/numbers.txt
 #[derive(Clone, Copy, Debug, PartialEq, Eq, Hash)]
 #[non_exhaustive]
@@ -35,19 +35,21 @@ pub enum Refusal {
     PartsMisfit = 12,
     /// tally malformed
     TallyMalformed = 13,
-    /// a count above 2^64-1, or more than 2^32-1 rows
+    /// a count or a total above 2^64-1, or more than 2^32-1 rows
     TooMany = 14,
     /// sheet mark, version, framing, or keys not rising
     SheetMalformed = 15,
     /// no such row or node
     NoSuch = 16,
+    /// rate sheet malformed
+    RatesMalformed = 40,
 }
 
 use Refusal::*;
 
 /// Each refusal, whether it has an offset, and its words.
 #[rustfmt::skip]
-const TABLE: [(Refusal, bool, &str); 16] = [
+const TABLE: [(Refusal, bool, &str); 17] = [
     (EndsInside, true, "bytes end inside a field, or an inventory has no end line"),
     (VersionOutside, true, "version outside 22..29"),
     (FixedDiffers, true, "a byte, width or list version that is fixed has another value"),
@@ -61,9 +63,10 @@ const TABLE: [(Refusal, bool, &str); 16] = [
     (NoRoom, false, "result longer than the output lent"),
     (PartsMisfit, false, "parts do not fit"),
     (TallyMalformed, false, "tally malformed"),
-    (TooMany, false, "a count above 2^64-1, or more than 2^32-1 rows"),
+    (TooMany, false, "a count or a total above 2^64-1, or more than 2^32-1 rows"),
     (SheetMalformed, false, "sheet mark, version, framing, or keys not rising"),
     (NoSuch, false, "no such row or node"),
+    (RatesMalformed, false, "rate sheet malformed"),
 ];
 // end of numbers
 

@@ -3,8 +3,8 @@ use crate::raw::{self, Lot, Span};
 use crate::refusal::{told, told_of_sheet, Refused};
 use std::iter::FusedIterator;
 
-/// The bytes before a tally's rows: `TLY`, u16 version, u32 number of rows.
-const HEAD: usize = 9;
+/// The bytes before the rows of a tally, and of a rate sheet: a mark of three bytes, u16 version, u32 number of rows.
+pub(crate) const HEAD: usize = 9;
 
 /// The bytes of a well-formed tally.
 #[derive(Clone, Copy, Debug, PartialEq, Eq)]
@@ -93,7 +93,7 @@ impl ExactSizeIterator for Rows<'_> {}
 
 impl FusedIterator for Rows<'_> {}
 
-fn array<const N: usize>(bytes: &[u8]) -> [u8; N] {
+pub(crate) fn array<const N: usize>(bytes: &[u8]) -> [u8; N] {
     bytes.try_into().expect("as many bytes as the number has")
 }
 

@@ -2,20 +2,9 @@
 mod common;
 
 use anowhetele::*;
-use common::{air, PARAM0};
+use common::{air, sheet, PARAM0};
 
 const AIR: &[u8] = b"TLY\x00\x01\x00\x00\x00\x01\x00\x03air\x00\x00\x00\x00\x00\x00\x10\x00";
-
-fn sheet(records: &[(i64, &[u8])]) -> Vec<u8> {
-    let mut sheet = b"WSH\x00\x01".to_vec();
-    sheet.extend((records.len() as u32).to_be_bytes());
-    for (key, block) in records {
-        sheet.extend(key.to_be_bytes());
-        sheet.extend((block.len() as u32).to_be_bytes());
-        sheet.extend(*block);
-    }
-    sheet
-}
 
 #[test]
 fn the_shortest_block() {
@@ -89,7 +78,7 @@ fn a_count_is_added_in_place() {
     let refused = tally_add(&mut buffer, used, b"air", 1).unwrap_err();
     assert_eq!(
         refused.to_string(),
-        "refused 14: a count above 2^64-1, or more than 2^32-1 rows"
+        "refused 14: a count or a total above 2^64-1, or more than 2^32-1 rows"
     );
     assert_eq!(
         tally_add(&mut buffer, 65, b"air", 1).unwrap_err().refusal,

@@ -2,4 +2,5 @@
 pub mod Answers
 pub mod Blocks
 pub mod Places
+pub mod Prices
 pub mod Rows

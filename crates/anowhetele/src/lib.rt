@@ -5,6 +5,7 @@ pub mod light;
 pub mod metering;
 pub mod numbers;
 pub mod places;
+pub mod prices;
 pub mod rows;
 pub mod tallies;
 pub mod writing;

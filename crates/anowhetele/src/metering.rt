@@ -51,7 +51,7 @@ pub extern "C" fn anow_tally_block(
 }
 
 // Makes the refusal of the record at an index.
-fn record_refused(fault: RecordFault, index: u32) -> AnowAnswer
+pub(crate) fn record_refused(fault: RecordFault, index: u32) -> AnowAnswer
     ensures { λ r. ⌜ r ≡ refusedWith (faultNumber fault) index (faultOffset fault) ⌝ }
 {
     match fault {

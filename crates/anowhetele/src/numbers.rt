@@ -1,4 +1,4 @@
-// Document 01's numbers, as the functions answer them; bindings/numbers.txt has all with their words.
+// Document 01's numbers, and those that document 02 adds, as the functions answer them; bindings/numbers.txt has all with their words.
 pub const DONE: u32 = 0;
 
 pub const OUT_OF_RANGE: u32 = 9;
@@ -16,3 +16,5 @@ pub const TOO_MANY: u32 = 14;
 pub const SHEET_MALFORMED: u32 = 15;
 
 pub const NO_SUCH: u32 = 16;
+
+pub const RATES_MALFORMED: u32 = 40;

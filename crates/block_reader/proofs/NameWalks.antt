@@ -3,10 +3,11 @@ use Prim.Native.Nat.{ℕ, zero, suc, _+_, _≤_}
 use mathlib.Core.Path.{_≡_, refl, ap, sym, _∙_}
 use mathlib.Core.List.{List, [], _∷_, _++_, append-assoc}
 use native.Mathlib.Omega.{arith}
-use lib.ListN.{length, drop, length-append, length-drop}
-use lib.Seq.{drop-append-seam}
+use lib.ListN.{length, take, drop, length-append, length-drop}
+use lib.Seq.{drop-append-seam, take-at, drop-at}
 use Rattle.wire.proofs.Lists.{nil-is}
 use Rattle.wire.specs.Bytes.{Bytes, bytes-drop}
+use Rattle.wire.specs.Ranges.{bytesIn}
 use Rattle.wire.specs.Read.{Read, done, refused, mapRead, not-done, map-done, map-refused}
 use Rattle.wire.specs.Format.{run, refine, _⨾_, iso, encodeItems, ends-in}
 use Rattle.wire.specs.Formats.{number, prefixed}
@@ -59,6 +60,14 @@ module _ (s : List ℕ) {row : NameFields} {n : ℕ} (h : done row n ≡ mapRead
       let x = row-read in
       nameRow all [] .backward s (x .0) n w (x .1) .ends ∙ row-length [] (x .0) ∙ ap (λ (y : NameFields). 4 + y .name .length) (x .2)
 
+-- its name's bytes stand behind the id and the length
+pub name-there : (s : List ℕ) (r : NameRow) (n : ℕ) → Bytes s → nameRow all [] .read s ≡ done r n → bytesIn s (nameFields r .name) ≡ r .name
+name-there s r n w e =
+    let t = nameRow all [] .backward s r n w e in
+    let bytes : s ≡ rowHead r ++ (r .name ++ drop n s) = t .front ∙ ap (λ (l : List ℕ). l ++ drop n s) (row-bytes [] r) ∙ append-assoc (rowHead r) (r .name) (drop n s) in
+    ap (λ (l : List ℕ). take (length (r .name)) (drop 4 l)) bytes ∙ ap (take (length (r .name))) (drop-at (rowHead r) (r .name ++ drop n s) 4 (head-length r))
+    ∙ take-at (r .name) (drop n s) (length (r .name)) refl
+
 -- ---- all rows at the front of some bytes
 -- no row stands behind the end
 pub nothing-there : nameRow all [] .read [] ≡ refused fault.Ends 0
@@ -100,6 +109,7 @@ all-refused (x ∷ s) {e} {p} h = rw (map-refused nameFields (nameRow all [] .re
 pub record FirstRow (s : List ℕ) (fields₀ : NameFields) (n : ℕ) : Type 0 where
   pub row : NameRow
   pub fields : nameFields row ≡ fields₀
+  pub name : bytesIn s (fields₀ .name) ≡ row .name
   pub size : 4 + length (row .name) ≡ n
   pub rows : allRows s ≡ row ∷ allRows (drop n s)
 
@@ -112,6 +122,7 @@ first-row (x ∷ s) {row} {n} w h =
     record {
       row = y .0;
       fields = y .2;
+      name = ap (λ (f : NameFields). bytesIn (x ∷ s) (f .name)) (sym (y .2)) ∙ name-there (x ∷ s) (y .0) n w (y .1);
       size = size;
       rows = rw (y .1) (ap (λ (l : List NameRow). y .0 ∷ l) (front-same (length s) (drop n (x ∷ s)) (bytes-drop n (x ∷ s) w) (omega (arith, size, length-drop n (x ∷ s))) (length (drop n (x ∷ s))) (omega arith)));
     }

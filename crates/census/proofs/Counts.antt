@@ -1,7 +1,7 @@
--- Laws of counts of indices.
+-- Laws of counts of indices, and of sums over them.
 use Prim.Native.Nat.{ℕ, zero, suc, _+_, _≤_, _<_}
 use mathlib.Core.Path.{_≡_, refl, ap, _∙_}
-use mathlib.Core.Bool.{Bool, true, false}
+use mathlib.Core.Bool.{Bool, true, false, cond, _&&_}
 use native.Mathlib.Nat.{add-zero, add-suc, add-assoc}
 use native.Mathlib.Numerals.{add-one}
 use native.Mathlib.Omega.{arith}
@@ -54,3 +54,27 @@ countIf-front p i n =
   where
     countIf-first : countIf p i 1 ≡ bit (p i)
     countIf-first = countIf-one p i 0 ∙ omega (arith, countIf-zero p i, ap (λ (j : ℕ). bit (p j)) (add-zero i))
+
+-- ---- sums
+-- the sum of f i over those i with a ≤ i < a + n that pass the test
+unfoldable pub sumIf : (ℕ → Bool) → (ℕ → ℕ) → ℕ → ℕ → ℕ
+sumIf p f a zero = 0
+sumIf p f a (suc n) = sumIf p f a n + cond (p (a + n)) (f (a + n)) 0
+
+-- of ones and zeros it counts
+pub sumIf-bit : (p q : ℕ → Bool) (a n : ℕ) → sumIf p (λ i. bit (q i)) a n ≡ countIf (λ i. p i && q i) a n
+unfolding sumIf countIf
+sumIf-bit p q a zero = refl
+sumIf-bit p q a (suc n) = omega (arith, sumIf-bit p q a n, one (p (a + n)))
+  where
+    one : (b : Bool) → cond b (bit (q (a + n))) 0 ≡ bit (b && q (a + n))
+    one true = refl
+    one false = refl
+
+-- from the first on
+pub sumIf-front : (p : ℕ → Bool) (f : ℕ → ℕ) (i n : ℕ) → sumIf p f i (suc n) ≡ cond (p i) (f i) 0 + sumIf p f (suc i) n
+unfolding sumIf
+sumIf-front p f i zero = omega (arith, ap (λ (j : ℕ). cond (p j) (f j) 0) (add-zero i))
+sumIf-front p f i (suc n) =
+    let next : i + suc n ≡ suc i + n = omega arith in
+    omega (arith, sumIf-front p f i n, ap (λ (j : ℕ). cond (p j) (f j) 0) next)

@@ -1,11 +1,10 @@
 -- The row at a place, by what was read there.
 use Prim.Native.Nat.{ℕ, _+_, _-_, _<_, _≤_, min}
 use mathlib.Core.Path.{_≡_, refl, ap, sym, _∙_}
-use mathlib.Core.List.{List, [], _++_, append-assoc}
+use mathlib.Core.List.{List, []}
 use native.Mathlib.Nat.{min-eq-left}
 use native.Mathlib.Omega.{arith}
 use lib.ListN.{length, take, drop, drop-of-length-le, length-append}
-use lib.Seq.{take-at, drop-at}
 use Rattle.wire.proofs.Lists.{rest-is}
 use Rattle.wire.specs.Bytes.{Bytes, bytes-drop}
 use Rattle.wire.specs.Read.{done, refused, mapRead, map-done, map-refused}
@@ -15,7 +14,7 @@ use Rattle.mapblock.specs.Rows.{nameFields}
 use Rattle.wire.specs.Ranges.{bytesIn}
 use Rattle.mapblock.specs.declared.fault.Fault.{Fault}
 use Rattle.mapblock.specs.declared.names.NameFields.{NameFields}
-use Rattle.block_reader.proofs.NameWalks.{rowHead, head-length, row-bytes, nothing-there}
+use Rattle.block_reader.proofs.NameWalks.{head-length, row-bytes, name-there, nothing-there}
 use Rattle.census.specs.NamePlaces.{rowRead, rowAt, nameStart, nameStartAt}
 
 pub row-beyond : (s : List ℕ) (p : ℕ) → length s < p → rowAt s p ≡ record { id = 0; name = [] }
@@ -54,15 +53,11 @@ module _ (s : List ℕ) (p : ℕ) where
     pub row-id : row .id ≡ rowAt s p .id
     row-id = sym (ap (λ (r : NameRow). r .id) is ∙ ap (λ (f : NameFields). f .id) (reads .2))
 
-    -- the name's bytes stand behind the id and the length
+    -- its name
     pub row-name : Bytes s → bytesIn from (row .name) ≡ rowAt s p .name
     row-name b =
-        let r = reads .0 in
-        let t = nameRow all [] .backward (drop p s) r n (bytes-drop p s b) (reads .1) in
-        let bytes : drop p s ≡ rowHead r ++ (r .name ++ drop n (drop p s)) = t .front ∙ ap (λ (l : List ℕ). l ++ drop n (drop p s)) (row-bytes [] r) ∙ append-assoc (rowHead r) (r .name) (drop n (drop p s)) in
-        ap (λ (f : NameFields). bytesIn from (f .name)) (sym (reads .2)) ∙ ap (λ (l : List ℕ). take (length (r .name)) (drop 4 l)) (from-is ∙ bytes)
-        ∙ ap (take (length (r .name))) (drop-at (rowHead r) (r .name ++ drop n (drop p s)) 4 (head-length r))
-        ∙ take-at (r .name) (drop n (drop p s)) (length (r .name)) refl ∙ sym (ap (λ (r : NameRow). r .name) is)
+        ap (λ (f : NameFields). bytesIn from (f .name)) (sym (reads .2)) ∙ ap (λ (l : List ℕ). bytesIn l (nameFields (reads .0) .name)) from-is
+        ∙ name-there (drop p s) (reads .0) n (bytes-drop p s b) (reads .1) ∙ sym (ap (λ (r : NameRow). r .name) is)
 
     -- and there it starts, of bytes that lie at o in what they are lent from
     pub row-start : (a o : ℕ) → Bytes s → _≡_ {A = ℕ × ℕ} (a, (p + o) + min (row .name .start) (length from)) (a, o + nameStartAt s p)

@@ -21,14 +21,14 @@ use Rattle.tally.specs.Rows.{isNamed, countIn}
 use Rattle.tally.specs.Tally.{ones}
 use Rattle.census.specs.UsedNames.{usedIn, usedCounts, totalCount}
 use Rattle.census.specs.CountsById.{countIf, countById, countedBy}
-use Rattle.census.proofs.CountsByName.{by-name, counted-bound}
+use Rattle.census.proofs.Counts.{sumIf}
+use Rattle.census.proofs.CountsByName.{over, byName, SameAt, over-same, by-weight, by-name, counted-bound}
 use Rattle.census.proofs.Cleared.{clear-again, cleared-length}
 
 -- ---- rows that are counted, and rows by what is counted of their ids
 module _ (t : List ℕ) (f : ℕ → ℕ) where
   abbrev Tells : List NameRow → Type 0
-  Tells [] = Unit {0}
-  Tells (r ∷ l) = (getD t (r .id) 0 ≡ f (r .id)) × Tells l
+  Tells = SameAt (λ k. getD t k 0) f
 
   told-counts : (l : List NameRow) → Tells l → (n : List ℕ) → countIn ones (usedCounts t l) n ≡ countIn ones (countedBy f l) n
   unfolding usedCounts
@@ -91,6 +91,12 @@ module _ (b : Block) (q : ℕ → Bool) (t : List ℕ) (valid : Valid b) (counts
   -- of each name they count the nodes that bear it
   pub counted-amount : (n : List ℕ) → countIn ones (usedCounts t (b .names)) n ≡ countIf (λ i. q i && isNamed n (nameAt b i)) 0 4096
   counted-amount n = told-counts t _ (b .names) (tells (b .names) (valid .names .each)) n ∙ by-name q (idAt b) (b .names) (valid .ids-distinct) n (valid .ids-mapped)
+
+  -- weighed by name, they are the nodes weighed by name
+  pub counted-weight : (v : List ℕ → ℕ) → over (byName v) (λ k. getD t k 0) (b .names) ≡ sumIf q (λ i. v (nameAt b i)) 0 4096
+  counted-weight v =
+      over-same (byName v) (λ k. getD t k 0) (countById q (idAt b)) (b .names) (tells (b .names) (valid .names .each))
+      ∙ by-weight q (idAt b) (b .names) (valid .ids-distinct) v (valid .ids-mapped)
 
   -- the names clear them again
   pub counted-clear : length t ≡ 65536 → unmarked t (b .names) ≡ clearTable

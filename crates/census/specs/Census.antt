@@ -18,12 +18,16 @@ use Rattle.census.specs.UsedNames.{usedIn, AllCounted}
 abbrev pub inPartAt : Part → Coordinates → Block → ℕ → Bool
 inPartAt p c b i = inLotAt (p .lot) c i && inSpan (p .span) (b .head .timestamp)
 
--- the counters t and the places tell what stands in the part of the block b, whose rows of names are the bytes s
-pub record Census (p : Part) (c : Coordinates) (b : Block) (s t places : List ℕ) : Type 0 where
+-- the counters t tell what stands in the part of the block b
+pub record Counted (p : Part) (c : Coordinates) (b : Block) (t : List ℕ) : Type 0 where
   -- a counter for each content id
   pub size : length t ≡ 65536
   -- it is the number of nodes in the part that have the id
   pub counts : (k : ℕ) → k < 65536 → getD t k 0 ≡ countById (inPartAt p c b) (idAt b) k
+
+-- so do the counters t and the places, where the bytes s are the block's rows of names
+pub record Census (p : Part) (c : Coordinates) (b : Block) (s t places : List ℕ) : Type 0 where
+  pub counters : Counted p c b t
   -- the places are those of the rows whose id is counted, in the order of their names
   pub order : SortedFrom s (usedIn t (b .names) 0) places
   -- so the name at each place has a count

@@ -23,7 +23,40 @@ ghost use Rattle.mapblock.specs.Block.{verdict};
 ghost use Rattle.block_reader.specs.Sections.{scannedOf};
 ghost use Rattle.mapblock.specs.Table.{clearTable};
 ghost use Rattle.census.specs.NameOrder.{SortedFrom};
-ghost use Rattle.census.specs.Census.{Census};
+ghost use Rattle.census.specs.Census.{Counted, Census};
+
+// Counts the nodes of a block that stand in a part by content id, and tells whether the block was saved within the span. The block stands at
+// `at`, and `scanned` is what the scan told of it. This is an inner function: of whatever counters it promises that a block outside the span
+// leaves them as they were, and of clear ones the counts; `clear` makes them so again.
+pub fn count_nodes(
+    block: &[u8],
+    scanned: Scanned,
+    at: Coordinates,
+    part: Part,
+    counts: &mut [u16; IDS],
+) -> bool
+    ensures within { λ r. ⌜ r ≡ inSpan (part .span) (scanned .head .timestamp) ⌝ }
+    ensures outside { λ _. ⌜ (inSpan (part .span) (scanned .head .timestamp) ≡ false
+        → now (counts .exit) ≡ now (counts .entry)) ⌝ }
+    ensures told { λ _. ⌜
+        ((b : Block) (end : ℕ) → verdict all (now (block .entry)) ≡ done b end → scannedOf b ≡ scanned
+        → now (counts .entry) ≡ clearTable → Counted part at b (now (counts .exit))) ⌝ }
+{
+    let head = scanned.head;
+    let span = part.span;
+    if !span.has(head.timestamp) {
+        return false;
+    }
+    let lists = slice_of(
+        block,
+        Range {
+            start: scanned.lists,
+            length: block.len(),
+        },
+    );
+    count_in(head.version, lists, at, part.lot, counts);
+    true
+}
 
 // Puts the first n places in the order of their names.
 fn sort_first(names: &[u8], places: &mut [usize], n: usize, scratch: &mut [usize])
@@ -60,21 +93,11 @@ pub fn take_census(
 {
     sized(places);
     sized(scratch);
-    let head = scanned.head;
-    let span = part.span;
-    if !span.has(head.timestamp) {
+    if !count_nodes(block, scanned, at, part, counts) {
         return 0;
     }
     let sections = scanned.sections;
     let names = slice_of(block, sections.names);
-    let lists = slice_of(
-        block,
-        Range {
-            start: scanned.lists,
-            length: block.len(),
-        },
-    );
-    count_in(head.version, lists, at, part.lot, counts);
     let n = used(names, counts, places);
     sized(places);
     sort_first(names, places, n, scratch);

@@ -85,11 +85,11 @@ plus-fewer : (a b : Rows ones) → length (plus ones a b) ≤ length a + length 
 plus-fewer [] b = omega arith
 plus-fewer (r ∷ a) b = omega (arith, add-fewer byOne r (plus ones a b), plus-fewer a b)
 
-block-nodes : (p : Part) (x : Placed) → length (nodesIn p (x ∷ [])) ≤ 4096
+pub block-nodes : (p : Part) (x : Placed) → length (nodesIn p (x ∷ [])) ≤ 4096
 block-nodes p x = omega (arith, filterNodes-fewer (inPart p) (standing (x ∷ [])), standing-number (x ∷ []))
 
 -- the same block at the same place
-placed-same : (x : Placed) {at : Coordinates} → x .at ≡ at → x ≡ placed at (x .block)
+pub placed-same : (x : Placed) {at : Coordinates} → x .at ≡ at → x ≡ placed at (x .block)
 placed-same x e = λ i. record { at = e i; block = x .block }
 
 module _ {ids counts t : List ℕ} {q : Progress} {w : State byOne} (s : Steps ids counts t q w) (p : Part) (key : ℤ) (block : List ℕ) where

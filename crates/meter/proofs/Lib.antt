@@ -20,4 +20,5 @@ pub mod AirBlocks
 pub mod ShutOut
 -- Cuts, and demand 3.
 pub mod Cuts
+pub mod Shares
 pub mod Partitions

@@ -1,12 +1,11 @@
 -- Parts of which each node of the whole lies in exactly one: their tallies sum up to the whole's, and the cut law follows.
-use Prim.Native.Nat.{ℕ, suc, _+_}
+use Prim.Native.Nat.{ℕ, suc}
 use mathlib.Core.Path.{_≡_, refl, sym, ap, subst, _∙_}
-use mathlib.Core.Bool.{Bool, true, false, cond}
+use mathlib.Core.Bool.{true}
 use mathlib.Core.List.{List, [], _∷_, _++_}
 use native.Mathlib.Omega.{arith}
 use lib.ListN.{length}
 use Rattle.wire.proofs.Tests.{and-yes, yes-and}
-use Rattle.wire.specs.Choice.{bit}
 use Rattle.wire.specs.Order.{order, choose}
 use Rattle.wire.specs.Answer.{good}
 use Rattle.tally.specs.Rows.{plus, countIn, Canonical}
@@ -18,97 +17,38 @@ use Rattle.tally.proofs.MergeLaw.{merge-law, leaves-one, empty-changes-nothing}
 use Rattle.position.specs.declared.part.Part.{Part}
 use Rattle.position.specs.Parts.{goodPart}
 use Rattle.sheet.specs.Placed.{Placed}
-use Rattle.meter.specs.Standing.{Node, inPart, filterNodes, standing, nodesIn}
+use Rattle.meter.specs.Standing.{Node, filterNodes, standing, nodesIn}
 use Rattle.meter.specs.Counting.{Measure, MeasureRows, amountOf}
-use Rattle.meter.specs.Cuts.{Cuts, uncut, cut, lower, upper, shares, allGood, Partition}
+use Rattle.meter.specs.Cuts.{Cuts, uncut, cut, lower, upper, allGood, Partition}
 use Rattle.meter.specs.Theorems.{Source, blocksOf, SpareFits, IsBytes, Gives, GivesWhole, tallied, Talliable, AllGive, Outputs, EveryCut, PartitionLaw, Demand3}
 use Rattle.meter.proofs.Amounts.{first-amount, count-tally}
 use Rattle.sheet.proofs.TakenBlocks.{AllValid}
 use Rattle.meter.proofs.Blocks.{held, rows-canonical}
 use Rattle.meter.proofs.Cuts.{partition}
+use Rattle.meter.proofs.Shares.{total, totals, totals-whole}
 use Rattle.meter.proofs.Exactness.{blocks-valid, tallied-told, told-gives, gives-tallied, rows-read, is-tally, exact}
 
+-- ---- a list of cuts leaves at least one part
+no-parts : (front back : List Part) (p q : Part) → front ++ p ∷ q ∷ back ≡ [] → ⊥
+no-parts [] back p q e = let z : _≡_ {A = ℕ} 0 1 = cc in omega arith
+no-parts (r ∷ front) back p q e = let z : _≡_ {A = ℕ} 0 1 = cc in omega arith
+
+pub some-part : {whole : Part} {parts : List Part} → Cuts whole parts → parts ≡ [] → ⊥
+some-part uncut e = let z : _≡_ {A = ℕ} 0 1 = cc in omega arith
+some-part (cut front p back c k h) e = no-parts front back (lower c p) (upper c p) e
+
 module _ (m : Measure) where
-  abbrev C : Type 0
-  C = m .kind .counts .C
+  -- ---- an amount of a name is a total: of what each node counts of the name
+  abbrev own : List ℕ → Node → m .kind .counts .C
+  own n x = choose (order (x .name) n) (m .kind .counts .none) (m .of x) (m .kind .counts .none)
 
-  abbrev add : C → C → C
-  add = m .kind .counts .add
-
-  abbrev none : C
-  none = m .kind .counts .none
-
-  -- ---- amounts over parts
-  -- what the nodes of a name count in each part, together
-  abbrev amounts : List ℕ → List Node → List Part → C
-  amounts n l [] = none
-  amounts n l (p ∷ ps) = add (amountOf m n (filterNodes (inPart p) l)) (amounts n l ps)
-
-  -- what a node counts of a name, and the same in the parts where it lies
-  abbrev own : List ℕ → Node → C
-  own n x = choose (order (x .name) n) none (m .of x) none
-
-  abbrev owns : C → Node → List Part → C
-  owns c x [] = none
-  owns c x (p ∷ ps) = add (cond (inPart p x) c none) (owns c x ps)
-
-  -- in no part, and in one
-  owns-none : (c : C) (x : Node) (ps : List Part) → shares ps x ≡ 0 → owns c x ps ≡ none
-  owns-none c x [] h = refl
-  owns-none c x (p ∷ ps) h = go (inPart p x) refl h (owns-none c x ps)
-    where
-      go : (b : Bool) → inPart p x ≡ b → bit b + shares ps x ≡ 0 → (shares ps x ≡ 0 → owns c x ps ≡ none) → add (cond b c none) (owns c x ps) ≡ none
-      go true e k ih = absurd (omega arith)
-      go false e k ih = m .kind .counts .add-none _ ∙ ih (omega arith)
-
-  owns-one : (c : C) (x : Node) (ps : List Part) → shares ps x ≡ 1 → owns c x ps ≡ c
-  owns-one c x [] h = absurd (omega arith)
-  owns-one c x (p ∷ ps) h = go (inPart p x) refl h (owns-one c x ps)
-    where
-      go : (b : Bool) → inPart p x ≡ b → bit b + shares ps x ≡ 1 → (shares ps x ≡ 1 → owns c x ps ≡ c) → add (cond b c none) (owns c x ps) ≡ c
-      go true e k ih = ap (add c) (owns-none c x ps (omega arith)) ∙ m .kind .counts .add-comm c none ∙ m .kind .counts .add-none c
-      go false e k ih = m .kind .counts .add-none _ ∙ ih (omega arith)
-
-  owns-as : (c : C) (x : Node) (ps : List Part) (b : Bool) → shares ps x ≡ bit b → owns c x ps ≡ cond b c none
-  owns-as c x ps true h = owns-one c x ps h
-  owns-as c x ps false h = owns-none c x ps h
-
-  -- the first node of a list, where it passes the test and bears the name
-  amount-first : (n : List ℕ) (test : Node → Bool) (x : Node) (l : List Node) → amountOf m n (filterNodes test (x ∷ l)) ≡ add (cond (test x) (own n x) none) (amountOf m n (filterNodes test l))
+  no-amount : (n : List ℕ) → amountOf m n [] ≡ m .kind .counts .none
   unfolding filterNodes
-  amount-first n test x l = go (test x)
-    where
-      go : (b : Bool) → amountOf m n (cond b (x ∷ filterNodes test l) (filterNodes test l)) ≡ add (cond b (own n x) none) (amountOf m n (filterNodes test l))
-      go true = first-amount m x (filterNodes test l) n
-      go false = sym (m .kind .counts .add-none _)
+  no-amount n = m .total-none
 
-  -- two sums change their middle terms
-  swap : (a b c d : C) → add (add a b) (add c d) ≡ add (add a c) (add b d)
-  swap a b c d =
-      let S = m .kind .counts in
-      S .add-assoc a b (add c d) ∙ ap (add a) (sym (S .add-assoc b c d) ∙ ap (λ (y : C). add y d) (S .add-comm b c) ∙ S .add-assoc c b d) ∙ sym (S .add-assoc a c (add b d))
-
-  amounts-first : (n : List ℕ) (x : Node) (l : List Node) (ps : List Part) → amounts n (x ∷ l) ps ≡ add (owns (own n x) x ps) (amounts n l ps)
-  amounts-first n x l [] = sym (m .kind .counts .add-none none)
-  amounts-first n x l (p ∷ ps) =
-      ap (λ (y : C). add y (amounts n (x ∷ l) ps)) (amount-first n (inPart p) x l) ∙ ap (add (add (cond (inPart p x) (own n x) none) (amountOf m n (filterNodes (inPart p) l)))) (amounts-first n x l ps)
-      ∙ swap _ _ _ _
-
-  amounts-nothing : (n : List ℕ) (ps : List Part) → amounts n [] ps ≡ none
-  unfolding filterNodes
-  amounts-nothing n [] = refl
-  amounts-nothing n (p ∷ ps) = ap (λ (y : C). add y (amounts n [] ps)) (m .total-none) ∙ m .kind .counts .add-none _ ∙ amounts-nothing n ps
-
-  nothing-there : (n : List ℕ) (p : Part) → amountOf m n (filterNodes (inPart p) []) ≡ none
-  unfolding filterNodes
-  nothing-there n p = m .total-none
-
-  amounts-whole : (n : List ℕ) (whole : Part) (ps : List Part) → ((x : Node) → shares ps x ≡ bit (inPart whole x)) → (l : List Node)
-      → amounts n l ps ≡ amountOf m n (filterNodes (inPart whole) l)
-  amounts-whole n whole ps h [] = amounts-nothing n ps ∙ sym (nothing-there n whole)
-  amounts-whole n whole ps h (x ∷ l) =
-      amounts-first n x l ps ∙ ap (λ (y : C). add y (amounts n l ps)) (owns-as (own n x) x ps (inPart whole x) (h x)) ∙ ap (add (cond (inPart whole x) (own n x) none)) (amounts-whole n whole ps h l)
-      ∙ sym (amount-first n (inPart whole) x l)
+  amount-is : (n : List ℕ) (l : List Node) → amountOf m n l ≡ total (m .kind .counts) (own n) l
+  amount-is n [] = no-amount n
+  amount-is n (x ∷ l) = first-amount m x l n ∙ ap (m .kind .counts .add (own n x)) (amount-is n l)
 
   -- ---- rows over parts
   module _ (l : List Placed) (v : AllValid l) where
@@ -120,14 +60,17 @@ module _ (m : Measure) where
     sum-canonical [] = tt
     sum-canonical (p ∷ ps) = canonical-plus (m .kind .counts) (held m p l) (sumRows ps) (rows-canonical m p l v) (sum-canonical ps)
 
-    sum-counts : (ps : List Part) (n : List ℕ) → countIn (m .kind .counts) (sumRows ps) n ≡ amounts n (standing l) ps
+    held-counts : (p : Part) (n : List ℕ) → countIn (m .kind .counts) (held m p l) n ≡ total (m .kind .counts) (own n) (nodesIn p l)
+    held-counts p n = count-tally m (nodesIn p l) n ∙ amount-is n (nodesIn p l)
+
+    sum-counts : (ps : List Part) (n : List ℕ) → countIn (m .kind .counts) (sumRows ps) n ≡ totals (m .kind .counts) (own n) (standing l) ps
     sum-counts [] n = refl
-    sum-counts (p ∷ ps) n = count-plus (m .kind .counts) (held m p l) (sumRows ps) n ∙ rw (count-tally m (nodesIn p l) n, sum-counts ps n)
+    sum-counts (p ∷ ps) n = count-plus (m .kind .counts) (held m p l) (sumRows ps) n ∙ rw (held-counts p n, sum-counts ps n)
 
     sum-whole : (whole : Part) (ps : List Part) → Partition whole ps → sumRows ps ≡ held m whole l
     sum-whole whole ps h =
         determined (m .kind .counts) (sumRows ps) (held m whole l) (sum-canonical ps) (rows-canonical m whole l v)
-        (λ n. sum-counts ps n ∙ amounts-whole n whole ps (h .shared) (standing l) ∙ sym (count-tally m (nodesIn whole l) n))
+        (λ n. sum-counts ps n ∙ totals-whole (m .kind .counts) (own n) whole ps (h .shared) (standing l) ∙ sym (held-counts whole n))
 
   -- ---- the parts' tallies
   module _ (room : ℕ) (x : Source) (b : IsBytes x) where
@@ -247,15 +190,7 @@ module _ (m : Measure) where
     leaves-one = whole-left room x b whole p ps out outs h;
   }
 
-  -- ---- a list of cuts leaves at least one part
-  no-parts : (front back : List Part) (p q : Part) → front ++ p ∷ q ∷ back ≡ [] → ⊥
-  no-parts [] back p q e = let z : _≡_ {A = ℕ} 0 1 = cc in omega arith
-  no-parts (r ∷ front) back p q e = let z : _≡_ {A = ℕ} 0 1 = cc in omega arith
-
-  some-part : {whole : Part} {parts : List Part} → Cuts whole parts → parts ≡ [] → ⊥
-  some-part uncut e = let z : _≡_ {A = ℕ} 0 1 = cc in omega arith
-  some-part (cut front p back c k h) e = no-parts front back (lower c p) (upper c p) e
-
+  -- ---- a list of cuts
   cut-law : EveryCut m (tallied m) (merged (m .kind))
   cut-law room x whole [] out outs b k size o = absurd (some-part k refl)
   cut-law room x whole (p ∷ ps) out outs b k size o = partition-law room x whole p ps out outs b (partition k) size o

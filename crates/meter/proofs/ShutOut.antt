@@ -37,17 +37,17 @@ use Rattle.meter.proofs.AirBlocks.{everywhere}
 use Rattle.meter.proofs.AirBlocks as air
 
 -- ---- the block at key 0
-is-key : isKey (pos 0) ≡ true
+pub is-key : isKey (pos 0) ≡ true
 unfolding isKey between moved
 is-key = refl
 
-abbrev here : Placed
+abbrev pub here : Placed
 here = air.here (pos 0) is-key
 
-abbrev source : Source
+abbrev pub source : Source
 source = one-block (pos 0) air.bytes
 
-taken : blocksOf source ≡ good (here ∷ [])
+pub taken : blocksOf source ≡ good (here ∷ [])
 taken = ap (mapAnswer (λ (x : Placed). x ∷ [])) (air.stands (pos 0) is-key)
 
 abbrev room : ℕ

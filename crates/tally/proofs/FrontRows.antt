@@ -49,7 +49,7 @@ module _ (k : TallyKind) (seen : TallyRows k) (s : List ℕ) where
     row-bad j = rw (h, j)
 
 -- a name behind its length
-abbrev text : Form (List ℕ)
+abbrev pub text : Form (List ℕ)
 text = prefixed 2
 
 module _ (k : TallyKind) (s : List ℕ) where
@@ -66,43 +66,45 @@ module _ (k : TallyKind) (s : List ℕ) where
     unfolding fields iso
     fields-read g = rw (then-done text (k .count) s h g)
 
+-- ---- the name, as the leaf tells it
+module _ (s : List ℕ) (n : ℕ) (h : toldRun 2 s (run.Bytes n) ≡ prefixed {ends = short} 2 .read s) where
+  pub name-read : text .read s ≡ done (take n (drop 2 s)) (2 + n)
+  name-read = prefixed-told malformed 2 s h
+
+  pub name-inside : n + 2 ≤ length s
+  name-inside = omega (arith, ends-in text name-read)
+
+  pub name-stands : Bytes s → isName (take n (drop 2 s)) ≡ true
+  unfolding prefixed iso
+  name-stands b =
+      let l : length (take n (drop 2 s)) < 256 ^ 2 = text .backward s (take n (drop 2 s)) (2 + n) b name-read .ok .0 in
+      le-leb (length (take n (drop 2 s))) 65535 (omega arith)
+
 -- ---- version 1
 module _ (s : List ℕ) where
   pub front-no-name : {p : ℕ} → toldRun 2 s (run.Ends p) ≡ prefixed {ends = short} 2 .read s → none ≡ toOption (row one [] .read s)
   front-no-name h = row-unread one [] s (name-unread one s (prefixed-told malformed 2 s h))
 
   module _ (n : ℕ) (h : toldRun 2 s (run.Bytes n) ≡ prefixed {ends = short} 2 .read s) where
-    name-read : text .read s ≡ done (take n (drop 2 s)) (2 + n)
-    name-read = prefixed-told malformed 2 s h
-
-    pub name-inside : n + 2 ≤ length s
-    name-inside = omega (arith, ends-in text name-read)
-
     place : n + 2 ≡ 2 + n
     place = omega arith
 
     pub front-no-count : toldU64 u64s.Ends ≡ u64 {ends = short} .read (drop (n + 2) s) → none ≡ toOption (row one [] .read s)
     front-no-count g =
-        row-unread one [] s (count-unread one s name-read (ap (λ (m : ℕ). u64 {ends = malformed} .read (drop m s)) (sym place) ∙ number-told malformed 8 (drop (n + 2) s) g))
+        row-unread one [] s (count-unread one s (name-read s n h) (ap (λ (m : ℕ). u64 {ends = malformed} .read (drop m s)) (sym place) ∙ number-told malformed 8 (drop (n + 2) s) g))
 
     module _ (c : ℕ) (g : toldU64 (u64s.Value c) ≡ u64 {ends = short} .read (drop (n + 2) s)) where
       both-read : fields one .read s ≡ done (record { name = take n (drop 2 s); count = c }) (2 + n + 8)
-      both-read = fields-read one s name-read (ap (λ (m : ℕ). u64 {ends = malformed} .read (drop m s)) (sym place) ∙ number-told malformed 8 (drop (n + 2) s) g)
-
-      name-stands : Bytes s → isName (take n (drop 2 s)) ≡ true
-      unfolding prefixed iso
-      name-stands b =
-          let l : length (take n (drop 2 s)) < 256 ^ 2 = text .backward s (take n (drop 2 s)) (2 + n) b name-read .ok .0 in
-          le-leb (length (take n (drop 2 s))) 65535 (omega arith)
+      both-read = fields-read one s (name-read s n h) (ap (λ (m : ℕ). u64 {ends = malformed} .read (drop m s)) (sym place) ∙ number-told malformed 8 (drop (n + 2) s) g)
 
       pub front-none : Bytes s → c ≡ 0 → none ≡ toOption (row one [] .read s)
-      front-none b e = ap toOption (sym (row-bad one [] s both-read (rw (name-stands b) (lt-leb 1 c (omega arith)))))
+      front-none b e = ap toOption (sym (row-bad one [] s both-read (rw (name-stands s n h b) (lt-leb 1 c (omega arith)))))
 
       pub front-some : Bytes s → 1 ≤ c → toldRow s (rows.Row n c) ≡ toOption (row one [] .read s)
       front-some b e =
           let end : n + 10 ≡ 2 + n + 8 = omega arith in
           ap (λ (m : ℕ). some (record { name = take n (drop 2 s); count = c }, m)) end
-          ∙ ap toOption (sym (row-good one [] s both-read (rw (name-stands b) (le-leb 1 c e))))
+          ∙ ap toOption (sym (row-good one [] s both-read (rw (name-stands s n h b) (le-leb 1 c e))))
 
 -- ---- the front row's answer
 module _ (s : List ℕ) where

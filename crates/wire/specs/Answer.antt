@@ -85,7 +85,7 @@ partsMisfit = 12
 abbrev pub tallyMalformed : ℕ  -- tally malformed
 tallyMalformed = 13
 
-abbrev pub tooMany : ℕ  -- a count above 2^64-1, or more than 2^32-1 rows
+abbrev pub tooMany : ℕ  -- a count or a total above 2^64-1, or more than 2^32-1 rows
 tooMany = 14
 
 abbrev pub sheetMalformed : ℕ  -- sheet mark, version, framing, or keys not rising
@@ -93,6 +93,9 @@ sheetMalformed = 15
 
 abbrev pub noSuch : ℕ  -- no such row or node
 noSuch = 16
+
+abbrev pub ratesMalformed : ℕ  -- rate sheet malformed (document 02, item 4)
+ratesMalformed = 40
 
 -- ---- the bytes where they fit, else 11
 abbrev pub inRoom : ℕ → List ℕ → Answer (List ℕ)

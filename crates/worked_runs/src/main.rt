@@ -1,8 +1,9 @@
-// Document 01's worked sums, and the mistakes it has seen before: each is run through the libraries, printed, and held to what document 01
-// says. The sums that it marks P are not run: worked_sums states them in one table.
+// Document 01's worked sums, the mistakes it has seen before, and document 02's prices: each is run through the libraries, printed, and held to
+// what the documents say. The sums that document 01 marks P are not run: worked_sums states them in one table.
 mod blocks;
 mod looking;
 mod mistakes;
+mod prices;
 mod printing;
 mod sheets;
 mod shortest;
@@ -12,4 +13,5 @@ fn main() {
     shortest::run();
     mistakes::run();
     looking::run();
+    prices::run();
 }

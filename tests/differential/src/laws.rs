@@ -1,6 +1,8 @@
-//! Demand 3 run at random against the library, as 01, "Cuts and merges", says it.
+//! Demand 3 run at random against the library, as 01, "Cuts and merges", says it; and the cut law of prices, 02,
+//! item 4.
 
 use crate::compare::Compare;
+use crate::make::rates::{self, Aim};
 use crate::make::{blocks, damage, lots, sheets, tallies};
 use crate::model::tallies::{add_to, bytes_of, length, parse, Counts};
 use anowhetele::raw::{Lot, Span};
@@ -89,7 +91,7 @@ fn note(compare: &mut Compare, law: &str, broken: &[&str], inputs: Vec<Vec<u8>>)
 /// A lot with a span.
 type PartOfWorld = (Lot, Span);
 
-/// What is tallied: a block at a key, or a sheet with spares of one length.
+/// What is tallied or priced: a block at a key, or a sheet, whose tally has spares of one length.
 enum Source {
     Block(i64, Vec<u8>),
     Sheet(Vec<u8>, usize),
@@ -104,18 +106,49 @@ impl Source {
         };
         (answer.number == 0).then_some(result)
     }
+
+    /// The total and the number of unpriced nodes, or nothing after a refusal.
+    fn price(&self, compare: &mut Compare, part: PartOfWorld, rates: &[u8]) -> Option<[u128; 2]> {
+        let bill = match self {
+            Source::Block(key, block) => compare.price_block(*key, block, rates, part),
+            Source::Sheet(sheet, _) => compare.price_sheet(sheet, rates, part),
+        };
+        (bill.answer.number == 0).then_some([bill.total.into(), bill.unpriced.into()])
+    }
+
+    fn bytes(&self) -> &[u8] {
+        match self {
+            Source::Block(_, bytes) | Source::Sheet(bytes, _) => bytes,
+        }
+    }
+}
+
+/// A source with coordinates, a second and names that lie in it.
+struct Made {
+    source: Source,
+    near: [i32; 3],
+    second: u32,
+    names: Vec<Vec<u8>>,
+}
+
+/// A part of the world near a source, good or bad.
+fn whole(compare: &mut Compare, made: &Made) -> PartOfWorld {
+    let random = &mut compare.random;
+    let mut whole = (lots::good_lot(random, made.near), lots::good_span(random, made.second));
+    if random.one_in(8) {
+        whole.0 = lots::bad_lot(random, whole.0);
+    } else if random.one_in(16) {
+        whole.1 = lots::span(random, made.second);
+    }
+    whole
 }
 
 /// A list of cuts of one part, over a block or a sheet, good or bad.
 pub fn cuts(compare: &mut Compare) {
-    let (source, near, second) = source(compare);
-    let mut whole = (lots::good_lot(&mut compare.random, near), lots::good_span(&mut compare.random, second));
-    if compare.random.one_in(8) {
-        whole.0 = lots::bad_lot(&mut compare.random, whole.0);
-    } else if compare.random.one_in(16) {
-        whole.1 = lots::span(&mut compare.random, second);
-    }
-    let parts = cut(compare, whole, near, second);
+    let made = source(compare);
+    let whole = whole(compare, &made);
+    let parts = cut(compare, whole, made.near, made.second);
+    let source = made.source;
     let large = source.tally(compare, whole, 30_000);
     let room = match (large, compare.random.below(4)) {
         (Some(tally), 0) => tally.len(),
@@ -139,26 +172,46 @@ fn compare_cuts(compare: &mut Compare, source: &Source, whole: PartOfWorld, part
             broken.push("the parts, merged, are not the whole");
         }
     }
-    let bytes = match source {
-        Source::Block(_, bytes) | Source::Sheet(bytes, _) => bytes.clone(),
-    };
-    note(compare, "law of cuts", &broken, vec![bytes]);
+    note(compare, "law of cuts", &broken, vec![source.bytes().to_vec()]);
 }
 
-/// A block or a sheet, sometimes damaged, with coordinates and a second that lie in it.
-fn source(compare: &mut Compare) -> (Source, [i32; 3], u32) {
+/// "The cut law of demand 3 holds for both: where the whole is priced, so are the parts, and they add." And the other
+/// way round: where all parts are priced and their totals add up to at most 2^64-1, so is the whole.
+pub fn price_cuts(compare: &mut Compare) {
+    let made = source(compare);
+    let whole = whole(compare, &made);
+    let rates = rates::rates(&mut compare.random, &Aim { names: &made.names, second: made.second });
+    let rates = if compare.random.one_in(12) { rates::damaged(&mut compare.random, &rates) } else { rates.bytes };
+    let parts = cut(compare, whole, made.near, made.second);
+    let whole_bill = made.source.price(compare, whole, &rates);
+    let bills: Vec<[u128; 2]> = parts.iter().filter_map(|&part| made.source.price(compare, part, &rates)).collect();
+    let sum = bills.iter().fold([0; 2], |sum, bill| [sum[0] + bill[0], sum[1] + bill[1]]);
+    let parts_fit = bills.len() == parts.len() && sum[0] <= u128::from(u64::MAX);
+    let mut broken = Vec::new();
+    if whole_bill.is_some() != parts_fit {
+        broken.push("the whole is not priced exactly when the parts are and their sum fits");
+    }
+    if parts_fit && whole_bill.is_some_and(|bill| bill != sum) {
+        broken.push("the parts do not add up to the whole");
+    }
+    note(compare, "law of prices", &broken, vec![made.source.bytes().to_vec(), rates]);
+}
+
+/// A block or a sheet, sometimes damaged.
+fn source(compare: &mut Compare) -> Made {
     let random = &mut compare.random;
     let bad = random.one_in(6);
     if random.one_in(3) {
         let sheet = sheets::sheet(random);
         let bytes = if bad { sheets::damaged(random, &sheet) } else { sheet.bytes.clone() };
-        return (Source::Sheet(bytes, 30_000 + random.below(3)), sheet.near, sheet.second);
+        let source = Source::Sheet(bytes, 30_000 + random.below(3));
+        return Made { source, near: sheet.near, second: sheet.second, names: sheet.names };
     }
     let made = blocks::block(random);
     let bytes = if bad { damage::damaged(random, &made) } else { made.bytes.clone() };
     let near = lots::block_coordinates(random);
     let key = if random.one_in(12) { lots::any_key(random) } else { lots::key_of(near) };
-    (Source::Block(key, bytes), near, made.head.timestamp)
+    Made { source: Source::Block(key, bytes), near, second: made.head.timestamp, names: made.names }
 }
 
 /// "Each cut puts two parts in the place of one." None, or some; where a lot has no two layers, none comes of it.

@@ -1,4 +1,4 @@
-//! The operations, the numbers that the orders of 01 allow each of them, and how often each number was seen.
+//! The operations, the numbers that the orders of 01 and 02 allow each of them, and how often each number was seen.
 
 #[derive(Clone, Copy, Debug, PartialEq, Eq)]
 pub enum Operation {
@@ -20,6 +20,9 @@ pub enum Operation {
     TallyMerge,
     TallyBlock,
     TallySheet,
+    RatesCheck,
+    PriceBlock,
+    PriceSheet,
 }
 
 use Operation::*;
@@ -30,8 +33,9 @@ impl Operation {
     }
 }
 
-/// Each operation with its C name and its numbers. More than 2^32-1 rows cannot be reached, so a sheet has no 14 here.
-const OPERATIONS: [(Operation, &str, &[usize]); 18] = [
+/// Each operation with its C name and its numbers. No sheet that fits in memory has more than 2^32-1 rows in its tally,
+/// or a total above 2^64-1, so a sheet has no 14 here.
+const OPERATIONS: [(Operation, &str, &[u32]); 21] = [
     (KeyJoin, "anow_key_join", &[0, 9]),
     (KeySplit, "anow_key_split", &[0, 9]),
     (LotHas, "anow_lot_has", &[0, 10]),
@@ -50,17 +54,27 @@ const OPERATIONS: [(Operation, &str, &[usize]); 18] = [
     (TallyMerge, "anow_tally_merge", &[0, 11, 13, 14]),
     (TallyBlock, "anow_tally_block", &[0, 1, 2, 3, 4, 5, 6, 7, 8, 9, 10, 11]),
     (TallySheet, "anow_tally_sheet", &[0, 1, 2, 3, 4, 5, 6, 7, 8, 9, 10, 11, 12, 15]),
+    (RatesCheck, "anow_rates_check", &[0, 40]),
+    (PriceBlock, "anow_price_block", &[0, 1, 2, 3, 4, 5, 6, 7, 8, 9, 10, 40]),
+    (PriceSheet, "anow_price_sheet", &[0, 1, 2, 3, 4, 5, 6, 7, 8, 9, 10, 15, 40]),
 ];
 
-/// How often each operation came back with each of 0..16.
+/// The numbers that a call may come back with, each a column of the table.
+const NUMBERS: [u32; 18] = [0, 1, 2, 3, 4, 5, 6, 7, 8, 9, 10, 11, 12, 13, 14, 15, 16, 40];
+
+fn column(number: u32) -> usize {
+    NUMBERS.iter().position(|&known| known == number).expect("a number of the table")
+}
+
+/// How often each operation came back with each number.
 #[derive(Clone, Default)]
 pub struct Table {
-    seen: [[u64; 17]; 18],
+    seen: [[u64; NUMBERS.len()]; OPERATIONS.len()],
 }
 
 impl Table {
     pub fn count(&mut self, operation: Operation, number: u32) {
-        self.seen[operation as usize][number as usize] += 1;
+        self.seen[operation as usize][column(number)] += 1;
     }
 
     pub fn add(&mut self, other: &Table) {
@@ -75,12 +89,12 @@ impl Table {
         self.seen.iter().flatten().sum()
     }
 
-    /// What the orders of 01 allow and no call came back with.
+    /// What the orders of 01 and 02 allow and no call came back with.
     pub fn never_seen(&self) -> Vec<String> {
         let mut missing = Vec::new();
         for (operation, name, numbers) in OPERATIONS {
             let row = &self.seen[operation as usize];
-            let unseen = numbers.iter().filter(|&&number| row[number] == 0);
+            let unseen = numbers.iter().filter(|&&number| row[column(number)] == 0);
             missing.extend(unseen.map(|number| format!("{name} never came back with {number}")));
         }
         missing
@@ -88,7 +102,7 @@ impl Table {
 
     pub fn print(&self) {
         print!("{:18}", "");
-        (0..17).for_each(|number| print!("{number:>8}"));
+        NUMBERS.iter().for_each(|number| print!("{number:>8}"));
         println!();
         for (operation, name, _) in OPERATIONS {
             print!("{name:18}");

@@ -1,4 +1,4 @@
-//! Document 01's shortest block.
+//! Document 01's shortest block, and sheets.
 
 /// The shortest version 29 block: all air, the mapping `air` for id 0.
 pub fn air(timestamp: u32) -> Vec<u8> {
@@ -12,3 +12,16 @@ pub fn air(timestamp: u32) -> Vec<u8> {
 
 /// Where its first param0 stands.
 pub const PARAM0: usize = 20;
+
+// not every test has a sheet
+#[allow(dead_code)]
+pub fn sheet(records: &[(i64, &[u8])]) -> Vec<u8> {
+    let mut sheet = b"WSH\x00\x01".to_vec();
+    sheet.extend((records.len() as u32).to_be_bytes());
+    for (key, block) in records {
+        sheet.extend(key.to_be_bytes());
+        sheet.extend((block.len() as u32).to_be_bytes());
+        sheet.extend(*block);
+    }
+    sheet
+}

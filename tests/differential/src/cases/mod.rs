@@ -2,6 +2,7 @@
 
 mod blocks;
 mod numbers;
+mod prices;
 mod rows;
 mod sheets;
 mod tallies;
@@ -18,7 +19,7 @@ pub fn run(seed: u64, case: u64) -> Compare {
         writing::many_rows(&mut compare);
         return compare;
     }
-    match compare.random.below(100) {
+    match compare.random.below(120) {
         0..=9 => numbers::numbers(&mut compare),
         10..=17 => blocks::good(&mut compare),
         18..=39 => blocks::damaged(&mut compare),
@@ -28,7 +29,9 @@ pub fn run(seed: u64, case: u64) -> Compare {
         64..=75 => tallies::tallies(&mut compare),
         76..=91 => sheets::sheets(&mut compare),
         92..=95 => laws::merges(&mut compare),
-        _ => laws::cuts(&mut compare),
+        96..=99 => laws::cuts(&mut compare),
+        100..=112 => prices::prices(&mut compare),
+        _ => laws::price_cuts(&mut compare),
     }
     compare
 }

@@ -3,7 +3,7 @@
 use super::blocks::around;
 use crate::compare::Compare;
 use crate::make::builder::Builder;
-use crate::make::{names, tallies};
+use crate::make::{listing, names, tallies};
 
 pub fn tallies(compare: &mut Compare) {
     let one = tallies::tally(&mut compare.random, tallies::count);
@@ -31,12 +31,11 @@ fn name_for(compare: &mut Compare, tally: &Builder) -> Vec<u8> {
         let length = random.pick(&[65_534, 65_535, 65_536, 65_537]);
         return vec![b'l'; length];
     }
-    let rows: Vec<_> = tally.fields[3..].chunks(3).map(|row| row[1]).collect();
+    let rows = listing::rows(tally, tallies::ROW);
     if rows.is_empty() || random.one_in(2) {
         return names::name(random);
     }
-    let row = rows[random.below(rows.len())];
-    let mut name = tally.bytes[row.at..row.at + row.length].to_vec();
+    let mut name = tally.run_of(rows[random.below(rows.len())][1]).to_vec();
     match random.below(4) {
         0 => name.push(random.pick(b"\0a\xff")),
         1 => drop(name.pop()),

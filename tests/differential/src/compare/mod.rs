@@ -3,6 +3,7 @@
 mod blocks;
 mod lent;
 mod numbers;
+mod prices;
 mod rows;
 mod tallies;
 mod writing;
@@ -97,6 +98,14 @@ fn done(length: usize) -> Answer {
 
 fn refused(refusal: &Refusal) -> Answer {
     Answer { number: refusal.number, record: refusal.record, offset: refusal.offset as u64, length: 0 }
+}
+
+/// The answer to a call that has no result.
+fn checked(result: Result<(), Refusal>) -> Answer {
+    match result {
+        Ok(()) => done(0),
+        Err(refusal) => refused(&refusal),
+    }
 }
 
 /// The answer to a call whose result is bytes, and the bytes that it should have written.

@@ -2,7 +2,7 @@
 //! Those with an output give the library's answer, and what it wrote on 0.
 
 use super::lent::Lent;
-use super::{done, refused, written, Compare, Input, Told};
+use super::{checked, written, Compare, Input, Told};
 use crate::model::{counting, sheets, tallies, Refusal};
 use crate::operation::Operation;
 use anowhetele::raw::{self, Answer, Lot, Span};
@@ -12,10 +12,7 @@ impl Compare {
     pub fn tally_check(&mut self, tally: &[u8]) {
         let inputs = [Input::new("tally", tally)];
         let library = unsafe { raw::anow_tally_check(tally.as_ptr(), tally.len()) };
-        let model = match tallies::check(tally) {
-            Ok(()) => done(0),
-            Err(refusal) => refused(&refusal),
-        };
+        let model = checked(tallies::check(tally));
         let told = Told { operation: Operation::TallyCheck, number: model.number, library, model };
         self.judge(told, &[], &inputs, format_args!(""));
     }

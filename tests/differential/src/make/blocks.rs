@@ -14,6 +14,8 @@ pub struct MadeBlock {
     pub fields: Vec<Field>,
     pub param0_at: usize,
     pub width: usize,
+    /// Those of its name rows.
+    pub names: Vec<Vec<u8>>,
 }
 
 impl MadeBlock {
@@ -58,7 +60,8 @@ pub fn block_of(random: &mut Random, version: u8) -> MadeBlock {
         let count = rows::row_count(random);
         put_rows(&mut out, count, &rows::timer_rows(random, count));
     }
-    MadeBlock { bytes: out.bytes, head, fields: out.fields, param0_at, width }
+    let names = mapping.into_iter().map(|(_, name)| name).collect();
+    MadeBlock { bytes: out.bytes, head, fields: out.fields, param0_at, width, names }
 }
 
 fn head(random: &mut Random, version: u8) -> Head {

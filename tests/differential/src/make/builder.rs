@@ -57,6 +57,11 @@ impl Builder {
         self.run(Kind::Run, bytes);
     }
 
+    /// The bytes of a field.
+    pub fn run_of(&self, field: Field) -> &[u8] {
+        &self.bytes[field.at..field.at + field.length]
+    }
+
     /// Puts all of another behind.
     pub fn append(&mut self, other: &Builder) {
         let base = self.bytes.len();

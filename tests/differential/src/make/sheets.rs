@@ -9,9 +9,10 @@ pub struct MadeSheet {
     pub bytes: Vec<u8>,
     /// Where the records start, and where the last one ends.
     pub places: Vec<usize>,
-    /// Coordinates and a second of one of its blocks, to aim lots and spans at.
+    /// Coordinates and a second of one of its blocks, to aim lots and spans at, and the names of all to aim rates at.
     pub near: [i32; 3],
     pub second: u32,
+    pub names: Vec<Vec<u8>>,
 }
 
 /// A sheet of up to twelve blocks, often neighbours, with keys that mostly rise.
@@ -23,9 +24,10 @@ pub fn sheet(random: &mut Random) -> MadeSheet {
     keys.sort_unstable();
     keys.dedup();
     let second = blocks.first().map_or(0, |block| block.head.timestamp);
+    let names = blocks.iter().flat_map(|block| block.names.clone()).collect();
     let records: Vec<(i64, Vec<u8>)> = keys.into_iter().zip(blocks).map(|(key, made)| (key, made.bytes)).collect();
     let (bytes, places) = bytes_of(&records);
-    MadeSheet { bytes, places, near, second }
+    MadeSheet { bytes, places, near, second, names }
 }
 
 fn neighbour(random: &mut Random, near: [i32; 3]) -> [i32; 3] {
@@ -51,14 +53,15 @@ pub fn with_damaged_block(random: &mut Random) -> MadeSheet {
     let spoiled = random.below(count);
     let near = lots::block_coordinates(random);
     let first = lots::key_of(near).min(34_351_347_000);
-    let mut records = Vec::new();
+    let (mut records, mut names) = (Vec::new(), Vec::new());
     for record in 0..count {
         let made = blocks::block(random);
+        names.extend(made.names.clone());
         let bytes = if record == spoiled { damage::damaged(random, &made) } else { made.bytes };
         records.push((first + record as i64, bytes));
     }
     let (bytes, places) = bytes_of(&records);
-    MadeSheet { bytes, places, near, second: 1_000_000 }
+    MadeSheet { bytes, places, near, second: 1_000_000, names }
 }
 
 /// A copy of the sheet's bytes with its own framing, keys or head spoiled, once or twice.

@@ -1,10 +1,12 @@
 //! Tallies, good and damaged.
 
 use super::builder::{Builder, Kind};
-use super::{damage, names};
+use super::{damage, listing, names};
 use crate::random::Random;
 use std::collections::BTreeMap;
-use std::ops::Range;
+
+/// How many fields a row has: length, name, count.
+pub const ROW: usize = 3;
 
 /// Counts, many of them near the end of u64.
 pub fn count(random: &mut Random) -> u64 {
@@ -49,52 +51,12 @@ pub fn tally(random: &mut Random, count: fn(&mut Random) -> u64) -> Builder {
 
 /// The tally's bytes with one damage.
 pub fn damaged(random: &mut Random, tally: &Builder) -> Vec<u8> {
-    let mut bytes = tally.bytes.clone();
-    let field = tally.fields[random.below(tally.fields.len())];
-    match random.below(8) {
-        0 => bytes.truncate(field.at + random.below(field.length + 1)),
-        1 => bytes.extend(std::iter::repeat_n(0, 1 + random.below(20))),
-        2 | 3 => {
-            let value = damage::hostile(random, damage::value_of(&bytes, field));
-            damage::put(&mut bytes, field, value);
-        }
-        4 => {
-            let place = random.below(bytes.len());
-            bytes[place] ^= 1 << random.below(8);
-        }
-        5 => exchange_rows(random, tally, &mut bytes),
-        6 => double_row(random, tally, &mut bytes),
-        _ => {
-            // A count of none, where the tally has a row.
-            if tally.fields.len() > 3 {
-                damage::put(&mut bytes, tally.fields[tally.fields.len() - 1], 0);
-            }
-        }
+    let last = tally.fields[tally.fields.len() - 1];
+    if tally.fields.len() > listing::HEAD && random.one_in(8) {
+        // A count of none.
+        let mut bytes = tally.bytes.clone();
+        damage::put(&mut bytes, last, 0);
+        return bytes;
     }
-    bytes
-}
-
-/// The places of the rows: each has three fields, behind the three of the head.
-fn row_places(tally: &Builder) -> Vec<Range<usize>> {
-    tally.fields[3..].chunks(3).map(|row| row[0].at..row[2].at + row[2].length).collect()
-}
-
-/// Exchanges two rows that stand one behind the other, so that names fall.
-fn exchange_rows(random: &mut Random, tally: &Builder, bytes: &mut [u8]) {
-    let rows = row_places(tally);
-    if rows.len() >= 2 {
-        let first = random.below(rows.len() - 1);
-        bytes[rows[first].start..rows[first + 1].end].rotate_left(rows[first].len());
-    }
-}
-
-/// A row twice, counted twice: its name does not rise.
-fn double_row(random: &mut Random, tally: &Builder, bytes: &mut Vec<u8>) {
-    let rows = row_places(tally);
-    if !rows.is_empty() {
-        let row = rows[random.below(rows.len())].clone();
-        let again = bytes[row.clone()].to_vec();
-        bytes.splice(row.start..row.start, again);
-        damage::put(bytes, tally.fields[2], rows.len() as u64 + 1);
-    }
+    listing::damaged(random, tally, ROW)
 }

@@ -1,12 +1,14 @@
 //! Every operation once more, in the plainest way: nothing here is made to be fast, and no code is taken over from the
-//! library. It is written from the scope document ("01"), whose sections the comments name; where 01 leaves a choice it
-//! takes the reading of docs/DECISIONS.md, so a wrong reading would be shared and not show as a difference.
+//! library. It is written from the scope document ("01") and the later requests ("02"), whose sections the comments
+//! name; where they leave a choice it takes the reading of docs/DECISIONS.md, so a wrong reading would be shared and
+//! not show as a difference.
 
 pub mod blocks;
 pub mod counting;
 pub mod fields;
 pub mod keys;
 pub mod lots;
+pub mod prices;
 pub mod rows;
 pub mod sheets;
 pub mod tallies;

@@ -1,8 +1,9 @@
-//! 01, "Tallies, lots, spans, sheets": the tally of a sheet.
+//! 01, "Tallies, lots, spans, sheets": the records of a sheet, and its tally.
 
+use super::counting::{self, Placed};
 use super::fields::Fields;
 use super::tallies::{self, Counts};
-use super::{blocks, counting, keys, lots, Refusal};
+use super::{blocks, keys, lots, Refusal};
 use anowhetele::raw::{Lot, Span};
 
 /// "Sheet: 10, 12, header 15, all as record 0, then by record; then trailing bytes 15 with the record count as record;
@@ -12,24 +13,31 @@ pub fn tally_sheet(sheet: &[u8], lot: Lot, span: Span, room: usize, spare: usize
     if spare < room {
         return Err(Refusal::plain(12));
     }
+    let mut counts = Counts::new();
+    let records = walk(sheet, |placed| counting::count_block(&mut counts, placed, lot, span))?;
+    finish(&counts, records, room)
+}
+
+/// "Header 15, as record 0, then by record: framing 15, key 9, rising 15, block 1 to 8; then trailing bytes 15 with the
+/// record count as record." Hands on each block, and tells how many there are.
+pub fn walk(sheet: &[u8], mut each: impl FnMut(&Placed)) -> Result<u32, Refusal> {
     let mut fields = Fields::new(sheet);
     let records = header(&mut fields).ok_or(Refusal::plain(15))?;
-    let mut counts = Counts::new();
     let mut key_before = None;
     for record in 0..records {
-        let (key, block) = frame(&mut fields).map_err(|_| Refusal::of_record(15, record))?;
+        let (key, bytes) = frame(&mut fields).map_err(|_| Refusal::of_record(15, record))?;
         let coordinates = keys::split(key).map_err(|refusal| Refusal { record, ..refusal })?;
         if key_before.is_some_and(|before| key <= before) {
             return Err(Refusal::of_record(15, record));
         }
         key_before = Some(key);
-        let read = blocks::read(block).map_err(|refusal| Refusal { record, ..refusal })?;
-        counting::count_block(&mut counts, block, &read, coordinates, lot, span);
+        let block = blocks::read(bytes).map_err(|refusal| Refusal { record, ..refusal })?;
+        each(&Placed { bytes, block, coordinates });
     }
     if !fields.are_at_end() {
         return Err(Refusal::of_record(15, records));
     }
-    finish(&counts, records, room)
+    Ok(records)
 }
 
 /// "`WSH`, u16 version 1, u32 number of records".

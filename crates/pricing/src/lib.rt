@@ -1,0 +1,8 @@
+// Prices: what the nodes that stand in a part of the world cost by a rate sheet.
+mod admission;
+pub mod answer;
+pub mod bill;
+pub mod block_price;
+mod names;
+mod priced_block;
+pub mod sheet_price;
