@@ -127,64 +127,65 @@ fn halves(asked: &[u8], rates: &[u8], total: u64, unpriced: u64) {
     );
 }
 
-// Shows which refusal comes first, by calls that are mended fault by fault.
-fn refusals() {
+// Shows a refusal, of which both numbers are 0.
+fn refusal_line(asked: &[u8], told: AnowBill, number: u32) {
+    bill_line(asked, told, number, 0, 0);
+}
+
+// Shows which refusal of a block comes first, by calls that are mended fault by fault.
+fn block_refusals(bad: Lot) {
     let all = Span::ALL_TIME;
-    let mut bad = Lot::WORLD;
-    bad.x0 = 1;
-    bad.x1 = 0;
-    // Another mark than a sheet's.
-    let sheet = b"TLY\x00\x01\x00\x00\x00\x00";
-    say(b"\nThe order of refusals\n");
-    bill_line(
+    refusal_line(
         b"a bad lot, a malformed rate sheet, a bad key and no bytes",
         anow_price_block(BAD_KEY, b"", &MALFORMED, bad, all),
         10,
-        0,
-        0,
     );
-    bill_line(
+    refusal_line(
         b"a malformed rate sheet, a bad key and no bytes",
         anow_price_block(BAD_KEY, b"", &MALFORMED, Lot::WORLD, all),
         40,
-        0,
-        0,
     );
-    bill_line(
+    refusal_line(
         b"a bad key and no bytes",
         anow_price_block(BAD_KEY, b"", &RATES, Lot::WORLD, all),
         9,
-        0,
-        0,
     );
-    bill_line(
+    refusal_line(
         b"no bytes",
         anow_price_block(KEY, b"", &RATES, Lot::WORLD, all),
         1,
-        0,
-        0,
     );
-    bill_line(
+}
+
+// Shows the same of a sheet, which has another mark than a sheet's.
+fn sheet_refusals(bad: Lot) {
+    let all = Span::ALL_TIME;
+    let sheet = b"TLY\x00\x01\x00\x00\x00\x00";
+    refusal_line(
         b"a bad lot, a malformed rate sheet and another mark",
         anow_price_sheet(sheet, &MALFORMED, bad, all),
         10,
-        0,
-        0,
     );
-    bill_line(
+    refusal_line(
         b"a malformed rate sheet and another mark",
         anow_price_sheet(sheet, &MALFORMED, Lot::WORLD, all),
         40,
-        0,
-        0,
     );
-    bill_line(
+    refusal_line(
         b"another mark",
         anow_price_sheet(sheet, &RATES, Lot::WORLD, all),
         15,
-        0,
-        0,
     );
+}
+
+// Shows in which order refusals come.
+fn refusals() {
+    let mut bad = Lot::WORLD;
+    bad.x0 = 1;
+    bad.x1 = 0;
+    say(b"\nThe order of refusals\n");
+    block_refusals(bad);
+    sheet_refusals(bad);
 }
 
 // Shows a running bill of no unpriced nodes, beside what is expected. Of one that is over the total is not told.
