@@ -1,4 +1,5 @@
-"""Anowhetele: the nodes standing on a lot of a Luanti world, counted name by name, and what they cost. Bytes in, bytes out, over a library that is proved.
+"""Anowhetele: the nodes standing on a lot of a Luanti world, counted name by name, and what they cost. Bytes in, bytes out, over a library that is
+proved.
 
     import anowhetele
     with open('world.wsh', 'rb') as file:

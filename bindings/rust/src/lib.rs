@@ -1,4 +1,5 @@
-//! Anowhetele: the nodes standing on a lot of a Luanti world, counted name by name, and what they cost. Safe functions over slices, on a library that is proved.
+//! Anowhetele: the nodes standing on a lot of a Luanti world, counted name by name, and what they cost. Safe functions over slices, on a library that
+//! is proved.
 //!
 //! ```
 //! use anowhetele::{tally_sheet, Lot, Span};

@@ -5,9 +5,9 @@ use Rattle.anowhetele.specs.Answers.{doneWith, refusedWith}
 use Rattle.anowhetele.specs.declared.answer.AnowAnswer.{AnowAnswer}
 use Rattle.anowhetele.specs.declared.prices.AnowBill.{AnowBill}
 
-abbrev pub noBill : AnowAnswer → AnowBill
-noBill a = record { answer = a; total = 0; unpriced = 0 }
+abbrev pub refusedBill : AnowAnswer → AnowBill
+refusedBill a = record { answer = a; total = 0; unpriced = 0 }
 
 abbrev pub handedBill : Answer Bill → AnowBill
 handedBill (good b) = record { answer = doneWith 0; total = b .total; unpriced = b .unpriced }
-handedBill (refusal n r o) = noBill (refusedWith n r o)
+handedBill (refusal n r o) = refusedBill (refusedWith n r o)

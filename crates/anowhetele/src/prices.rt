@@ -22,7 +22,7 @@ ghost use Rattle.rates.specs.Rates.{checkRatesOf};
 ghost use Rattle.pricing.specs.Pricing.{priceBlockOf, priceSheetOf};
 ghost use Rattle.pricing.specs.Told.{toldPrice};
 ghost use Rattle.anowhetele.specs.Answers.{handed, nothingWritten};
-ghost use Rattle.anowhetele.specs.Prices.{noBill, handedBill};
+ghost use Rattle.anowhetele.specs.Prices.{refusedBill, handedBill};
 
 #[repr(C)]
 pub struct AnowBill {
@@ -43,8 +43,8 @@ pub extern "C" fn anow_rates_check(rates: &[u8]) -> AnowAnswer
 }
 
 // Makes what is handed of a price that is refused.
-fn no_bill(answer: AnowAnswer) -> AnowBill
-    ensures { λ r. ⌜ r ≡ noBill answer ⌝ }
+fn refused_bill(answer: AnowAnswer) -> AnowBill
+    ensures { λ r. ⌜ r ≡ refusedBill answer ⌝ }
 {
     AnowBill {
         answer,
@@ -63,11 +63,11 @@ fn bill_answer(answer: PriceAnswer) -> AnowBill
             total: bill.total,
             unpriced: bill.unpriced,
         },
-        PriceAnswer::BadPart => no_bill(plain(BAD_PART)),
-        PriceAnswer::RatesMalformed => no_bill(plain(RATES_MALFORMED)),
-        PriceAnswer::Malformed(i) => no_bill(in_record(SHEET_MALFORMED, i, 0)),
-        PriceAnswer::Record { fault, index: i } => no_bill(record_refused(fault, i)),
-        PriceAnswer::TooMany(i) => no_bill(in_record(TOO_MANY, i, 0)),
+        PriceAnswer::BadPart => refused_bill(plain(BAD_PART)),
+        PriceAnswer::RatesMalformed => refused_bill(plain(RATES_MALFORMED)),
+        PriceAnswer::Malformed(i) => refused_bill(in_record(SHEET_MALFORMED, i, 0)),
+        PriceAnswer::Record { fault, index: i } => refused_bill(record_refused(fault, i)),
+        PriceAnswer::TooMany(i) => refused_bill(in_record(TOO_MANY, i, 0)),
     }
 }
 

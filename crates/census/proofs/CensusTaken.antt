@@ -2,14 +2,14 @@
 use Prim.Native.Nat.{ℕ, _+_, _≤_, _<_}
 use mathlib.Core.Path.{_≡_, refl, sym, ap, subst, _∙_}
 use mathlib.Core.Bool.{Bool, true, false, _&&_, and-true}
-use mathlib.Core.List.{List, [], _∷_}
+use mathlib.Core.List.{List, []}
 use mathlib.Core.Logic.{inl, inr}
 use native.Mathlib.Omega.{arith}
 use lib.Dec.{eqb}
 use lib.ListN.{length, getD}
 use Rattle.wire.specs.Bytes.{Bytes}
 use Rattle.wire.specs.Read.{done}
-use Rattle.wire.specs.Ranges.{rangeAt, bytesIn}
+use Rattle.wire.specs.Ranges.{bytesIn}
 use Rattle.wire.proofs.Tests.{and-no}
 use Rattle.position.specs.Spans.{inSpan}
 use Rattle.position.specs.declared.key.Coordinates.{Coordinates}

@@ -4,7 +4,7 @@ pub mod Pricing
 pub mod Told
 -- What the functions of this crate promise each other.
 pub mod Admission
-pub mod Names
+pub mod BlockPrices
 pub mod Running
 -- What holds of prices.
 pub mod Theorems

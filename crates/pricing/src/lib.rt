@@ -4,5 +4,5 @@ pub mod answer;
 pub mod bill;
 pub mod block_price;
 mod names;
-mod priced_block;
+mod record_price;
 pub mod sheet_price;

@@ -2,10 +2,10 @@
 use Prim.Native.Nat.{ℕ}
 use mathlib.Core.Bool.{cond}
 use mathlib.Core.List.{List, []}
-use mathlib.Core.Option.{Option, some, none}
+use mathlib.Core.Option.{Option}
 use lib.Dec.{leb, eqb}
 use lib.ListN.{length, take, drop}
-use Rattle.wire.specs.Answer.{Answer, good, plain, inRoom, partsMisfit, tallyMalformed, tooMany, noSuch}
+use Rattle.wire.specs.Answer.{Answer, good, plain, someOr, inRoom, partsMisfit, tallyMalformed, tooMany, noSuch}
 use Rattle.wire.specs.Formats.{headLength}
 use Rattle.tally.specs.Rows.{isName, addRow, plus}
 use Rattle.wire.specs.Read.{toOption}
@@ -13,8 +13,7 @@ use Rattle.tally.specs.Tally.{TallyKind, TallyRow, TallyRows, row, tally
 
 -- 13, or what comes of the rows
 abbrev pub withRows : {R A : Type 0} → Option R → (R → Answer A) → Answer A
-withRows none f = plain tallyMalformed
-withRows (some r) f = f r
+withRows = someOr tallyMalformed
 
 module _ (k : TallyKind) where
   -- ---- looking

@@ -3,6 +3,7 @@ use Prim.Native.Nat.{ℕ}
 use mathlib.Core.Path.{_≡_}
 use mathlib.Core.List.{List, [], _++_}
 use mathlib.Core.Bool.{cond}
+use mathlib.Core.Option.{Option, some, none}
 use lib.Dec.{leb}
 use lib.ListN.{length, drop}
 
@@ -15,6 +16,11 @@ pub data Answer (A : Type 0) : Type 0 where
 -- a refusal that has neither record nor offset
 abbrev pub plain : {A : Type 0} → ℕ → Answer A
 plain n = refusal n 0 0
+
+-- what comes of a value that is there; where none is, the number
+abbrev pub someOr : {R A : Type 0} → ℕ → Option R → (R → Answer A) → Answer A
+someOr n none f = plain n
+someOr n (some r) f = f r
 
 abbrev pub mapAnswer : {A B : Type 0} → (A → B) → Answer A → Answer B
 mapAnswer f (good a) = good (f a)
