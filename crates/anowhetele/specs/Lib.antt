@@ -4,3 +4,5 @@ pub mod Blocks
 pub mod Places
 pub mod Prices
 pub mod Rows
+-- What each call may be refused with.
+pub mod Calls

@@ -17,7 +17,10 @@ pub mod NameWalks
 pub mod SectionsThere
 pub mod RunsThere
 pub mod Walk
-pub mod RowsAlone
+pub mod GivenFaults
+pub mod AnswerNumbers
+pub mod Stops
+pub mod FixedFields
 pub mod BlockAnswers
 pub mod NodeNames
 pub mod AskedRanges

@@ -15,7 +15,7 @@ use Rattle.wire.specs.Formats.{number, behind, fixed, listed, only, into}
 use Rattle.mapblock.specs.Inventory.{Form}
 use Rattle.wire.specs.Walk.{rowsRead}
 use Rattle.mapblock.specs.Data.{NameRow, MetadataRow, ObjectRow, TimerRow, NameMapping, Timers, noTimers, nameMappingShape, timersShape}
-use Rattle.mapblock.specs.Layout.{since, before, all, nameRow, metadataRow, objectRow, timerRow, nameMapping, metadata, objects, earlyTimers, lateTimers}
+use Rattle.mapblock.specs.Layout.{since, before, all, nameRow, metadataRow, objectRow, timerRow, nameMapping, listVersionBytes, listVersion, metadata, objects, earlyTimers, lateTimers}
 use Rattle.mapblock.specs.Table.{freeIn, unmarked, frontRows, NamesMarked}
 use Rattle.block_reader.specs.Scan.{metadataHead}
 use Rattle.mapblock.specs.declared.fault.Fault.{Fault}
@@ -108,7 +108,7 @@ name-mapping-rows-length sv = rw (length-append, num-length 4 (sv .timestamp), f
 pub metadata-rows-length : (v : ℕ) (l : List MetadataRow) → length (metadata v .encode l) ≡ metadataHead v + length (encodeItems (metadataRow v) [] l)
 unfolding metadata
 metadata-rows-length v l =
-    fixed-length 2 (metadataRow v) (cond (since 23 v) 1 2) (cond (since 28 v) 2 1) fault.MetadataVersion l
+    fixed-length 2 (metadataRow v) (listVersionBytes v) (listVersion v) fault.MetadataVersion l
     ∙ go (since 23 v) (length (encodeItems (metadataRow v) [] l))
   where
     go : (b : Bool) (n : ℕ) → cond b 1 2 + (2 + n) ≡ cond b 3 4 + n

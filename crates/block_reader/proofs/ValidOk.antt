@@ -14,7 +14,7 @@ use Rattle.wire.specs.Format.{nothing, refine, _⨾_, iso, items, OkItems, item
 use Rattle.wire.specs.Formats.{number, u16, fixed, listed, times, only}
 use Rattle.mapblock.specs.Inventory.{Form}
 use Rattle.mapblock.specs.Data.{NameRow, MetadataRow, ObjectRow, TimerRow, Nodes, Opening, NameMapping, Timers, Block, noMapping, noTimers}
-use Rattle.mapblock.specs.Layout.{since, all, unmapped, nameRow, metadataRow, objectRow, timerRow, nameMapping, width, params, nodes, metadata, objects, earlyTimers, lateTimers, opening, front, rest, steps}
+use Rattle.mapblock.specs.Layout.{since, all, unmapped, nameRow, metadataRow, objectRow, timerRow, nameMapping, width, params, nodes, listVersionBytes, listVersion, metadata, objects, earlyTimers, lateTimers, opening, front, rest, steps}
 use Rattle.mapblock.specs.Block.{openingOf, nameMappingOf, timersOf, block, idAt, firstUnmapped}
 use Rattle.mapblock.specs.Valid.{Has, Distinct, U8, U16, U32, NameGood, MetadataGood, ObjectGood, TimerGood, Rows, Entries, NodesGood, Valid}
 use Rattle.block_reader.specs.Theorems.{ValidIsOk}
@@ -209,7 +209,7 @@ list-version false false = lit< tt
 metadata-ok : (v : ℕ) (l : List MetadataRow) → metadata v .Ok l ↔ (Rows (MetadataGood v) l × Distinct (λ (r : MetadataRow). r .position) l)
 unfolding metadata
 metadata-ok v l =
-    let list = fixed-ok (cond (since 23 v) 1 2) (cond (since 28 v) 2 1) fault.MetadataVersion (listed 2 (metadataRow v)) l (list-version (since 28 v) (since 23 v)) in
+    let list = fixed-ok (listVersionBytes v) (listVersion v) fault.MetadataVersion (listed 2 (metadataRow v)) l (list-version (since 28 v) (since 23 v)) in
     let rows = rows-ok (λ (r : MetadataRow). r .position) (MetadataGood v) (metadataRow v) (metadata-row-ok v) l in
     ((λ h. rows .0 (list .0 h)), λ h. list .1 (rows .1 h))
 

@@ -1,4 +1,5 @@
--- What the code's answers to row questions say: document 01, 'Order', "Row question: 2, then 16 for an empty part, then the reader's 1, 3 or 4".
+-- What the code's answers to row questions say: document 01, 'Order', "Row question: 2, then 16 for an empty part, then the reader's 1, 3 or 4",
+-- where document 02's item 2 has 34 for 3.
 use Prim.Native.Nat.{ℕ}
 use Rattle.wire.specs.Answer.{Answer, good, refusal, plain, noSuch}
 use Rattle.mapblock.specs.Numbers.{refusalNumber}

@@ -37,7 +37,7 @@ use Rattle.block_writer.specs.BlockParts.{headFits}
 use Rattle.block_writer.specs.Sections.{Rows}
 use Rattle.block_writer.specs.Judging.{verdictOn, openingOn, mappingOn, mappingFront, mappingBehind, timersEarly, timersLate, frontOn, restOn, openingLength, listsLength, MappingJudged, FrontJudged, ending, EndingJudged, RestJudged}
 use Rattle.block_writer.proofs.Fitting.{unlit}
-use Rattle.block_writer.proofs.Framed.{name-mapping-looser, metadataListFrame, metadata-list-looser}
+use Rattle.block_writer.proofs.Framed.{not-ends, name-mapping-looser, metadataListFrame, metadata-list-looser}
 use Rattle.block_writer.proofs.RowsJudging.{rows-ok, rows-bytes, name-mapping-ok}
 use Rattle.block_writer.proofs.PiecesJudging.{shift-none, shift-thrice, verdictOn-ok, verdictOn-into, judged-refused, judged-on}
 
@@ -75,10 +75,10 @@ pub metadata-ok : (v : ℕ) {s : List ℕ} {count : ℕ} {m : List MetadataRow} 
 metadata-ok v {m = m} b w = fixed-ok _ _ fault.MetadataVersion (listed 2 λ _. metadataFrame v) m (list-version (since 28 v) (since 23 v)) .1 (rows-ok (metadataFrame v) b w)
 
 pub metadata-settled : (v : ℕ) {s : List ℕ} {count : ℕ} {m : List MetadataRow} → Bytes s → Rows (metadataFrame v) s count m → Settled (metadata v) m
-metadata-settled v b w = settled (metadata-list-looser v) _ (metadata-ok v b w)
+metadata-settled v b w = settled (metadata-list-looser v) _ (metadata-ok v b w) not-ends
 
 pub name-mapping-settled : (free : ℕ → Bool) {s : List ℕ} {count : ℕ} (x : NameMapping) → Bytes s → x .timestamp < 4294967296 → Rows nameFrame s count (x .names) → Settled (nameMapping free) x
-name-mapping-settled free x b h w = settled (name-mapping-looser free) x (name-mapping-ok x b h w)
+name-mapping-settled free x b h w = settled (name-mapping-looser free) x (name-mapping-ok x b h w) not-ends
 
 pub objects-ok : {s : List ℕ} {count : ℕ} {o : List ObjectRow} → Bytes s → Rows objectRow s count o → objects .Ok o
 unfolding objects

@@ -12,7 +12,7 @@ use Rattle.wire.specs.Format.{run, nothing, refine, _⨾_, iso, items, encodeIt
 use Rattle.wire.specs.Formats.{number, behind, fixed, listed, only}
 use Rattle.mapblock.specs.Inventory.{Form}
 use Rattle.mapblock.specs.Data.{NameRow, MetadataRow, ObjectRow, TimerRow, Nodes, Opening, NameMapping, Timers, noMapping, noTimers}
-use Rattle.mapblock.specs.Layout.{since, before, all, nameRow, metadataRow, objectRow, timerRow, opening, nameMapping, params, nodes, metadata, objects, earlyTimers, lateTimers, front, rest, steps}
+use Rattle.mapblock.specs.Layout.{since, before, all, nameRow, metadataRow, objectRow, timerRow, opening, nameMapping, params, nodes, listVersionBytes, listVersion, metadata, objects, earlyTimers, lateTimers, front, rest, steps}
 use Rattle.mapblock.specs.Block.{block, openingOf, nameMappingOf, timersOf}
 use Rattle.mapblock.specs.declared.fault.Fault.{Fault}
 use Rattle.mapblock.specs.declared.fault.Fault.the-variants as fault
@@ -63,7 +63,7 @@ nodes-bytes v n h k = rw (bytes-same [] (n .param1) h, bytes-same [] (n .param2)
 
 pub metadata-bytes : (v : ℕ) (l : List MetadataRow) → metadata v .encode l ≡ metadataBytes v (length l) (encodeItems (metadataRow v) [] l)
 unfolding metadata
-metadata-bytes v l = fixed-bytes (metadataRow v) l (cond (since 23 v) 1 2) (cond (since 28 v) 2 1) fault.MetadataVersion
+metadata-bytes v l = fixed-bytes (metadataRow v) l (listVersionBytes v) (listVersion v) fault.MetadataVersion
 
 pub objects-bytes : (l : List ObjectRow) → objects .encode l ≡ objectsBytes (length l) (encodeItems (λ _. objectRow) [] l)
 unfolding objects

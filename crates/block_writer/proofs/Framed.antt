@@ -1,49 +1,55 @@
 -- A row and its frame: what the reader says of a row's bytes stays, whatever follows.
 use Prim.Native.Nat.{ℕ}
-use mathlib.Core.Path.{_≡_, ap}
+use mathlib.Core.Path.{_≡_, refl}
 use mathlib.Core.List.{List, []}
-use mathlib.Core.Bool.{Bool, false, cond}
-use native.Mathlib.Omega.{arith}
+use mathlib.Core.Bool.{Bool, true, false, cond}
 use lib.Dec.{leb, eqb}
+use Rattle.wire.specs.Answer.{isOneOf}
+use Rattle.wire.specs.Choice.{no-true}
 use Rattle.wire.specs.Format.{nothing, refine, _⨾_}
 use Rattle.wire.specs.Formats.{_▹_, u8, u16, u32, number, prefixed, listed, behind, fixed, only, into}
 use Rattle.wire.proofs.Looser.{Looser, looser-self, looser-refine, looser-trans, looser-then, looser-iso, looser-cond, looser-listed}
 use Rattle.mapblock.specs.Inventory.{Form, inventory}
 use Rattle.mapblock.specs.Data.{NameRow, MetadataRow, TimerRow, NameMapping, Timers, noTimers, nameMappingShape, timersShape}
-use Rattle.mapblock.specs.Layout.{since, before, all, unused, unmapped, position, newPosition, nameRow, variable, metadataRow, timerRow, nameMapping, metadata, earlyTimers, lateTimers}
+use Rattle.mapblock.specs.Layout.{since, before, all, unused, unmapped, position, newPosition, nameRow, variable, metadataRow, timerRow, nameMapping, listVersionBytes, listVersion, metadata, earlyTimers, lateTimers}
 use Rattle.mapblock.specs.MetadataChecks.{variableFor, metadataRowFor}
-use Rattle.mapblock.specs.Numbers as numbers
+use Rattle.mapblock.specs.Numbers.{refusalNumber}
 use Rattle.mapblock.specs.declared.fault.Fault.{Fault}
 use Rattle.mapblock.specs.declared.fault.Fault.the-variants as fault
+use Rattle.block_writer.specs.Write.{judgedNumbers}
 use Rattle.block_writer.specs.Frames.{nameFrame, metadataFrame, timerFrame}
 
--- a fault with another number than 1 is not for want of bytes
-pub other : (f : Fault) → (numbers.refusalNumber f ≡ 1 → ⊥) → f ≡ fault.Ends → ⊥
-other f h e = h (ap numbers.refusalNumber e)
+-- the faults of the values that a frame does not judge
+abbrev pub Judged : Fault → Type 0
+Judged e = isOneOf (refusalNumber e) judgedNumbers ≡ true
+
+-- bytes that end are not among them
+pub not-ends : Judged fault.Ends → ⊥
+not-ends h = no-true h
 
 -- one after the other
-pub looser-both : {A B : Type 0} {f g : Form A} {h k : Form B} → Looser f g → Looser h k → Looser (f ▹ h) (g ▹ k)
+pub looser-both : {A B : Type 0} {f g : Form A} {h k : Form B} → Looser Judged f g → Looser Judged h k → Looser Judged (f ▹ h) (g ▹ k)
 looser-both {f = f} {g = g} {h = h} {k = k} l m = looser-then f g (λ _. h) (λ _. k) l (λ _. m)
 
-pub name-looser : (free : ℕ → Bool) (seen : List NameRow) → Looser (nameRow free seen) nameFrame
+pub name-looser : (free : ℕ → Bool) (seen : List NameRow) → Looser Judged (nameRow free seen) nameFrame
 unfolding nameRow nameFrame
 name-looser free seen =
-    looser-iso _ _ _ _ _ _ (looser-both (looser-refine (unmapped free seen) fault.IdTwice u16 (other fault.IdTwice (λ z. omega arith))) (looser-self (prefixed 2))) _ _ _ _
+    looser-iso _ _ _ _ _ _ (looser-both (looser-refine (unmapped free seen) fault.IdTwice u16 refl) (looser-self (prefixed 2))) _ _ _ _
 
-pub variable-looser : (v : ℕ) → Looser (variable v) (variableFor false v)
+pub variable-looser : (v : ℕ) → Looser Judged (variable v) (variableFor false v)
 unfolding variable variableFor
 variable-looser v =
     looser-iso _ _ _ _ _ _
     (looser-both (looser-self (prefixed 2))
     (looser-both (looser-self (prefixed 4))
-    (looser-cond (since 28 v) (looser-refine (λ b. leb b 1) fault.PrivateByte u8 (other fault.PrivateByte (λ z. omega arith))) (looser-self (nothing 0)))))
+    (looser-cond (since 28 v) (looser-refine (λ b. leb b 1) fault.PrivateByte u8 refl) (looser-self (nothing 0)))))
     _ _ _ _
 
-position-looser : {A : Type 0} (key : A → ℕ) (seen : List A) → Looser (newPosition key seen) u16
+position-looser : {A : Type 0} (key : A → ℕ) (seen : List A) → Looser Judged (newPosition key seen) u16
 position-looser key seen =
-    looser-trans (looser-refine (unused key all seen) fault.PositionTwice position (other fault.PositionTwice (λ z. omega arith))) (looser-refine (λ p. leb p 4095) fault.PositionAbove u16 (other fault.PositionAbove (λ z. omega arith)))
+    looser-trans (looser-refine (unused key all seen) fault.PositionTwice position refl) (looser-refine (λ p. leb p 4095) fault.PositionAbove u16 refl)
 
-pub metadata-looser : (v : ℕ) (seen : List MetadataRow) → Looser (metadataRow v seen) (metadataFrame v)
+pub metadata-looser : (v : ℕ) (seen : List MetadataRow) → Looser Judged (metadataRow v seen) (metadataFrame v)
 unfolding metadataRow metadataFrame metadataRowFor
 metadata-looser v seen =
     looser-iso _ _ _ _ _ _
@@ -54,7 +60,7 @@ metadata-looser v seen =
     (looser-self (only (since 23 v) [] inventory))))))
     _ _ _ _
 
-pub timer-looser : (seen : List TimerRow) → Looser (timerRow seen) timerFrame
+pub timer-looser : (seen : List TimerRow) → Looser Judged (timerRow seen) timerFrame
 unfolding timerRow timerFrame
 timer-looser seen = looser-iso _ _ _ _ _ _ (looser-both (position-looser (λ (r : TimerRow). r .position) seen) (looser-self _)) _ _ _ _
 
@@ -63,7 +69,7 @@ abbrev pub savedFrame : Form NameMapping
 savedFrame = into nameMappingShape (u32 ▹ fixed 1 0 fault.MappingVersion (listed 2 λ _. nameFrame))
 
 abbrev pub metadataListFrame : ℕ → Form (List MetadataRow)
-metadataListFrame v = fixed (cond (since 23 v) 1 2) (cond (since 28 v) 2 1) fault.MetadataVersion (listed 2 λ _. metadataFrame v)
+metadataListFrame v = fixed (listVersionBytes v) (listVersion v) fault.MetadataVersion (listed 2 λ _. metadataFrame v)
 
 -- the timer byte may have any value
 abbrev pub earlyFrame : ℕ → Form Timers
@@ -75,35 +81,35 @@ earlyFrame v = only (before 25 v) noTimers
 abbrev pub lateFrame : ℕ → Form Timers
 lateFrame v = only (since 25 v) noTimers (into timersShape (nothing 0 ▹ fixed 1 10 fault.TimerRowLength (listed 2 λ _. timerFrame)))
 
-looser-fixed : {A : Type 0} (k v : ℕ) (e : Fault) {f g : Form A} → Looser f g → Looser (fixed k v e f) (fixed k v e g)
+looser-fixed : {A : Type 0} (k v : ℕ) (e : Fault) {f g : Form A} → Looser Judged f g → Looser Judged (fixed k v e f) (fixed k v e g)
 unfolding behind
 looser-fixed k v e {f} {g} l = looser-iso _ _ _ _ _ _ (looser-both (looser-self (refine (λ n. eqb n v) e (number k))) l) _ _ _ _
 
-pub name-mapping-looser : (free : ℕ → Bool) → Looser (nameMapping free) savedFrame
+pub name-mapping-looser : (free : ℕ → Bool) → Looser Judged (nameMapping free) savedFrame
 unfolding nameMapping
 name-mapping-looser free =
     looser-iso _ _ _ _ _ _ (looser-both (looser-self u32) (looser-fixed 1 0 fault.MappingVersion (looser-listed (nameRow free) (λ _. nameFrame) (name-looser free) 2))) _ _ _ _
 
-pub metadata-list-looser : (v : ℕ) → Looser (metadata v) (metadataListFrame v)
+pub metadata-list-looser : (v : ℕ) → Looser Judged (metadata v) (metadataListFrame v)
 unfolding metadata
 metadata-list-looser v = looser-fixed _ _ fault.MetadataVersion (looser-listed (metadataRow v) (λ _. metadataFrame v) (metadata-looser v) 2)
 
-timers-looser : Looser (listed 2 timerRow) (listed 2 λ _. timerFrame)
+timers-looser : Looser Judged (listed 2 timerRow) (listed 2 λ _. timerFrame)
 timers-looser = looser-listed timerRow (λ _. timerFrame) timer-looser 2
 
-early-24-looser : Looser (into timersShape (refine (λ t. leb t 1) fault.TimerByte u8 ⨾ λ t. only (eqb t 1) [] (listed 2 timerRow))) (into timersShape (u8 ⨾ λ t. only (eqb t 1) [] (listed 2 λ _. timerFrame)))
+early-24-looser : Looser Judged (into timersShape (refine (λ t. leb t 1) fault.TimerByte u8 ⨾ λ t. only (eqb t 1) [] (listed 2 timerRow))) (into timersShape (u8 ⨾ λ t. only (eqb t 1) [] (listed 2 λ _. timerFrame)))
 early-24-looser =
     looser-iso _ _ _ _ _ _
     (looser-then (refine (λ t. leb t 1) fault.TimerByte u8) u8 (λ t. only (eqb t 1) [] (listed 2 timerRow)) (λ t. only (eqb t 1) [] (listed 2 λ _. timerFrame))
-    (looser-refine (λ t. leb t 1) fault.TimerByte u8 (other fault.TimerByte (λ z. omega arith)))
+    (looser-refine (λ t. leb t 1) fault.TimerByte u8 refl)
     (λ t. looser-cond (eqb t 1) timers-looser (looser-self (nothing []))))
     _ _ _ _
 
-pub early-looser : (v : ℕ) → Looser (earlyTimers v) (earlyFrame v)
+pub early-looser : (v : ℕ) → Looser Judged (earlyTimers v) (earlyFrame v)
 unfolding earlyTimers
 early-looser v = looser-cond (before 25 v) (looser-cond (since 24 v) early-24-looser (looser-self _)) (looser-self (nothing noTimers))
 
-pub late-looser : (v : ℕ) → Looser (lateTimers v) (lateFrame v)
+pub late-looser : (v : ℕ) → Looser Judged (lateTimers v) (lateFrame v)
 unfolding lateTimers
 late-looser v =
     looser-cond (since 25 v)

@@ -24,6 +24,7 @@ use Rattle.mapblock.proofs.GoodRows.{either}
 use Rattle.block_writer.specs.BlockParts.{BlockParts, made, WellTyped}
 use Rattle.block_writer.specs.Judging.{verdictOn, listsLength, FrontJudged, RestJudged, firstUnmappedAmong}
 use Rattle.block_writer.proofs.BlockJudging.{block-verdictOn, verdictOn-refused, verdictOn-firstUnmapped, verdictOn-done}
+use Rattle.block_writer.proofs.Framed.{not-ends}
 use Rattle.block_writer.proofs.MadeBlock.{MadeOf, of-made, front-looser, pieces-ok, block-settled}
 use Rattle.block_writer.proofs.PiecesJudging.{verdictOn-into, judged-refused, judged-length, judged-on}
 use Rattle.block_writer.proofs.FirstUnmapped.{firstUnmapped-same}
@@ -45,7 +46,7 @@ module _ (p : BlockParts) (l : List NameRow) (m : List MetadataRow) (o : List Ob
 
   front-steady : Settled (front all) (piecesOf b .front)
   unfolding iso _⨾_
-  front-steady = settled (front-looser all) (piecesOf b .front) (pieces-ok p b held version mk .0)
+  front-steady = settled (front-looser all) (piecesOf b .front) (pieces-ok p b held version mk .0) not-ends
 
   -- what is said of the front and the rest is said of the eight steps
   steps-verdictOn : verdictOn (front all ⨾ λ f. rest all (f .opening .version)) (piecesOf b .front, piecesOf b .rest) ≡ verdictOn (steps all) (piecesOf b)

@@ -15,6 +15,7 @@ pub mod FirstUnmapped
 pub mod MadeBlock
 pub mod Judged
 pub mod RoundTrip
+pub mod WriterNumbers
 -- Its bytes.
 pub mod Entries
 pub mod PutPieces

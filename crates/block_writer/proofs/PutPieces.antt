@@ -1,7 +1,6 @@
 -- The pieces of a block by version: which bytes each is, and what the code puts.
 use Prim.Native.Nat.{ℕ, _+_, _<_, _≤_}
 use mathlib.Core.Path.{_≡_, refl, ap, _∙_}
-use mathlib.Core.Bool.{cond}
 use mathlib.Core.List.{List, [], _++_}
 use native.Mathlib.Omega.{arith}
 use lib.Dec.{ltb}
@@ -12,7 +11,7 @@ use Rattle.wire.specs.Bytes.{toBE}
 use Rattle.wire.specs.Store.{stored, PutAt}
 use Rattle.wire.specs.Formats.{number}
 use Rattle.wire.specs.Told.{short}
-use Rattle.mapblock.specs.Layout.{since, before, width}
+use Rattle.mapblock.specs.Layout.{before, width, listVersion}
 use Rattle.mapblock.specs.declared.head.Head.{Head}
 use Rattle.block_writer.specs.Pieces.{openingBytes, listBytes, metadataBytes, earlyBytes}
 use Rattle.wire.proofs.Puts.{put-number, put-two}
@@ -41,7 +40,7 @@ module _ (v count : ℕ) (rows : List ℕ) where
   pub metadata-22 : v < 23 → metadataBytes v count rows ≡ toBE 2 1 ++ listBytes count rows
   metadata-22 h = rw (lt-leb 23 v h, lt-leb 28 v (omega arith))
 
-  pub metadata-23 : 23 ≤ v → metadataBytes v count rows ≡ toBE 1 (cond (since 28 v) 2 1) ++ listBytes count rows
+  pub metadata-23 : 23 ≤ v → metadataBytes v count rows ≡ toBE 1 (listVersion v) ++ listBytes count rows
   metadata-23 h = rw (le-leb 23 v h)
 
 -- ---- what follows the metadata

@@ -25,7 +25,7 @@ use Rattle.block_writer.specs.BlockParts.{headFits, timersFit}
 use Rattle.block_writer.specs.Sections.{Rows}
 use Rattle.block_writer.specs.Judging.{verdictOn, timersOn, timersEarly, timersLate}
 use Rattle.block_writer.proofs.Fitting.{no-timer, no-timers}
-use Rattle.block_writer.proofs.Framed.{other, earlyFrame, early-looser}
+use Rattle.block_writer.proofs.Framed.{Judged, not-ends, earlyFrame, early-looser}
 use Rattle.block_writer.proofs.RowsJudging.{no-rows, rows-ok}
 use Rattle.block_writer.proofs.PiecesJudging.{shift-none, verdictOn-ok, verdictOn-into, verdictOn-fixed, judged-refused, judged-on}
 
@@ -38,7 +38,7 @@ timersIf t = only (eqb t 1) [] (listed 2 timerRow)
 
 byte-settled : (t : ℕ) → t < 256 → Settled byte t
 unfolding number iso
-byte-settled t h = settled (looser-refine (λ t. leb t 1) fault.TimerByte u8 (other fault.TimerByte (λ z. omega arith))) t h
+byte-settled t h = settled {Dropped = Judged} (looser-refine (λ t. leb t 1) fault.TimerByte u8 refl) t h not-ends
 
 byte-good : (t : ℕ) → t ≤ 1 → done tt 1 ≡ verdictOn byte t
 unfolding refine number iso run
@@ -130,7 +130,7 @@ module _ (h : Head) {s : List ℕ} {count : ℕ} {l : List TimerRow} (b : Bytes 
       of-24 e = rw e (frame-24 h b w k (λ n. no-rows timerFrame b w (no-timers h s t (omega arith) (λ _. n))))
 
   pub early-settled : h .timer < 256 → timersFit h s ≡ true → Settled (earlyTimers (h .version)) (timersEarly h l)
-  early-settled k t = settled (early-looser (h .version)) (timersEarly h l) (early-ok k t)
+  early-settled k t = settled (early-looser (h .version)) (timersEarly h l) (early-ok k t) not-ends
 
   pub early-of-23 : timersFit h s ≡ true → h .version ≡ 23 → done tt 1 ≡ verdictOn (earlyTimers (h .version)) (timersEarly h l)
   early-of-23 t e = rw (noTimers-early t (λ z. omega arith), e) early-23

@@ -7,7 +7,7 @@ use lib.Dec.{eqb}
 use Rattle.wire.specs.Bytes.{toBE}
 use Rattle.wire.specs.Format.{encodeItems}
 use Rattle.wire.specs.Formats.{number}
-use Rattle.mapblock.specs.Layout.{since, before, width}
+use Rattle.mapblock.specs.Layout.{since, before, width, listVersionBytes, listVersion}
 use Rattle.mapblock.specs.declared.head.Head.{Head}
 use Rattle.mapblock.specs.declared.fault.Fault.the-variants as fault
 use Rattle.block_writer.specs.declared.counts.RowCounts.{RowCounts}
@@ -30,7 +30,7 @@ abbrev pub nodesBytes : ℕ → List ℕ → List ℕ → List ℕ → List ℕ
 nodesBytes v param0 param1 param2 = toBE 1 (width v) ++ (toBE 1 2 ++ (entryBytes (width v) param0 ++ (param1 ++ param2)))
 
 abbrev pub metadataBytes : ℕ → ℕ → List ℕ → List ℕ
-metadataBytes v count rows = toBE (cond (since 23 v) 1 2) (cond (since 28 v) 2 1) ++ listBytes count rows
+metadataBytes v count rows = toBE (listVersionBytes v) (listVersion v) ++ listBytes count rows
 
 abbrev pub earlyBytes : ℕ → ℕ → ℕ → List ℕ → List ℕ
 earlyBytes v timer count rows =

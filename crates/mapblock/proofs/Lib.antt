@@ -1,6 +1,7 @@
 -- Fields and formats: what every other proof cites.
 pub mod Leaves
 pub mod Readings
+pub mod FaultNumbers
 -- Rows, lists and node data.
 pub mod Lines
 pub mod Firsts

@@ -101,8 +101,15 @@ params v = into nodeShape
 unfoldable pub nodes : ℕ → Form Nodes
 nodes v = fixed 1 (width v) fault.ContentWidth (fixed 1 2 fault.ParamsWidth (params v))
 
+-- the bytes of the metadata's list version, and its value
+abbrev pub listVersionBytes : ℕ → ℕ
+listVersionBytes v = cond (since 23 v) 1 2
+
+abbrev pub listVersion : ℕ → ℕ
+listVersion v = cond (since 28 v) 2 1
+
 unfoldable pub metadata : ℕ → Form (List MetadataRow)
-metadata v = fixed (cond (since 23 v) 1 2) (cond (since 28 v) 2 1) fault.MetadataVersion (listed 2 (metadataRow v))
+metadata v = fixed (listVersionBytes v) (listVersion v) fault.MetadataVersion (listed 2 (metadataRow v))
 
 unfoldable pub objects : Form (List ObjectRow)
 objects = fixed 1 0 fault.ObjectVersion (listed 2 λ _. objectRow)

@@ -26,22 +26,22 @@ pub enum Fault {
     IdUnmapped,
 }
 
-// Gives document 01's number of a fault, as specs/Numbers.antt has it.
+// Gives the number of a fault, as specs/Numbers.antt has it.
 pub fn refusal_number(fault: Fault) -> u32
     ensures { λ r. ⌜ r ≡ refusalNumber fault ⌝ }
 {
     match fault {
         Fault::Ends => 1,
         Fault::Version => 2,
-        Fault::ContentWidth => 3,
-        Fault::ParamsWidth => 3,
-        Fault::MetadataVersion => 3,
-        Fault::PrivateByte => 3,
-        Fault::ByteOf23 => 3,
-        Fault::TimerByte => 3,
-        Fault::ObjectVersion => 3,
-        Fault::MappingVersion => 3,
-        Fault::TimerRowLength => 3,
+        Fault::ContentWidth => 31,
+        Fault::ParamsWidth => 32,
+        Fault::MetadataVersion => 33,
+        Fault::PrivateByte => 34,
+        Fault::ByteOf23 => 35,
+        Fault::TimerByte => 35,
+        Fault::ObjectVersion => 36,
+        Fault::MappingVersion => 37,
+        Fault::TimerRowLength => 38,
         Fault::PositionAbove => 4,
         Fault::PositionTwice => 5,
         Fault::IdTwice => 6,

@@ -1,4 +1,4 @@
--- Tallying one block: document 01, 'Order': 10, 9, 1 to 8, 11.
+-- Tallying one block: document 01, 'Order': 10, 9, the block's numbers, 11.
 use Prim.Native.Nat.{ℕ}
 use mathlib.Core.Bool.{cond}
 use mathlib.Core.List.{List, [], _∷_}

@@ -15,6 +15,6 @@ pub record Placed : Type 0 where
 abbrev pub placed : Coordinates → Block → Placed
 placed c b = record { at = c; block = b }
 
--- the block at a key: 9, then 1 to 8
+-- the block at a key: 9, then the block's numbers
 unfoldable pub placedAt : ℤ → List ℕ → Answer Placed
 placedAt key s = thenAnswer (splitOf key) λ c. mapAnswer (placed c) (blockOf s)

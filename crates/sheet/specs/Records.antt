@@ -44,7 +44,7 @@ faultNumber faults.OutOfRange = outOfRange
 faultNumber faults.NotRising = sheetMalformed
 faultNumber (faults.Block f p) = refusalNumber f
 
--- 0 but for 1 to 8
+-- 0 but for the block's numbers
 abbrev pub faultOffset : RecordFault → ℕ
 faultOffset faults.OutOfRange = 0
 faultOffset faults.NotRising = 0

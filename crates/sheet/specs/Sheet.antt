@@ -79,7 +79,7 @@ abbrev pub framed : {A B : Type 0} → ℕ → Read Misframed A → (A → ℕ �
 framed i (done a n) f = f a n
 framed i (refused e p) f = refusal sheetMalformed i 0
 
--- a record judged against the last key, where its names may have the ids that are free: key 9, rising 15, block 1 to 8
+-- a record judged against the last key, where its names may have the ids that are free: key 9, rising 15, then the block's numbers
 unfoldable pub judgedIn : (ℕ → Bool) → Option ℤ → SheetRecord → Answer Placed
 judgedIn free last r = thenAnswer (splitOf (r .key)) λ c. cond (rises last (r .key)) (mapAnswer (placed c) (blockAnswer (verdict free (r .block)))) (plain sheetMalformed)
 

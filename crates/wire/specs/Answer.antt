@@ -1,14 +1,14 @@
 -- What a call comes back with: document 01, 'The numbers a call comes back with'.
 use Prim.Native.Nat.{ℕ}
 use mathlib.Core.Path.{_≡_}
-use mathlib.Core.List.{List, [], _++_}
-use mathlib.Core.Bool.{cond}
+use mathlib.Core.List.{List, [], _∷_, _++_}
+use mathlib.Core.Bool.{Bool, true, false, cond, _||_}
 use mathlib.Core.Option.{Option, some, none}
-use lib.Dec.{leb}
+use lib.Dec.{leb, eqb}
 use lib.ListN.{length, drop}
 
 -- Done, with what the call gives; or refused, with the number, the record and the offset. The record is 0 but for sheets, and the offset
--- is 0 but for 1 to 8.
+-- is 0 but for the block's numbers (`blockNumbers` of mapblock).
 pub data Answer (A : Type 0) : Type 0 where
   good : A → Answer A
   refusal : ℕ → ℕ → ℕ → Answer A
@@ -51,15 +51,23 @@ abbrev pub Matches : {A B : Type 0} → (A → B → Type 0) → Answer A → An
 Matches {B = B} R (good a) b = (x : B) × (b ≡ good x) × R a x
 Matches R (refusal n r o) b = b ≡ refusal n r o
 
+-- ---- the numbers of a call
+-- a number is one of these
+abbrev pub isOneOf : ℕ → List ℕ → Bool
+isOneOf n [] = false
+isOneOf n (m ∷ l) = eqb n m || isOneOf n l
+
+-- an answer that is refused, if at all, with one of these numbers
+abbrev pub RefusedWith : {A : Type 0} → List ℕ → Answer A → Type 0
+RefusedWith numbers (good a) = Unit {0}
+RefusedWith numbers (refusal n r o) = isOneOf n numbers ≡ true
+
 -- ---- the table
 abbrev pub endsInside : ℕ  -- bytes end inside a field, or an inventory has no end line
 endsInside = 1
 
 abbrev pub versionOutside : ℕ  -- version outside 22..29
 versionOutside = 2
-
-abbrev pub fixedDiffers : ℕ  -- a byte, width or list version that is fixed has another value
-fixedDiffers = 3
 
 abbrev pub positionAbove : ℕ  -- position above 4095
 positionAbove = 4
@@ -99,6 +107,31 @@ sheetMalformed = 15
 
 abbrev pub noSuch : ℕ  -- no such row or node
 noSuch = 16
+
+-- 31 to 38: a field that is fixed has another value (document 02, item 2)
+abbrev pub contentWidthDiffers : ℕ
+contentWidthDiffers = 31
+
+abbrev pub paramsWidthDiffers : ℕ
+paramsWidthDiffers = 32
+
+abbrev pub metadataVersionDiffers : ℕ  -- of the list, a u16 in version 22 and then a u8
+metadataVersionDiffers = 33
+
+abbrev pub privateByteDiffers : ℕ  -- of a variable
+privateByteDiffers = 34
+
+abbrev pub timerByteDiffers : ℕ  -- the byte behind the metadata in versions 23 and 24
+timerByteDiffers = 35
+
+abbrev pub objectVersionDiffers : ℕ  -- of the static objects
+objectVersionDiffers = 36
+
+abbrev pub mappingVersionDiffers : ℕ
+mappingVersionDiffers = 37
+
+abbrev pub timerRowLengthDiffers : ℕ
+timerRowLengthDiffers = 38
 
 abbrev pub ratesMalformed : ℕ  -- rate sheet malformed (document 02, item 4)
 ratesMalformed = 40

@@ -50,11 +50,11 @@ const TIMERS: [u8; 10] = *b"\x00\x05\x00\x00\x03\xe8\xff\xff\xff\xff";
 // A row of metadata in version 22, and one in 29: a variable that is private, and an inventory of two lines.
 const METADATA_22: [u8; 11] = *b"\x00\x05\x00\x02\x00\x05chest";
 
-const METADATA_29: [u8; 44] =
+pub(crate) const METADATA_29: [u8; 44] =
     *b"\x00\x05\x00\x00\x00\x01\x00\x04text\x00\x00\x00\x02hi\x01List main 0\nEndInventory\n";
 
 // Writes a block whose first node is of id 1 and whose others are of id 0, and tells its length; 0 where the writer refuses it.
-fn put_rows(version: u8, metadata: &[u8], timers: &[u8], out: &mut [u8]) -> usize {
+pub(crate) fn put_rows(version: u8, metadata: &[u8], timers: &[u8], out: &mut [u8]) -> usize {
     let mut param0 = [0u16; NODES];
     let bytes = [0u8; NODES];
     param0[0] = 1;

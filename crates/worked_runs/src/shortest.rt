@@ -11,27 +11,12 @@ use crate::printing::say_answer;
 use crate::printing::say_bytes;
 use crate::printing::say_number;
 use crate::printing::say_verdict;
-use anowhetele::answer::AnowAnswer;
-use anowhetele::blocks::anow_read;
+use crate::reading::is_answer;
+use crate::reading::read;
 use anowhetele::metering::anow_tally_block;
-use mapblock::nodes::NODES;
 use position::lot::Lot;
 use position::span::Span;
 ghost use Prim.Native.Nat.{_<_};
-
-// Gives what the reader answers.
-fn read(block: &[u8]) -> AnowAnswer {
-    let mut param0 = [0u16; NODES];
-    let mut param1 = [0u8; NODES];
-    let mut param2 = [0u8; NODES];
-    let told = anow_read(block, &mut param0, &mut param1, &mut param2);
-    told.answer
-}
-
-// Tells whether an answer has this number and this place.
-fn is_answer(answer: AnowAnswer, number: u32, place: usize) -> bool {
-    (answer.number == number) & (answer.offset == place as u64)
-}
 
 // Shows the tally of the whole world and all time, and that it has no room in one byte less.
 fn full_tally(block: &[u8]) {

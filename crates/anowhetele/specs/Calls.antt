@@ -1,0 +1,105 @@
+-- The calls of a host, and the numbers that each may be refused with: document 01, 'Order', with what document 02 adds. include/anowhetele.h tells
+-- the same of each function. proofs/Calls.antt proves the theorems.
+use Prim.Native.Nat.{ℕ}
+use mathlib.Core.Path.{_≡_}
+use mathlib.Core.List.{List, [], _∷_}
+use lib.IntN.{ℤ}
+use Rattle.wire.specs.Answer.{Answer, refusal, mapAnswer, RefusedWith, endsInside, versionOutside, positionAbove, idUnmapped, outOfRange, badPart, noRoom, partsMisfit, tallyMalformed, tooMany, sheetMalformed, noSuch, privateByteDiffers, ratesMalformed}
+use Rattle.position.specs.Keys.{joinOf, splitOf}
+use Rattle.position.specs.declared.lot.Lot.{Lot}
+use Rattle.position.specs.declared.part.Part.{Part}
+use Rattle.position.specs.declared.span.Span.{Span}
+use Rattle.mapblock.specs.Data.{Nodes}
+use Rattle.mapblock.specs.Numbers.{blockNumbers}
+use Rattle.block_reader.specs.Questions.{readInto, sectionsOf, nodeNameOf}
+use Rattle.block_reader.specs.RowQuestions.{nameRowOf, metadataRowOf, objectRowOf, timerRowOf}
+use Rattle.block_writer.specs.BlockParts.{BlockParts, WellTyped}
+use Rattle.block_writer.specs.Write.{judgedNumbers, writeOf}
+use Rattle.tally.specs.Tally.{TallyRow, one}
+use Rattle.tally.specs.Operations.{checkOf, addOf, mergeOf}
+use Rattle.meter.specs.Counting.{byOne}
+use Rattle.meter.specs.Tallying.{tallyBlockOf}
+use Rattle.meter.specs.SheetTally.{tallySheetOf}
+use Rattle.rates.specs.Rates.{checkRatesOf}
+use Rattle.pricing.specs.Pricing.{priceBlockOf, priceSheetOf}
+use Rattle.anowhetele.specs.Places.{lotHas, spanHas}
+
+-- Every call that can be refused, with what it is given. Of a lent buffer the length matters, a room, and of the lists that a block is read into
+-- what they hold before.
+pub data Call : Type 0 where
+  key-join : ℤ → ℤ → ℤ → Call
+  key-split : ℤ → Call
+  lot-has : Lot → ℤ → ℤ → ℤ → Call
+  span-has : Span → ℕ → Call
+  read : List ℕ → Nodes → Call
+  sections : List ℕ → Call
+  row-name : List ℕ → Call
+  row-metadata : ℕ → List ℕ → Call
+  row-object : List ℕ → Call
+  row-timer : List ℕ → Call
+  node-name : List ℕ → ℕ → Call
+  write : (p : BlockParts) → WellTyped p → ℕ → Call
+  tally-check : List ℕ → Call
+  tally-add : List ℕ → ℕ → TallyRow one → Call
+  tally-merge : ℕ → List ℕ → List ℕ → Call
+  tally-block : ℤ → List ℕ → Part → ℕ → Call
+  tally-sheet : List ℕ → Part → ℕ → ℕ → Call
+  rates-check : List ℕ → Call
+  price-block : ℤ → List ℕ → List ℕ → Part → Call
+  price-sheet : List ℕ → List ℕ → Part → Call
+
+-- whether a call is done or refused, and how
+abbrev pub outcome : {A : Type 0} → Answer A → Answer (Unit {0})
+outcome a = mapAnswer (λ _. tt) a
+
+abbrev pub callAnswer : Call → Answer (Unit {0})
+callAnswer (key-join x y z) = outcome (joinOf x y z)
+callAnswer (key-split k) = outcome (splitOf k)
+callAnswer (lot-has l x y z) = outcome (lotHas l x y z)
+callAnswer (span-has s t) = outcome (spanHas s t)
+callAnswer (read s lists) = outcome (readInto s lists)
+callAnswer (sections s) = outcome (sectionsOf s)
+callAnswer (row-name s) = outcome (nameRowOf s)
+callAnswer (row-metadata v s) = outcome (metadataRowOf v s)
+callAnswer (row-object s) = outcome (objectRowOf s)
+callAnswer (row-timer s) = outcome (timerRowOf s)
+callAnswer (node-name s i) = outcome (nodeNameOf s i)
+callAnswer (write p h room) = outcome (writeOf p room)
+callAnswer (tally-check s) = outcome (checkOf one s)
+callAnswer (tally-add s n r) = outcome (addOf one s n r)
+callAnswer (tally-merge room s t) = outcome (mergeOf one room s t)
+callAnswer (tally-block k s p room) = outcome (tallyBlockOf byOne k s p room)
+callAnswer (tally-sheet s p room spare) = outcome (tallySheetOf byOne s p room spare)
+callAnswer (rates-check s) = outcome (checkRatesOf s)
+callAnswer (price-block k s r p) = outcome (priceBlockOf k s r p)
+callAnswer (price-sheet s r p) = outcome (priceSheetOf s r p)
+
+abbrev pub numbersOf : Call → List ℕ
+numbersOf (key-join x y z) = outOfRange ∷ []
+numbersOf (key-split k) = outOfRange ∷ []
+numbersOf (lot-has l x y z) = badPart ∷ []
+numbersOf (span-has s t) = badPart ∷ []
+numbersOf (read s lists) = partsMisfit ∷ blockNumbers
+numbersOf (sections s) = blockNumbers
+numbersOf (row-name s) = noSuch ∷ endsInside ∷ []
+numbersOf (row-metadata v s) = versionOutside ∷ noSuch ∷ endsInside ∷ positionAbove ∷ privateByteDiffers ∷ []
+numbersOf (row-object s) = noSuch ∷ endsInside ∷ []
+numbersOf (row-timer s) = noSuch ∷ endsInside ∷ positionAbove ∷ []
+numbersOf (node-name s i) = noSuch ∷ blockNumbers
+numbersOf (write p h room) = versionOutside ∷ partsMisfit ∷ noRoom ∷ idUnmapped ∷ judgedNumbers
+numbersOf (tally-check s) = tallyMalformed ∷ []
+numbersOf (tally-add s n r) = partsMisfit ∷ tallyMalformed ∷ tooMany ∷ noRoom ∷ []
+numbersOf (tally-merge room s t) = tallyMalformed ∷ tooMany ∷ noRoom ∷ []
+numbersOf (tally-block k s p room) = badPart ∷ outOfRange ∷ noRoom ∷ blockNumbers
+numbersOf (tally-sheet s p room spare) = badPart ∷ partsMisfit ∷ sheetMalformed ∷ outOfRange ∷ noRoom ∷ tooMany ∷ blockNumbers
+numbersOf (rates-check s) = ratesMalformed ∷ []
+numbersOf (price-block k s r p) = badPart ∷ ratesMalformed ∷ outOfRange ∷ blockNumbers
+numbersOf (price-sheet s r p) = badPart ∷ ratesMalformed ∷ sheetMalformed ∷ outOfRange ∷ tooMany ∷ blockNumbers
+
+-- A call is refused with one of its numbers, or not at all.
+abbrev pub CallNumbers : Type 0
+CallNumbers = (c : Call) → RefusedWith (numbersOf c) (callAnswer c)
+
+-- document 02, item 2: "3 never"
+abbrev pub NeverThree : Type 0
+NeverThree = (c : Call) (r o : ℕ) → callAnswer c ≡ refusal 3 r o → ⊥
