@@ -39,7 +39,6 @@ class Refusal(enum.IntEnum):
     """The numbers of documents 01 and 02 with which a call is refused."""
     ENDS_INSIDE = 1
     VERSION_OUTSIDE = 2
-    FIXED_DIFFERS = 3
     POSITION_ABOVE = 4
     POSITION_TWICE = 5
     ID_TWICE = 6
@@ -53,35 +52,51 @@ class Refusal(enum.IntEnum):
     TOO_MANY = 14
     SHEET_MALFORMED = 15
     NO_SUCH = 16
+    CONTENT_WIDTH_DIFFERS = 31
+    PARAMS_WIDTH_DIFFERS = 32
+    METADATA_VERSION_DIFFERS = 33
+    PRIVATE_BYTE_DIFFERS = 34
+    TIMER_BYTE_DIFFERS = 35
+    OBJECT_VERSION_DIFFERS = 36
+    MAPPING_VERSION_DIFFERS = 37
+    TIMER_ROW_LENGTH_DIFFERS = 38
     RATES_MALFORMED = 40
 
 
 _TABLE = {
     # each refusal: whether it has an offset, and its words
-    Refusal.ENDS_INSIDE: (True, 'bytes end inside a field, or an inventory has no end line'),
-    Refusal.VERSION_OUTSIDE: (True, 'version outside 22..29'),
-    Refusal.FIXED_DIFFERS: (True, 'a byte, width or list version that is fixed has another value'),
-    Refusal.POSITION_ABOVE: (True, 'position above 4095'),
-    Refusal.POSITION_TWICE: (True, 'position already in its list'),
-    Refusal.ID_TWICE: (True, 'id already mapped'),
-    Refusal.BYTES_AFTER: (True, 'bytes after the end'),
-    Refusal.ID_UNMAPPED: (True, 'used id unmapped'),
-    Refusal.OUT_OF_RANGE: (False, 'key or coordinate out of range'),
-    Refusal.BAD_PART: (False, 'lot out of the world or turned round; span turned round'),
-    Refusal.NO_ROOM: (False, 'result longer than the output lent'),
-    Refusal.PARTS_MISFIT: (False, 'parts do not fit'),
-    Refusal.TALLY_MALFORMED: (False, 'tally malformed'),
-    Refusal.TOO_MANY: (False, 'a count or a total above 2^64-1, or more than 2^32-1 rows'),
-    Refusal.SHEET_MALFORMED: (False, 'sheet mark, version, framing, or keys not rising'),
-    Refusal.NO_SUCH: (False, 'no such row or node'),
-    Refusal.RATES_MALFORMED: (False, 'rate sheet malformed'),
+    Refusal.ENDS_INSIDE: (True, 'the bytes end inside a field, or an inventory has no end line'),
+    Refusal.VERSION_OUTSIDE: (True, 'the version is not 22 to 29'),
+    Refusal.POSITION_ABOVE: (True, 'a position is above 4095'),
+    Refusal.POSITION_TWICE: (True, 'a position stands in its list already'),
+    Refusal.ID_TWICE: (True, 'an id is mapped already'),
+    Refusal.BYTES_AFTER: (True, 'bytes follow the end of the block'),
+    Refusal.ID_UNMAPPED: (True, 'a node has an id that is not mapped to a name'),
+    Refusal.OUT_OF_RANGE: (False, 'a key or a coordinate is out of range'),
+    Refusal.BAD_PART: (False, 'the lot is out of the world or turned round, or the span is turned round'),
+    Refusal.NO_ROOM: (False, 'the result is longer than the output lent'),
+    Refusal.PARTS_MISFIT: (False, 'the parts do not fit'),
+    Refusal.TALLY_MALFORMED: (False, 'the tally is malformed'),
+    Refusal.TOO_MANY: (False, 'a count or a total is above 2^64-1, or there are more than 2^32-1 rows'),
+    Refusal.SHEET_MALFORMED: (False, 'the mark, the version or the framing of the sheet is wrong, or its keys do not rise'),
+    Refusal.NO_SUCH: (False, 'there is no such row or node'),
+    Refusal.CONTENT_WIDTH_DIFFERS: (True, 'the content width is not 1 up to version 23, or not 2 from version 24'),
+    Refusal.PARAMS_WIDTH_DIFFERS: (True, 'the params width is not 2'),
+    Refusal.METADATA_VERSION_DIFFERS: (True, 'the metadata list version is not 1 up to version 27, or not 2 from version 28'),
+    Refusal.PRIVATE_BYTE_DIFFERS: (True, 'the private byte of a metadata variable is not 0 or 1'),
+    Refusal.TIMER_BYTE_DIFFERS: (True, 'the timer byte is not 0 in version 23, or not 0 or 1 in version 24'),
+    Refusal.OBJECT_VERSION_DIFFERS: (True, 'the static object version is not 0'),
+    Refusal.MAPPING_VERSION_DIFFERS: (True, 'the name mapping version is not 0'),
+    Refusal.TIMER_ROW_LENGTH_DIFFERS: (True, 'the timer row length is not 10'),
+    Refusal.RATES_MALFORMED: (False, 'the rate sheet is malformed'),
 }
 # end of numbers
 
 
 class Refused(Exception):
     """A refused call. `offset` is where the field that was refused starts, from the first byte of its block or part; `record` is a sheet's, from 0,
-    or the number of records where no record has the fault. Either is None where document 01 gives none."""
+    or the number of records where no record has the fault. Either is None where the number has none: those with an offset are the block's numbers,
+    with which a block, or a row of one, is refused. `words` is what the number means, in a line that can be read out."""
 
     def __init__(self, number: int, offset: Optional[int] = 0, record: Optional[int] = None):
         self.refusal = Refusal(number)
@@ -383,7 +398,7 @@ def _taken(start, block) -> Block:
 
 
 def read(block: BytesLike) -> Tuple[Block, Nodes]:
-    """Refused: 1 to 8."""
+    """Refused: the block's numbers."""
     param0, param1, param2 = array('H', bytes(2 * NODES)), _output(NODES), _output(NODES)
     with _Loans() as loans:
         start, length = loans.lend(block)
@@ -392,14 +407,14 @@ def read(block: BytesLike) -> Tuple[Block, Nodes]:
 
 
 def sections(block: BytesLike) -> Block:
-    """The same without the nodes. Refused: 1 to 8."""
+    """The same without the nodes. Refused: the block's numbers."""
     with _Loans() as loans:
         start, length = loans.lend(block)
         return _taken(start, _library.anow_sections(start, length))
 
 
 def node_name(block: BytesLike, index: int) -> bytes:
-    """The name of the node at an index, 256*z + 16*y + x. Refused: 1 to 8, then 16 for an index above 4,095."""
+    """The name of the node at an index, 256*z + 16*y + x. Refused: the block's numbers, then 16 for an index above 4,095."""
     with _Loans() as loans:
         start, length = loans.lend(block)
         node = _library.anow_node_name(start, length, *_unsigned(64, index))
@@ -421,7 +436,7 @@ def _sixteen_bits(numbers) -> array:
 
 def write(block: Block, nodes: Nodes, room: Optional[int] = None) -> bytes:
     """The block that these parts make; counts are worked out from the rows. TypeError for a param0 that is bytes.
-    Refused: 2; 12 where the parts do not fit; what the reader would say of the bytes (3 to 6 and 8); 11."""
+    Refused: 2; 12 where the parts do not fit; what the reader would say of the bytes (4, 5, 6, 8, 34 or 35); 11."""
     param0 = _sixteen_bits(nodes.param0)
     with _Loans() as loans:
         start, length = loans.lend(param0)
@@ -511,7 +526,7 @@ def name_row(part: BytesLike) -> Tuple[NameRow, bytes]:
 
 
 def metadata_row(version: int, part: BytesLike) -> Tuple[MetadataRow, bytes]:
-    """Refused: 2, 16, then 1, 3 or 4."""
+    """Refused: 2, 16, then 1, 4 or 34."""
     return _front(MetadataRow, part, _ask_metadata(version))
 
 
@@ -532,7 +547,7 @@ def name_rows(section: BytesLike) -> Iterator[NameRow]:
 
 
 def metadata_rows(version: int, section: BytesLike) -> Iterator[MetadataRow]:
-    """Refused: 2, then 1, 3 or 4."""
+    """Refused: 2, then 1, 4 or 34."""
     return _each(MetadataRow, section, _ask_metadata(version))
 
 
@@ -654,7 +669,8 @@ def _enough(length: int) -> int:
 
 
 def tally_block(key: int, block: BytesLike, lot: Lot = Lot.WORLD, span: Span = Span.ALL_TIME, room: Optional[int] = None) -> Tally:
-    """The nodes of the block at a key that stand in a lot, if the block was saved within a span. Refused: 10; 9; 1 to 8; 11."""
+    """The nodes of the block at a key that stand in a lot, if the block was saved within a span. Refused: 10; 9; the block's
+    numbers; 11."""
     with _Loans() as loans:
         start, length = loans.lend(block)
         room = _enough(length) if room is None else room
@@ -664,7 +680,7 @@ def tally_block(key: int, block: BytesLike, lot: Lot = Lot.WORLD, span: Span = S
 
 def tally_sheet(sheet: BytesLike, lot: Lot = Lot.WORLD, span: Span = Span.ALL_TIME, room: Optional[int] = None) -> Tally:
     """The same of a sheet. Without a room two and a half times the sheet's length of memory is reserved, but only what the tally needs is touched.
-    Refused: 10; 15; by record 15, 9, 15 and 1 to 8; 11; 14."""
+    Refused: 10; 15; by record 15, 9, 15 and the block's numbers; 11; 14."""
     with _Loans() as loans:
         start, length = loans.lend(sheet)
         room = _enough(length) if room is None else room
@@ -730,7 +746,8 @@ def _rates(data: bytes) -> Iterator[Rate]:
 
 def price_block(key: int, block: BytesLike, rates: BytesLike, lot: Lot = Lot.WORLD, span: Span = Span.ALL_TIME) -> Bill:
     """What the nodes of the block at a key that stand in a lot cost, if the block was saved within a span: each the price of the rate of its name with
-    the greatest start not above the block's timestamp; a node with no such rate is unpriced. Refused: 10; 40; 9; 1 to 8."""
+    the greatest start not above the block's timestamp; a node with no such rate is unpriced. Refused: 10; 40; 9; the
+    block's numbers."""
     with _Loans() as loans:
         bill = _library.anow_price_block(*_s64(key), *loans.lend(block), *loans.lend(rates), lot._c(), span._c())
     _told(bill.answer)
@@ -738,7 +755,7 @@ def price_block(key: int, block: BytesLike, rates: BytesLike, lot: Lot = Lot.WOR
 
 
 def price_sheet(sheet: BytesLike, rates: BytesLike, lot: Lot = Lot.WORLD, span: Span = Span.ALL_TIME) -> Bill:
-    """The same of a sheet. Refused: 10; 40; 15; by record 15, 9, 15 and 1 to 8; 14 for a total above 2^64-1."""
+    """The same of a sheet. Refused: 10; 40; 15; by record 15, 9, 15 and the block's numbers; 14 for a total above 2^64-1."""
     with _Loans() as loans:
         bill = _library.anow_price_sheet(*loans.lend(sheet), *loans.lend(rates), lot._c(), span._c())
     _told(bill.answer, bill.answer.record)

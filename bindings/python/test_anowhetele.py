@@ -89,11 +89,11 @@ class Refusals(Case):
             self.assertEqual(tallies.get(timeout=20), 9 * [Tally(AIR)])
             for call, given, text in (
                     (anowhetele.tally_sheet, [sheet((-1, air())), sheet((-1, air()), (5, b''))],
-                     'refused 1 at offset 0 of record 1: bytes end inside a field, or an inventory has no end line'),
+                     'refused 1 at offset 0 of record 1: the bytes end inside a field, or an inventory has no end line'),
                     (anowhetele.tally_sheet, [b'', sheet((-1, air()))],
-                     'refused 15 at record 0: sheet mark, version, framing, or keys not rising'),
-                    (anowhetele.sections, [air(), b'\x1e'], 'refused 2 at offset 0: version outside 22..29'),
-                    (Tally, [AIR, b'TLY'], 'refused 13: tally malformed')):
+                     'refused 15 at record 0: the mark, the version or the framing of the sheet is wrong, or its keys do not rise'),
+                    (anowhetele.sections, [air(), b'\x1e'], 'refused 2 at offset 0: the version is not 22 to 29'),
+                    (Tally, [AIR, b'TLY'], 'refused 13: the tally is malformed')):
                 self.refused(text, lambda: pool.map_async(call, given).get(timeout=20))
 
 
@@ -102,7 +102,7 @@ class Places(Case):
         for place, key in [((0, 1, -2), -33_550_336), ((-1, 0, 0), -1), ((2047,) * 3, 34_351_347_711), ((2047, -1, 0), -2049)]:
             self.assertEqual(anowhetele.key_join(*place), key)
             self.assertEqual(anowhetele.key_split(key), place)
-        self.refused('refused 9: key or coordinate out of range', anowhetele.key_split, 34_351_347_712)
+        self.refused('refused 9: a key or a coordinate is out of range', anowhetele.key_split, 34_351_347_712)
 
     def test_no_number_is_cut(self):
         for call in (lambda: anowhetele.key_join(2**32, 0, 0), lambda: anowhetele.key_split(2**64), lambda: Span(0, 2**32 + 5).has(1),
@@ -116,7 +116,7 @@ class Places(Case):
         self.assertFalse(Lot(0, 0, 0, 3, 3, 3).has(4, 0, 0))
         self.assertTrue(Span(0, 1_000_000).has(999_998))
         self.assertFalse(Span(0, 1_000_000).has(1_000_000))
-        self.refused('refused 10: lot out of the world or turned round; span turned round', Lot(1, 0, 0, 0, 0, 0).has, 0, 0, 0)
+        self.refused('refused 10: the lot is out of the world or turned round, or the span is turned round', Lot(1, 0, 0, 0, 0, 0).has, 0, 0, 0)
 
     def test_in_asks_what_has_does(self):
         lot, span = Lot(-1, -1, -1, 3, 3, 3), Span(5, 9)
@@ -135,7 +135,7 @@ class Places(Case):
             with self.assertRaises(OverflowError):
                 question()
         for question in (lambda: (0, 0, 0) in Lot(1, 0, 0, 0, 0, 0), lambda: 1 in Span(2, 1)):
-            self.refused('refused 10: lot out of the world or turned round; span turned round', question)
+            self.refused('refused 10: the lot is out of the world or turned round, or the span is turned round', question)
 
     def test_they_are_still_tuples(self):
         lot, (start, until) = Lot(-1, -2, -3, 3, 2, 1), Span(5, 9)
@@ -151,8 +151,22 @@ class Blocks(Case):
         self.assertEqual(block.head, Head(29, 0, 65_535, 5, 0))
         self.assertEqual((len(nodes.param0), nodes.param1), (4096, bytes(4096)))
         self.assertEqual(anowhetele.write(block, nodes), FURNISHED)
-        self.refused('refused 11: result longer than the output lent', anowhetele.write, block, nodes, len(FURNISHED) - 1)
-        self.refused('refused 12: parts do not fit', anowhetele.write, block, nodes._replace(param1=b''))
+        self.refused('refused 11: the result is longer than the output lent', anowhetele.write, block, nodes, len(FURNISHED) - 1)
+        self.refused('refused 12: the parts do not fit', anowhetele.write, block, nodes._replace(param1=b''))
+
+    def test_each_fixed_field_has_a_number_of_its_own(self):
+        for offset, refusal in ((8, Refusal.MAPPING_VERSION_DIFFERS), (18, Refusal.CONTENT_WIDTH_DIFFERS), (19, Refusal.PARAMS_WIDTH_DIFFERS),
+                                (16_404, Refusal.METADATA_VERSION_DIFFERS), (16_425, Refusal.PRIVATE_BYTE_DIFFERS),
+                                (16_456, Refusal.OBJECT_VERSION_DIFFERS), (16_476, Refusal.TIMER_ROW_LENGTH_DIFFERS)):
+            spoilt = bytearray(FURNISHED)
+            spoilt[offset] = 77
+            with self.assertRaises(Refused) as caught:
+                anowhetele.sections(spoilt)
+            self.assertEqual((caught.exception.refusal, caught.exception.offset), (refusal, offset))
+        block, nodes = anowhetele.read(air())
+        block = block._replace(head=block.head._replace(version=24, timer_byte=2))
+        text = 'refused 35 at offset 16391: the timer byte is not 0 in version 23, or not 0 or 1 in version 24'
+        self.refused(text, anowhetele.write, block, nodes)
 
     def test_param0_is_numbers(self):
         block, nodes = anowhetele.read(crowded(24, range(4096), short_names()))
@@ -166,7 +180,7 @@ class Blocks(Case):
         with self.assertRaises(OverflowError):
             anowhetele.write(block, nodes._replace(param0=4096 * [65536]))
         for param0 in ([], range(4095), memoryview(bytes(8192))):
-            self.refused('refused 12: parts do not fit', anowhetele.write, block, nodes._replace(param0=param0))
+            self.refused('refused 12: the parts do not fit', anowhetele.write, block, nodes._replace(param0=param0))
 
     def test_rows(self):
         block = anowhetele.sections(FURNISHED)
@@ -177,12 +191,12 @@ class Blocks(Case):
         self.assertEqual(anowhetele.metadata_row(22, b'\0\5\0\x0e\0\3abcd'), (MetadataRow(5, 14, b'abc', 0, b'', b''), b'd'))
         self.assertEqual(list(anowhetele.object_rows(2 * block.objects)), 2 * [ObjectRow(7, -1, 2, 3, b'ox')])
         self.assertEqual(list(anowhetele.timer_rows(2 * block.timers)), 2 * [TimerRow(9, 1000, -2)])
-        self.refused('refused 16: no such row or node', anowhetele.timer_row, b'')
-        self.refused('refused 4 at offset 0: position above 4095', anowhetele.timer_row, b'\x10\0')
+        self.refused('refused 16: there is no such row or node', anowhetele.timer_row, b'')
+        self.refused('refused 4 at offset 0: a position is above 4095', anowhetele.timer_row, b'\x10\0')
 
     def test_nodes(self):
         self.assertEqual(anowhetele.node_name(air(), 4095), b'air')
-        self.refused('refused 16: no such row or node', anowhetele.node_name, air(), 4096)
+        self.refused('refused 16: there is no such row or node', anowhetele.node_name, air(), 4096)
         self.assertEqual((anowhetele.light_count(0xfffe), anowhetele.light_count(0xf000)), (1, 12))
 
 
@@ -191,7 +205,7 @@ class Tallies(Case):
         tally = anowhetele.tally_block(-1, air(), room=22)
         self.assertEqual(tally, Tally(AIR))
         self.assertEqual(list(tally), [Row(b'air', 4096)])
-        self.refused('refused 11: result longer than the output lent', anowhetele.tally_block, -1, air(), room=21)
+        self.refused('refused 11: the result is longer than the output lent', anowhetele.tally_block, -1, air(), room=21)
         self.assertEqual(anowhetele.tally_block(-1, air(1_000_000), span=Span(0, 1_000_000)), Tally.EMPTY)
 
     def test_sheets(self):
@@ -199,9 +213,9 @@ class Tallies(Case):
             self.assertEqual(anowhetele.tally_sheet(f.read()).bytes, AIR)
         bad = bytearray(air())
         bad[PARAM0 + 1] = 9
-        refused = self.refused('refused 8 at offset 20 of record 1: used id unmapped', anowhetele.tally_sheet, sheet((-1, air()), (5, bad)))
+        refused = self.refused('refused 8 at offset 20 of record 1: a node has an id that is not mapped to a name', anowhetele.tally_sheet, sheet((-1, air()), (5, bad)))
         self.assertEqual((refused.number, refused.refusal, refused.offset, refused.record), (8, Refusal.ID_UNMAPPED, 20, 1))
-        self.refused('refused 15 at record 1: sheet mark, version, framing, or keys not rising', anowhetele.tally_sheet,
+        self.refused('refused 15 at record 1: the mark, the version or the framing of the sheet is wrong, or its keys do not rise', anowhetele.tally_sheet,
                      sheet((10, air()), (9, air())))
 
     def test_halves_make_the_whole(self):
@@ -214,8 +228,8 @@ class Tallies(Case):
         tally = Tally.EMPTY.add(b'default:stone', 3).add(b'air', 2**64 - 1).add(b'default:dirt', 0)
         self.assertEqual(list(tally), [Row(b'air', 2**64 - 1), Row(b'default:stone', 3)])
         self.assertEqual(len(tally), 2)
-        self.refused('refused 14: a count or a total above 2^64-1, or more than 2^32-1 rows', tally.add, b'air', 1)
-        self.refused('refused 13: tally malformed', Tally, b'TLY')
+        self.refused('refused 14: a count or a total is above 2^64-1, or there are more than 2^32-1 rows', tally.add, b'air', 1)
+        self.refused('refused 13: the tally is malformed', Tally, b'TLY')
 
     def test_counts_by_name(self):
         tally = Tally.EMPTY.add(b'default:stone', 3).add(b'', 2**64 - 1)
@@ -268,8 +282,8 @@ class Prices(Case):
         good = anowhetele.rate_sheet([(b'a', 9, 1), (b'a', 10, 1)])
         # a rate of this name has eleven bytes
         for bad in (good[:9] + good[20:] + good[9:20], good + b'\0', good[1:], good[:8], good[:-1], b'', AIR):
-            self.refused('refused 40: rate sheet malformed', anowhetele.check_rates, bad)
-            self.refused('refused 40: rate sheet malformed', anowhetele.rate_rows, bad)
+            self.refused('refused 40: the rate sheet is malformed', anowhetele.check_rates, bad)
+            self.refused('refused 40: the rate sheet is malformed', anowhetele.rate_rows, bad)
 
     def test_a_block_s_time_decides(self):
         for timestamp, total in ((999_998, 6_144_000), (999_999, 6_144_000), (1_000_000, 8_192_000), (2**32 - 1, 0)):
@@ -291,14 +305,14 @@ class Prices(Case):
     def test_refusals_have_their_order(self):
         bad = bytearray(air())
         bad[PARAM0 + 1] = 9
-        words = 'refused 10: lot out of the world or turned round; span turned round'
+        words = 'refused 10: the lot is out of the world or turned round, or the span is turned round'
         self.refused(words, anowhetele.price_block, 2**40, bad, b'', span=Span(2, 1))
-        self.refused('refused 40: rate sheet malformed', anowhetele.price_block, 2**40, bad, b'')
-        self.refused('refused 9: key or coordinate out of range', anowhetele.price_block, 2**40, bad, AIR_RATES)
-        self.refused('refused 8 at offset 20: used id unmapped', anowhetele.price_block, 0, bad, AIR_RATES)
-        self.refused('refused 40 at record 0: rate sheet malformed', anowhetele.price_sheet, b'', b'')
-        self.refused('refused 15 at record 0: sheet mark, version, framing, or keys not rising', anowhetele.price_sheet, b'', AIR_RATES)
-        self.refused('refused 8 at offset 20 of record 1: used id unmapped', anowhetele.price_sheet, sheet((-1, air()), (5, bad)), AIR_RATES)
+        self.refused('refused 40: the rate sheet is malformed', anowhetele.price_block, 2**40, bad, b'')
+        self.refused('refused 9: a key or a coordinate is out of range', anowhetele.price_block, 2**40, bad, AIR_RATES)
+        self.refused('refused 8 at offset 20: a node has an id that is not mapped to a name', anowhetele.price_block, 0, bad, AIR_RATES)
+        self.refused('refused 40 at record 0: the rate sheet is malformed', anowhetele.price_sheet, b'', b'')
+        self.refused('refused 15 at record 0: the mark, the version or the framing of the sheet is wrong, or its keys do not rise', anowhetele.price_sheet, b'', AIR_RATES)
+        self.refused('refused 8 at offset 20 of record 1: a node has an id that is not mapped to a name', anowhetele.price_sheet, sheet((-1, air()), (5, bad)), AIR_RATES)
 
     def test_the_program_s_example(self):
         with open(os.path.join(HERE, '../../crates/sheetcount/stdin'), 'rb') as f:
@@ -334,10 +348,10 @@ class Rooms(Case):
         self.assertEqual(len(self.told(Tally(AIR).merge, Tally.EMPTY.add(b'', 1))), 2)
 
     def test_other_refusals_come_first(self):
-        self.refused('refused 1 at offset 0: bytes end inside a field, or an inventory has no end line', anowhetele.tally_block, 0, b'', room=0)
-        self.refused('refused 15 at record 0: sheet mark, version, framing, or keys not rising', anowhetele.tally_sheet, b'')
-        self.refused('refused 12: parts do not fit', Tally.EMPTY.add, bytes(65536), 1)
-        self.refused('refused 12: parts do not fit', Tally.EMPTY.add, bytes(65536), 1, room=0)
+        self.refused('refused 1 at offset 0: the bytes end inside a field, or an inventory has no end line', anowhetele.tally_block, 0, b'', room=0)
+        self.refused('refused 15 at record 0: the mark, the version or the framing of the sheet is wrong, or its keys do not rise', anowhetele.tally_sheet, b'')
+        self.refused('refused 12: the parts do not fit', Tally.EMPTY.add, bytes(65536), 1)
+        self.refused('refused 12: the parts do not fit', Tally.EMPTY.add, bytes(65536), 1, room=0)
         for room in (-1, 2**64):
             with self.assertRaises(OverflowError):
                 anowhetele.tally_block(0, air(), room=room)
@@ -423,8 +437,8 @@ class Buffers(Case):
             file.flush()
             mapped = mmap.mmap(file.fileno(), 0, access=mmap.ACCESS_READ)
         self.assertEqual(anowhetele.tally_sheet(mapped), Tally(AIR))
-        self.refused('refused 2 at offset 0: version outside 22..29', anowhetele.sections, mapped)
-        self.refused('refused 13: tally malformed', Tally, mapped)
+        self.refused('refused 2 at offset 0: the version is not 22 to 29', anowhetele.sections, mapped)
+        self.refused('refused 13: the tally is malformed', Tally, mapped)
         mapped.close()
         with self.assertRaises(ValueError):
             anowhetele.tally_sheet(mapped)

@@ -32,7 +32,7 @@ fn taken(block: &[u8], read: raw::Block) -> Result<Block<'_>, Refused> {
 }
 
 /// Reads a block, and its nodes into three lists of 4,096, by their index 256·z + 16·y + x.
-/// Refused: 12 for a list not of 4,096, then 1 to 8.
+/// Refused: 12 for a list not of 4,096, then the block's numbers.
 pub fn read<'a>(
     block: &'a [u8],
     param0: &mut [u16],
@@ -53,12 +53,13 @@ pub fn read<'a>(
     })
 }
 
-/// Reads a block without its nodes. Refused: 1 to 8.
+/// Reads a block without its nodes. Refused: the block's numbers.
 pub fn sections(block: &[u8]) -> Result<Block<'_>, Refused> {
     taken(block, unsafe { raw::anow_sections(block.as_ptr(), block.len()) })
 }
 
-/// The name of the node at an index, 256·z + 16·y + x: the very bytes in the block. Refused: 1 to 8, then 16 for an index above 4,095.
+/// The name of the node at an index, 256·z + 16·y + x: the very bytes in the block.
+/// Refused: the block's numbers, then 16 for an index above 4,095.
 pub fn node_name(block: &[u8], index: u64) -> Result<&[u8], Refused> {
     let node = unsafe { raw::anow_node_name(block.as_ptr(), block.len(), index) };
     told(node.answer)?;
@@ -71,7 +72,7 @@ pub fn light_count(lighting: u16) -> u32 {
 }
 
 /// Writes the block of these parts and lists to the front of an output, and tells its length; counts are worked out from the rows.
-/// Refused: 2; 12 where the parts do not fit; what the reader would say of the bytes (3 to 6 and 8); 11.
+/// Refused: 2; 12 where the parts do not fit; what the reader would say of the bytes (4, 5, 6, 8, 34 or 35); 11.
 pub fn write(block: Block, param0: &[u16], param1: &[u8], param2: &[u8], out: &mut [u8]) -> Result<usize, Refused> {
     told(unsafe {
         raw::anow_write(

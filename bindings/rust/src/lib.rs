@@ -12,7 +12,7 @@
 //! }
 //!
 //! let refused = tally_sheet(&sheet[..8], Lot::WORLD, Span::ALL_TIME, &mut out, &mut spare).unwrap_err();
-//! assert_eq!(refused.to_string(), "refused 15 at record 0: sheet mark, version, framing, or keys not rising");
+//! assert_eq!(refused.to_string(), "refused 15 at record 0: the mark, the version or the framing of the sheet is wrong, or its keys do not rise");
 //! # Ok::<(), anowhetele::Refused>(())
 //! ```
 //!

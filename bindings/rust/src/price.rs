@@ -99,7 +99,7 @@ impl From<raw::Bill> for Bill {
 
 /// Prices the nodes of the block at a key that stand in a lot, if the block was saved within a span: each costs the price of the rate of its name
 /// with the greatest `from` not above the block's timestamp, and a node with no such rate is unpriced.
-/// Refused: 10; 40; 9; 1 to 8.
+/// Refused: 10; 40; 9; the block's numbers.
 pub fn price_block(key: i64, block: &[u8], rates: &[u8], lot: Lot, span: Span) -> Result<Bill, Refused> {
     let (start, length) = (block.as_ptr(), block.len());
     let bill = unsafe { raw::anow_price_block(key, start, length, rates.as_ptr(), rates.len(), lot, span) };
@@ -107,7 +107,7 @@ pub fn price_block(key: i64, block: &[u8], rates: &[u8], lot: Lot, span: Span) -
 }
 
 /// The same of a sheet.
-/// Refused: 10; 40; 15; by record 15, 9, 15 and 1 to 8; 14 for a total above 2^64-1.
+/// Refused: 10; 40; 15; by record 15, 9, 15 and the block's numbers; 14 for a total above 2^64-1.
 pub fn price_sheet(sheet: &[u8], rates: &[u8], lot: Lot, span: Span) -> Result<Bill, Refused> {
     let (start, length) = (sheet.as_ptr(), sheet.len());
     let bill = unsafe { raw::anow_price_sheet(start, length, rates.as_ptr(), rates.len(), lot, span) };

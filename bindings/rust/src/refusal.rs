@@ -1,4 +1,4 @@
-//! Refusals: document 01's numbers with their words, and where the fault lies.
+//! Refusals: the numbers of documents 01 and 02 with their words, and where the fault lies.
 use crate::raw;
 use std::error::Error;
 use std::fmt;
@@ -9,39 +9,53 @@ use std::fmt;
 #[non_exhaustive]
 #[repr(u32)]
 pub enum Refusal {
-    /// bytes end inside a field, or an inventory has no end line
+    /// the bytes end inside a field, or an inventory has no end line
     EndsInside = 1,
-    /// version outside 22..29
+    /// the version is not 22 to 29
     VersionOutside = 2,
-    /// a byte, width or list version that is fixed has another value
-    FixedDiffers = 3,
-    /// position above 4095
+    /// a position is above 4095
     PositionAbove = 4,
-    /// position already in its list
+    /// a position stands in its list already
     PositionTwice = 5,
-    /// id already mapped
+    /// an id is mapped already
     IdTwice = 6,
-    /// bytes after the end
+    /// bytes follow the end of the block
     BytesAfter = 7,
-    /// used id unmapped
+    /// a node has an id that is not mapped to a name
     IdUnmapped = 8,
-    /// key or coordinate out of range
+    /// a key or a coordinate is out of range
     OutOfRange = 9,
-    /// lot out of the world or turned round; span turned round
+    /// the lot is out of the world or turned round, or the span is turned round
     BadPart = 10,
-    /// result longer than the output lent
+    /// the result is longer than the output lent
     NoRoom = 11,
-    /// parts do not fit
+    /// the parts do not fit
     PartsMisfit = 12,
-    /// tally malformed
+    /// the tally is malformed
     TallyMalformed = 13,
-    /// a count or a total above 2^64-1, or more than 2^32-1 rows
+    /// a count or a total is above 2^64-1, or there are more than 2^32-1 rows
     TooMany = 14,
-    /// sheet mark, version, framing, or keys not rising
+    /// the mark, the version or the framing of the sheet is wrong, or its keys do not rise
     SheetMalformed = 15,
-    /// no such row or node
+    /// there is no such row or node
     NoSuch = 16,
-    /// rate sheet malformed
+    /// the content width is not 1 up to version 23, or not 2 from version 24
+    ContentWidthDiffers = 31,
+    /// the params width is not 2
+    ParamsWidthDiffers = 32,
+    /// the metadata list version is not 1 up to version 27, or not 2 from version 28
+    MetadataVersionDiffers = 33,
+    /// the private byte of a metadata variable is not 0 or 1
+    PrivateByteDiffers = 34,
+    /// the timer byte is not 0 in version 23, or not 0 or 1 in version 24
+    TimerByteDiffers = 35,
+    /// the static object version is not 0
+    ObjectVersionDiffers = 36,
+    /// the name mapping version is not 0
+    MappingVersionDiffers = 37,
+    /// the timer row length is not 10
+    TimerRowLengthDiffers = 38,
+    /// the rate sheet is malformed
     RatesMalformed = 40,
 }
 
@@ -49,24 +63,31 @@ use Refusal::*;
 
 /// Each refusal, whether it has an offset, and its words.
 #[rustfmt::skip]
-const TABLE: [(Refusal, bool, &str); 17] = [
-    (EndsInside, true, "bytes end inside a field, or an inventory has no end line"),
-    (VersionOutside, true, "version outside 22..29"),
-    (FixedDiffers, true, "a byte, width or list version that is fixed has another value"),
-    (PositionAbove, true, "position above 4095"),
-    (PositionTwice, true, "position already in its list"),
-    (IdTwice, true, "id already mapped"),
-    (BytesAfter, true, "bytes after the end"),
-    (IdUnmapped, true, "used id unmapped"),
-    (OutOfRange, false, "key or coordinate out of range"),
-    (BadPart, false, "lot out of the world or turned round; span turned round"),
-    (NoRoom, false, "result longer than the output lent"),
-    (PartsMisfit, false, "parts do not fit"),
-    (TallyMalformed, false, "tally malformed"),
-    (TooMany, false, "a count or a total above 2^64-1, or more than 2^32-1 rows"),
-    (SheetMalformed, false, "sheet mark, version, framing, or keys not rising"),
-    (NoSuch, false, "no such row or node"),
-    (RatesMalformed, false, "rate sheet malformed"),
+const TABLE: [(Refusal, bool, &str); 24] = [
+    (EndsInside, true, "the bytes end inside a field, or an inventory has no end line"),
+    (VersionOutside, true, "the version is not 22 to 29"),
+    (PositionAbove, true, "a position is above 4095"),
+    (PositionTwice, true, "a position stands in its list already"),
+    (IdTwice, true, "an id is mapped already"),
+    (BytesAfter, true, "bytes follow the end of the block"),
+    (IdUnmapped, true, "a node has an id that is not mapped to a name"),
+    (OutOfRange, false, "a key or a coordinate is out of range"),
+    (BadPart, false, "the lot is out of the world or turned round, or the span is turned round"),
+    (NoRoom, false, "the result is longer than the output lent"),
+    (PartsMisfit, false, "the parts do not fit"),
+    (TallyMalformed, false, "the tally is malformed"),
+    (TooMany, false, "a count or a total is above 2^64-1, or there are more than 2^32-1 rows"),
+    (SheetMalformed, false, "the mark, the version or the framing of the sheet is wrong, or its keys do not rise"),
+    (NoSuch, false, "there is no such row or node"),
+    (ContentWidthDiffers, true, "the content width is not 1 up to version 23, or not 2 from version 24"),
+    (ParamsWidthDiffers, true, "the params width is not 2"),
+    (MetadataVersionDiffers, true, "the metadata list version is not 1 up to version 27, or not 2 from version 28"),
+    (PrivateByteDiffers, true, "the private byte of a metadata variable is not 0 or 1"),
+    (TimerByteDiffers, true, "the timer byte is not 0 in version 23, or not 0 or 1 in version 24"),
+    (ObjectVersionDiffers, true, "the static object version is not 0"),
+    (MappingVersionDiffers, true, "the name mapping version is not 0"),
+    (TimerRowLengthDiffers, true, "the timer row length is not 10"),
+    (RatesMalformed, false, "the rate sheet is malformed"),
 ];
 // end of numbers
 
@@ -84,11 +105,12 @@ impl Refusal {
         self as u32
     }
 
+    /// What the refusal means, in a line that can be read out.
     pub fn words(self) -> &'static str {
         self.row().2
     }
 
-    /// Whether document 01 gives this refusal an offset.
+    /// Whether this refusal has an offset. Those that have one are the block's numbers: a block, or a row of one, is refused with one of them.
     pub fn has_offset(self) -> bool {
         self.row().1
     }

@@ -67,7 +67,7 @@ pub fn name_row(bytes: &[u8]) -> Front<'_, NameRow<'_>> {
     ))
 }
 
-/// Refused: 2, 16 for an empty part, then 1, 3 or 4.
+/// Refused: 2, 16 for an empty part, then 1, 4 or 34.
 pub fn metadata_row(version: u8, bytes: &[u8]) -> Front<'_, MetadataRow<'_>> {
     let row = unsafe { raw::anow_row_metadata(version, bytes.as_ptr(), bytes.len()) };
     let rest = behind(bytes, row.answer)?;

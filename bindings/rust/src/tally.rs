@@ -110,7 +110,7 @@ pub fn tally_add(buffer: &mut [u8], used: usize, name: &[u8], count: u64) -> Res
 }
 
 /// Tallies the nodes of the block at a key that stand in a lot, if the block was saved within a span, to the front of an output.
-/// Refused: 10; 9; 1 to 8; 11.
+/// Refused: 10; 9; the block's numbers; 11.
 pub fn tally_block<'a>(key: i64, block: &[u8], lot: Lot, span: Span, out: &'a mut [u8]) -> Result<Tally<'a>, Refused> {
     let (start, room) = (out.as_mut_ptr(), out.len());
     let answer = unsafe { raw::anow_tally_block(key, block.as_ptr(), block.len(), lot, span, start, room) };
@@ -118,7 +118,7 @@ pub fn tally_block<'a>(key: i64, block: &[u8], lot: Lot, span: Span, out: &'a mu
 }
 
 /// The same of a sheet. The spare is at least as long as the output; what it holds afterwards is open, also after a refusal.
-/// Refused: 10; 12 for a short spare; 15; by record 15, 9, 15 and 1 to 8; 11; 14.
+/// Refused: 10; 12 for a short spare; 15; by record 15, 9, 15 and the block's numbers; 11; 14.
 pub fn tally_sheet<'a>(
     sheet: &[u8],
     lot: Lot,

@@ -46,6 +46,40 @@ fn what_was_read_writes_back() {
 }
 
 #[test]
+fn each_fixed_field_has_a_number_of_its_own() {
+    let fields = [
+        (8, Refusal::MappingVersionDiffers),
+        (18, Refusal::ContentWidthDiffers),
+        (19, Refusal::ParamsWidthDiffers),
+        (16_404, Refusal::MetadataVersionDiffers),
+        (16_425, Refusal::PrivateByteDiffers),
+        (16_456, Refusal::ObjectVersionDiffers),
+        (16_476, Refusal::TimerRowLengthDiffers),
+    ];
+    for (offset, refusal) in fields {
+        let mut bytes = furnished();
+        bytes[offset] = 77;
+        let refused = sections(&bytes).unwrap_err();
+        assert_eq!((refused.refusal, refused.offset), (refusal, Some(offset as u64)));
+    }
+    let head = Head {
+        version: 24,
+        flags: 0,
+        lighting: 65_535,
+        timestamp: 5,
+        timer_byte: 2,
+    };
+    let bytes = air(5);
+    let block = Block {
+        head,
+        ..sections(&bytes).unwrap()
+    };
+    let refused = write(block, &[0; NODES], &[0; NODES], &[0; NODES], &mut [0; 20_000]).unwrap_err();
+    let words = "refused 35 at offset 16391: the timer byte is not 0 in version 23, or not 0 or 1 in version 24";
+    assert_eq!(refused.to_string(), words);
+}
+
+#[test]
 fn rows_come_from_the_front() {
     let bytes = furnished();
     let block = sections(&bytes).unwrap();
@@ -87,7 +121,7 @@ fn a_refused_row_is_the_last() {
     assert_eq!(rows.len(), 2);
     assert_eq!(
         rows[1].unwrap_err().to_string(),
-        "refused 4 at offset 0: position above 4095"
+        "refused 4 at offset 0: a position is above 4095"
     );
     assert_eq!(name_row(b"").unwrap_err().refusal, Refusal::NoSuch);
     assert_eq!(metadata_row(21, b"").unwrap_err().refusal, Refusal::VersionOutside);
@@ -119,7 +153,7 @@ fn a_node_bears_the_very_bytes() {
 fn a_refusal_leaves_the_lists() {
     let (mut param0, mut param1, mut param2) = lists();
     let refused = read(&[], &mut param0, &mut param1, &mut param2).unwrap_err();
-    let words = "refused 1 at offset 0: bytes end inside a field, or an inventory has no end line";
+    let words = "refused 1 at offset 0: the bytes end inside a field, or an inventory has no end line";
     assert_eq!(refused.to_string(), words);
     assert_eq!((param0, param1, param2), lists());
     assert_eq!(

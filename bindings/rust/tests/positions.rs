@@ -23,7 +23,7 @@ fn others_are_refused() {
     assert_eq!(key_join([0, 2048, 0]).unwrap_err().refusal, Refusal::OutOfRange);
     assert_eq!(
         key_split(i64::MAX).unwrap_err().to_string(),
-        "refused 9: key or coordinate out of range"
+        "refused 9: a key or a coordinate is out of range"
     );
 }
 

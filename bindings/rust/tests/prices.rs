@@ -63,7 +63,7 @@ fn others_are_refused() {
     longer.push(0);
     for bytes in [&falling, &longer, &good[1..], &good[..8], &good[..30]] {
         let refused = check_rates(bytes).unwrap_err();
-        assert_eq!(refused.to_string(), "refused 40: rate sheet malformed");
+        assert_eq!(refused.to_string(), "refused 40: the rate sheet is malformed");
         assert!(rate_rows(bytes).is_err());
     }
 }

@@ -26,5 +26,5 @@ fn every_number_of_the_table_has_a_refusal() {
 #[test]
 fn a_refusal_is_an_error() {
     let error: Box<dyn Error + Send + Sync> = Box::new(Refusal::NoSuch);
-    assert_eq!(error.to_string(), "refused 16: no such row or node");
+    assert_eq!(error.to_string(), "refused 16: there is no such row or node");
 }

@@ -21,7 +21,7 @@ fn the_shortest_block() {
     );
     assert_eq!(tally.rows().len(), 1);
     let refused = tally_block(-1, &air(999_998), Lot::WORLD, Span::ALL_TIME, &mut out[..21]).unwrap_err();
-    assert_eq!(refused.to_string(), "refused 11: result longer than the output lent");
+    assert_eq!(refused.to_string(), "refused 11: the result is longer than the output lent");
 }
 
 #[test]
@@ -78,7 +78,7 @@ fn a_count_is_added_in_place() {
     let refused = tally_add(&mut buffer, used, b"air", 1).unwrap_err();
     assert_eq!(
         refused.to_string(),
-        "refused 14: a count or a total above 2^64-1, or more than 2^32-1 rows"
+        "refused 14: a count or a total is above 2^64-1, or there are more than 2^32-1 rows"
     );
     assert_eq!(
         tally_add(&mut buffer, 65, b"air", 1).unwrap_err().refusal,
@@ -96,7 +96,7 @@ fn a_sheet_tells_the_record() {
     let refused = tally_sheet(&bytes, Lot::WORLD, Span::ALL_TIME, &mut out, &mut spare).unwrap_err();
     assert_eq!(
         refused.to_string(),
-        "refused 8 at offset 20 of record 1: used id unmapped"
+        "refused 8 at offset 20 of record 1: a node has an id that is not mapped to a name"
     );
     assert_eq!(
         refused,
@@ -111,7 +111,7 @@ fn a_sheet_tells_the_record() {
     let refused = tally_sheet(&falling, Lot::WORLD, Span::ALL_TIME, &mut out, &mut spare).unwrap_err();
     assert_eq!(
         refused.to_string(),
-        "refused 15 at record 1: sheet mark, version, framing, or keys not rising"
+        "refused 15 at record 1: the mark, the version or the framing of the sheet is wrong, or its keys do not rise"
     );
 }
 

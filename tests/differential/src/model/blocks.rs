@@ -76,7 +76,7 @@ fn version(fields: &mut Fields) -> Result<u8, Refusal> {
 /// 7. "u32 timestamp; u8 0, u16 count, name rows"
 fn saved(fields: &mut Fields) -> Result<(u32, Range<usize>, Mapping), Refusal> {
     let timestamp = fields.u32()?;
-    fields.fixed_u8(0)?;
+    fields.fixed_u8(37, 0)?;
     let count = fields.u16()?;
     let start = fields.at;
     let mut mapped = HashSet::new();
@@ -92,8 +92,8 @@ fn saved(fields: &mut Fields) -> Result<(u32, Range<usize>, Mapping), Refusal> {
 /// 3. and 4.: the widths, then 4,096 fields each of param0, param1 and param2.
 fn nodes(fields: &mut Fields, version: u8) -> Result<Nodes, Refusal> {
     let width = if version <= 23 { 1 } else { 2 };
-    fields.fixed_u8(width)?;
-    fields.fixed_u8(2)?;
+    fields.fixed_u8(31, width)?;
+    fields.fixed_u8(32, 2)?;
     let start = fields.at;
     let (mut param0, mut param1, mut param2) = (Vec::new(), Vec::new(), Vec::new());
     for _ in 0..4096 {
@@ -111,9 +111,9 @@ fn nodes(fields: &mut Fields, version: u8) -> Result<Nodes, Refusal> {
 /// 5. "Metadata."
 fn metadata(fields: &mut Fields, version: u8) -> Result<Range<usize>, Refusal> {
     match version {
-        22 => fields.fixed_u16(1)?,
-        23..=27 => fields.fixed_u8(1)?,
-        _ => fields.fixed_u8(2)?,
+        22 => fields.fixed_u16(33, 1)?,
+        23..=27 => fields.fixed_u8(33, 1)?,
+        _ => fields.fixed_u8(33, 2)?,
     }
     let count = fields.u16()?;
     let start = fields.at;
@@ -129,14 +129,10 @@ fn metadata(fields: &mut Fields, version: u8) -> Result<Range<usize>, Refusal> {
 fn timers_behind_metadata(fields: &mut Fields, version: u8) -> Result<(u8, Range<usize>), Refusal> {
     let mut timer_byte = 0;
     if version == 23 {
-        fields.fixed_u8(0)?;
+        fields.fixed_u8(35, 0)?;
     }
     if version == 24 {
-        let start = fields.at;
-        timer_byte = fields.u8()?;
-        if timer_byte > 1 {
-            return Err(Refusal::at(3, start));
-        }
+        timer_byte = fields.u8_of(35, &[0, 1])?;
     }
     if timer_byte == 1 {
         return Ok((1, timers(fields)?));
@@ -146,7 +142,7 @@ fn timers_behind_metadata(fields: &mut Fields, version: u8) -> Result<(u8, Range
 
 /// 6. "u8 0, u16 count, static objects"
 fn objects(fields: &mut Fields) -> Result<Range<usize>, Refusal> {
-    fields.fixed_u8(0)?;
+    fields.fixed_u8(36, 0)?;
     let count = fields.u16()?;
     let start = fields.at;
     for _ in 0..count {
@@ -157,7 +153,7 @@ fn objects(fields: &mut Fields) -> Result<Range<usize>, Refusal> {
 
 /// 8. "From 25: u8 10, u16 count, timer rows"
 fn timers_at_end(fields: &mut Fields) -> Result<Range<usize>, Refusal> {
-    fields.fixed_u8(10)?;
+    fields.fixed_u8(38, 10)?;
     timers(fields)
 }
 

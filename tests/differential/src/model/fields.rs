@@ -53,22 +53,29 @@ impl<'a> Fields<'a> {
         Ok(self.u64()? as i64)
     }
 
-    /// 3: "a byte, width or list version fixed above has another value".
-    pub fn fixed_u8(&mut self, value: u8) -> Result<(), Refusal> {
+    /// "a byte, width or list version fixed above has another value": the number that document 02's item 2 has for the
+    /// field, told at its start.
+    pub fn fixed_u8(&mut self, number: u32, value: u8) -> Result<(), Refusal> {
+        self.u8_of(number, &[value]).map(|_| ())
+    }
+
+    /// The same of a byte that may have one of several values.
+    pub fn u8_of(&mut self, number: u32, values: &[u8]) -> Result<u8, Refusal> {
         let start = self.at;
-        if self.u8()? == value {
-            Ok(())
+        let value = self.u8()?;
+        if values.contains(&value) {
+            Ok(value)
         } else {
-            Err(Refusal::at(3, start))
+            Err(Refusal::at(number, start))
         }
     }
 
-    pub fn fixed_u16(&mut self, value: u16) -> Result<(), Refusal> {
+    pub fn fixed_u16(&mut self, number: u32, value: u16) -> Result<(), Refusal> {
         let start = self.at;
         if self.u16()? == value {
             Ok(())
         } else {
-            Err(Refusal::at(3, start))
+            Err(Refusal::at(number, start))
         }
     }
 

@@ -97,10 +97,7 @@ fn variable(fields: &mut Fields, with_private: bool) -> Result<(), Refusal> {
     let value_length = fields.u32()?;
     fields.run(value_length as usize)?;
     if with_private {
-        let start = fields.at;
-        if fields.u8()? > 1 {
-            return Err(Refusal::at(3, start));
-        }
+        fields.u8_of(34, &[0, 1])?;
     }
     Ok(())
 }
@@ -138,7 +135,8 @@ pub fn timer_row(fields: &mut Fields, taken: &mut HashSet<u16>) -> Result<TimerR
     Ok(TimerRow { position, timeout, elapsed })
 }
 
-/// "Row question: 2, then 16 for an empty part, then the reader's 1, 3 or 4." With the row comes its length.
+/// "Row question: 2, then 16 for an empty part, then the reader's 1, 3 or 4", where item 2 has 34 for 3. With the row
+/// comes its length.
 fn front<Row>(
     part: &[u8],
     take: impl Fn(&mut Fields, &mut HashSet<u16>) -> Result<Row, Refusal>,
