@@ -21,7 +21,10 @@ fn the_shortest_block() {
     );
     assert_eq!(tally.rows().len(), 1);
     let refused = tally_block(-1, &air(999_998), Lot::WORLD, Span::ALL_TIME, &mut out[..21]).unwrap_err();
-    assert_eq!(refused.to_string(), "refused 11: the result is longer than the output lent");
+    assert_eq!(
+        refused.to_string(),
+        "refused 11: the result is longer than the output lent"
+    );
 }
 
 #[test]
