@@ -4,7 +4,7 @@ use Prim.Native.Nat.{ℕ}
 use mathlib.Core.Path.{_≡_}
 use mathlib.Core.List.{List, [], _∷_}
 use lib.IntN.{ℤ}
-use Rattle.wire.specs.Answer.{Answer, refusal, mapAnswer, RefusedWith, endsInside, versionOutside, positionAbove, idUnmapped, outOfRange, badPart, noRoom, partsMisfit, tallyMalformed, tooMany, sheetMalformed, noSuch, privateByteDiffers, ratesMalformed}
+use Rattle.wire.specs.Answer.{Answer, refusal, mapAnswer, RefusedWith, outOfRange, badPart, noRoom, partsMisfit, tallyMalformed, tooMany, sheetMalformed, noSuch, ratesMalformed}
 use Rattle.position.specs.Keys.{joinOf, splitOf}
 use Rattle.position.specs.declared.lot.Lot.{Lot}
 use Rattle.position.specs.declared.part.Part.{Part}
@@ -12,9 +12,9 @@ use Rattle.position.specs.declared.span.Span.{Span}
 use Rattle.mapblock.specs.Data.{Nodes}
 use Rattle.mapblock.specs.Numbers.{blockNumbers}
 use Rattle.block_reader.specs.Questions.{readInto, sectionsOf, nodeNameOf}
-use Rattle.block_reader.specs.RowQuestions.{nameRowOf, metadataRowOf, objectRowOf, timerRowOf}
+use Rattle.block_reader.specs.RowQuestions.{nameRowOf, metadataRowOf, objectRowOf, timerRowOf, nameRowNumbers, metadataRowNumbers, objectRowNumbers, timerRowNumbers}
 use Rattle.block_writer.specs.BlockParts.{BlockParts, WellTyped}
-use Rattle.block_writer.specs.Write.{judgedNumbers, writeOf}
+use Rattle.block_writer.specs.Write.{writerNumbers, writeOf}
 use Rattle.tally.specs.Tally.{TallyRow, one}
 use Rattle.tally.specs.Operations.{checkOf, addOf, mergeOf}
 use Rattle.meter.specs.Counting.{byOne}
@@ -48,31 +48,31 @@ pub data Call : Type 0 where
   price-block : ℤ → List ℕ → List ℕ → Part → Call
   price-sheet : List ℕ → List ℕ → Part → Call
 
--- whether a call is done or refused, and how
-abbrev pub outcome : {A : Type 0} → Answer A → Answer (Unit {0})
-outcome a = mapAnswer (λ _. tt) a
+-- an answer but for what it gives
+abbrev pub withoutValue : {A : Type 0} → Answer A → Answer (Unit {0})
+withoutValue a = mapAnswer (λ _. tt) a
 
 abbrev pub callAnswer : Call → Answer (Unit {0})
-callAnswer (key-join x y z) = outcome (joinOf x y z)
-callAnswer (key-split k) = outcome (splitOf k)
-callAnswer (lot-has l x y z) = outcome (lotHas l x y z)
-callAnswer (span-has s t) = outcome (spanHas s t)
-callAnswer (read s lists) = outcome (readInto s lists)
-callAnswer (sections s) = outcome (sectionsOf s)
-callAnswer (row-name s) = outcome (nameRowOf s)
-callAnswer (row-metadata v s) = outcome (metadataRowOf v s)
-callAnswer (row-object s) = outcome (objectRowOf s)
-callAnswer (row-timer s) = outcome (timerRowOf s)
-callAnswer (node-name s i) = outcome (nodeNameOf s i)
-callAnswer (write p h room) = outcome (writeOf p room)
-callAnswer (tally-check s) = outcome (checkOf one s)
-callAnswer (tally-add s n r) = outcome (addOf one s n r)
-callAnswer (tally-merge room s t) = outcome (mergeOf one room s t)
-callAnswer (tally-block k s p room) = outcome (tallyBlockOf byOne k s p room)
-callAnswer (tally-sheet s p room spare) = outcome (tallySheetOf byOne s p room spare)
-callAnswer (rates-check s) = outcome (checkRatesOf s)
-callAnswer (price-block k s r p) = outcome (priceBlockOf k s r p)
-callAnswer (price-sheet s r p) = outcome (priceSheetOf s r p)
+callAnswer (key-join x y z) = withoutValue (joinOf x y z)
+callAnswer (key-split k) = withoutValue (splitOf k)
+callAnswer (lot-has l x y z) = withoutValue (lotHas l x y z)
+callAnswer (span-has s t) = withoutValue (spanHas s t)
+callAnswer (read s lists) = withoutValue (readInto s lists)
+callAnswer (sections s) = withoutValue (sectionsOf s)
+callAnswer (row-name s) = withoutValue (nameRowOf s)
+callAnswer (row-metadata v s) = withoutValue (metadataRowOf v s)
+callAnswer (row-object s) = withoutValue (objectRowOf s)
+callAnswer (row-timer s) = withoutValue (timerRowOf s)
+callAnswer (node-name s i) = withoutValue (nodeNameOf s i)
+callAnswer (write p h room) = withoutValue (writeOf p room)
+callAnswer (tally-check s) = withoutValue (checkOf one s)
+callAnswer (tally-add s n r) = withoutValue (addOf one s n r)
+callAnswer (tally-merge room s t) = withoutValue (mergeOf one room s t)
+callAnswer (tally-block k s p room) = withoutValue (tallyBlockOf byOne k s p room)
+callAnswer (tally-sheet s p room spare) = withoutValue (tallySheetOf byOne s p room spare)
+callAnswer (rates-check s) = withoutValue (checkRatesOf s)
+callAnswer (price-block k s r p) = withoutValue (priceBlockOf k s r p)
+callAnswer (price-sheet s r p) = withoutValue (priceSheetOf s r p)
 
 abbrev pub numbersOf : Call → List ℕ
 numbersOf (key-join x y z) = outOfRange ∷ []
@@ -81,12 +81,12 @@ numbersOf (lot-has l x y z) = badPart ∷ []
 numbersOf (span-has s t) = badPart ∷ []
 numbersOf (read s lists) = partsMisfit ∷ blockNumbers
 numbersOf (sections s) = blockNumbers
-numbersOf (row-name s) = noSuch ∷ endsInside ∷ []
-numbersOf (row-metadata v s) = versionOutside ∷ noSuch ∷ endsInside ∷ positionAbove ∷ privateByteDiffers ∷ []
-numbersOf (row-object s) = noSuch ∷ endsInside ∷ []
-numbersOf (row-timer s) = noSuch ∷ endsInside ∷ positionAbove ∷ []
+numbersOf (row-name s) = nameRowNumbers
+numbersOf (row-metadata v s) = metadataRowNumbers
+numbersOf (row-object s) = objectRowNumbers
+numbersOf (row-timer s) = timerRowNumbers
 numbersOf (node-name s i) = noSuch ∷ blockNumbers
-numbersOf (write p h room) = versionOutside ∷ partsMisfit ∷ noRoom ∷ idUnmapped ∷ judgedNumbers
+numbersOf (write p h room) = writerNumbers
 numbersOf (tally-check s) = tallyMalformed ∷ []
 numbersOf (tally-add s n r) = partsMisfit ∷ tallyMalformed ∷ tooMany ∷ noRoom ∷ []
 numbersOf (tally-merge room s t) = tallyMalformed ∷ tooMany ∷ noRoom ∷ []

@@ -1,20 +1,20 @@
 -- The numbers that the questions of a block and of a row give.
 use Prim.Native.Nat.{ℕ}
 use mathlib.Core.Path.{refl, _≡_}
-use mathlib.Core.List.{List, [], _∷_}
+use mathlib.Core.List.{List, []}
 use mathlib.Core.Bool.{Bool, true, cond}
 use lib.Dec.{eqb}
 use lib.ListN.{length}
 use Rattle.wire.specs.Read.{Read, done, refused, mapRead}
 use Rattle.wire.proofs.Answers.{with-cond}
-use Rattle.wire.specs.Answer.{plain, RefusedWith, isOneOf, endsInside, versionOutside, positionAbove, noSuch, privateByteDiffers}
+use Rattle.wire.specs.Answer.{plain, RefusedWith, isOneOf, versionOutside, noSuch}
 use Rattle.mapblock.specs.Inventory.{Form}
 use Rattle.mapblock.specs.Data.{MetadataRow, TimerRow, Block}
 use Rattle.mapblock.specs.Layout.{all, isVersion, unused, nameRow, metadataRow, timerRow}
 use Rattle.mapblock.specs.Block.{verdict}
 use Rattle.mapblock.specs.Numbers.{refusalNumber, blockNumbers, answerOf}
 use Rattle.mapblock.specs.Rows.{nameFields, metadataFields, objectFields, timerFields}
-use Rattle.block_reader.specs.RowQuestions.{frontRow}
+use Rattle.block_reader.specs.RowQuestions.{frontRow, nameRowNumbers, metadataRowNumbers, objectRowNumbers, timerRowNumbers}
 use Rattle.block_reader.specs.Questions.{blockAnswer, blockOf}
 use Rattle.block_reader.specs.Theorems.{RowNumbers, BlockNumbers}
 use Rattle.mapblock.specs.declared.fault.Fault.{Fault}
@@ -54,10 +54,10 @@ module _ {A B : Type 0} (numbers : List ℕ) (none : isOneOf noSuch numbers ≡ 
 
 pub row-numbers : RowNumbers
 row-numbers = record {
-  name = front-in (noSuch ∷ endsInside ∷ []) refl nameFields (name-alone refl);
-  metadata = λ v. version-in (versionOutside ∷ noSuch ∷ endsInside ∷ positionAbove ∷ privateByteDiffers ∷ []) refl (metadataFields v) (metadata-alone refl v refl refl) refl (isVersion v);
-  object = front-in (noSuch ∷ endsInside ∷ []) refl objectFields (gives-object-row refl);
-  timer = front-in (noSuch ∷ endsInside ∷ positionAbove ∷ []) refl timerFields (timer-alone refl refl);
+  name = front-in nameRowNumbers refl nameFields (name-alone refl);
+  metadata = λ v. version-in metadataRowNumbers refl (metadataFields v) (metadata-alone refl v refl refl) refl (isVersion v);
+  object = front-in objectRowNumbers refl objectFields (gives-object-row refl);
+  timer = front-in timerRowNumbers refl timerFields (timer-alone refl refl);
 }
 
 -- ---- the block

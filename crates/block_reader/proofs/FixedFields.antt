@@ -15,17 +15,17 @@ use Rattle.wire.specs.Answer.{refusal}
 use Rattle.wire.specs.Choice.{no-true}
 use Rattle.wire.proofs.Tests.{and-yes}
 use Rattle.wire.proofs.Answers.{no-good}
-use Rattle.wire.specs.Formats.{_▹_, into, listed, number, behind, fixed, u8, u16, u32, prefixed, only}
+use Rattle.wire.specs.Formats.{constant, _▹_, into, listed, behind, fixed, u8, u16, u32, prefixed, only}
 use Rattle.mapblock.specs.Inventory.{Form, inventory}
 use Rattle.mapblock.specs.Data.{Variable, MetadataRow, ObjectRow, Timers, Front, Rest, Block, noMapping, noTimers, metadataShape, timersShape, stepsShape}
 use Rattle.mapblock.specs.Layout.{since, before, all, newPosition, variable, metadataRow, width, unmapped, nodes, nameMapping, listVersionBytes, listVersion, metadata, earlyTimers, objects, lateTimers, timerRow, front, rest, steps}
-use Rattle.mapblock.specs.Block.{blockFrom, block, firstUnmapped, judged, verdict}
+use Rattle.mapblock.specs.Block.{judgedWhole, blockFrom, block, firstUnmapped, judged, verdict}
 use Rattle.mapblock.specs.Numbers.{refusalNumber}
 use Rattle.block_reader.specs.FixedFields.{FixedField, Differs, ExactlyWhere, frontVersion, contentWidth, paramsWidth, metadataVersion, privateByte, timerByte, objectVersion, mappingVersionInFront, mappingVersionBehind, timerRowLength, GivenExactlyWhere}
 use Rattle.block_reader.specs.Questions.{blockAnswer, blockOf}
 use Rattle.mapblock.specs.declared.fault.Fault.{Fault}
 use Rattle.mapblock.specs.declared.fault.Fault.the-variants as fault
-use Rattle.block_reader.proofs.GivenFaults.{gives-number, gives-refine, gives-fixed, gives-only, gives-opening, gives-mapping, gives-params, gives-nodes, gives-metadata, gives-early, gives-objects, gives-late, gives-front, gives-nothing, gives-listed, gives-metadata-rows, gives-names, gives-object-row, gives-timers, gives-prefixed, gives-new-position, gives-ending, gives-behind-metadata, gives-rest, gives-inventory, gives-iso, _then_}
+use Rattle.block_reader.proofs.GivenFaults.{gives-constant, gives-number, gives-fixed, gives-only, gives-opening, gives-mapping, gives-params, gives-nodes, gives-metadata, gives-early, gives-objects, gives-late, gives-front, gives-nothing, gives-listed, gives-metadata-rows, gives-names, gives-object-row, gives-timers, gives-prefixed, gives-new-position, gives-ending, gives-behind-metadata, gives-rest, gives-inventory, gives-iso, _then_}
 use Rattle.block_reader.proofs.Stops.{Stops, Other, Behind, then-stops, stops-first, stops-behind, differs-behind, behind-differs, Here, StopsExactly, here-refine, here-iso, here-first, here-fixed, here-absent, here-nothing, here-only, exact-iso, exact-absent, exact-then-here, exact-first, exact-behind, exact-nothing, exact-items, fieldBehind, rowField}
 
 -- the eight steps, but for their record
@@ -52,7 +52,7 @@ params-width =
     (exact-behind (gives-opening refl refl) λ o.
     exact-behind (gives-only (since 29 (o .version)) noMapping (gives-mapping refl all refl refl)) λ _.
     exact-iso _ _ _ _ _ _
-    (exact-then-here (gives-refine (λ w. eqb w (width (o .version))) fault.ContentWidth refl (gives-number refl 1)) λ _.
+    (exact-then-here (gives-constant refl 1 (width (o .version)) fault.ContentWidth refl) λ _.
     here-fixed 1 2 fault.ParamsWidth refl refl (gives-params refl (o .version)))))
     (λ f. gives-rest refl all (frontVersion f) refl refl refl refl refl refl refl refl refl refl)
 
@@ -108,12 +108,12 @@ private-in-row v seen = go (since 23 v) refl
         (λ i a k. let z = leb-true 28 v (and-yes (ltb (i .0) (a .1 .0)) (since 28 v) k .1) in omega (arith, leb-false 23 v h))
 
 private-in-metadata : (v : ℕ) → StopsExactly 34 (metadata v) (λ (x : ℕ × (ℕ × Unit {0})).
-    fieldBehind (refine (λ n. eqb n (listVersion v)) fault.MetadataVersion (number (listVersionBytes v))) λ _.
+    fieldBehind (constant (listVersionBytes v) (listVersion v) fault.MetadataVersion) λ _.
     fieldBehind u16 λ count. rowField (metadataRow v) (privateInRow v) count x)
 unfolding metadata behind listed
 private-in-metadata v =
     exact-iso _ _ _ _ _ _
-    (exact-behind (gives-refine (λ n. eqb n (listVersion v)) fault.MetadataVersion refl (gives-number refl (listVersionBytes v))) λ _.
+    (exact-behind (gives-constant refl (listVersionBytes v) (listVersion v) fault.MetadataVersion refl) λ _.
     exact-iso _ _ _ _ _ _
     (exact-behind (gives-number refl 2) λ count. exact-items (private-in-row v) count))
 
@@ -238,12 +238,11 @@ timer-row-length =
 -- ---- the reader's answer
 -- the verdict, from what reading the steps finds
 abbrev verdictFrom : List ℕ → Read Fault (Front × Rest) → Read Fault Block
-verdictFrom s r =
-    bind (mapRead blockFrom (mapRead (stepsShape .make) r)) λ b m. cond (eqb m (length s)) (judged all b m (firstUnmapped all b)) (refused fault.BytesAfter m)
+verdictFrom s r = bind (mapRead blockFrom (mapRead (stepsShape .make) r)) (judgedWhole all s)
 
 module _ (n : ℕ) (after : Other n fault.BytesAfter) (unmapped : Other n fault.IdUnmapped) where
   -- 7 and 8 have other numbers
-  judged-not : (s : List ℕ) (b : Block) (m p : ℕ) → Stops n (cond (eqb m (length s)) (judged all b m (firstUnmapped all b)) (refused fault.BytesAfter m)) p → ⊥
+  judged-not : (s : List ℕ) (b : Block) (m p : ℕ) → Stops n (judgedWhole all s b m) p → ⊥
   judged-not s b m p h = go (eqb m (length s)) (firstUnmapped all b) h
     where
       go : (c : Bool) (o : Option ℕ) → Stops n (cond c (judged all b m o) (refused fault.BytesAfter m)) p → ⊥

@@ -8,7 +8,7 @@ use lib.Dec.{leb, eqb}
 use lib.ListN.{length, take, drop}
 use Rattle.wire.specs.Read.{Read, done, refused, bind, mapRead, shift}
 use Rattle.wire.specs.Format.{tested, run, nothing, refine, _⨾_, next, pair, iso, items, readItems}
-use Rattle.wire.specs.Formats.{_▹_, number, signed, s32, prefixed, listed, behind, fixed, only}
+use Rattle.wire.specs.Formats.{constant, _▹_, number, signed, s32, prefixed, listed, behind, fixed, only}
 use Rattle.mapblock.specs.Inventory.{Form, through, sized, inventory}
 use Rattle.mapblock.specs.Data.{NameRow, MetadataRow, TimerRow, noMapping, noTimers}
 use Rattle.mapblock.specs.Layout.{since, before, all, unused, unmapped, position, newPosition, nameRowBy, nameRow, variable, metadataRowBy, metadataRow, objectRow, timerRowBy, timerRow, nameMapping, width, params, nodes, listVersionBytes, listVersion, metadata, objects, earlyTimers, lateTimers, isVersion, opening, front, rest}
@@ -37,7 +37,7 @@ module _ (P : Fault → Type 0) where
   by-shift n f (done a m) h = tt
   by-shift n f (refused e p) h = h
 
-  pub by-bind : {A B : Type 0} (r : Read Fault A) (f : A → ℕ → Read Fault B) → ReadRefusedWith r → ((a : A) (n : ℕ) → ReadRefusedWith (f a n)) → ReadRefusedWith (bind r f)
+  by-bind : {A B : Type 0} (r : Read Fault A) (f : A → ℕ → Read Fault B) → ReadRefusedWith r → ((a : A) (n : ℕ) → ReadRefusedWith (f a n)) → ReadRefusedWith (bind r f)
   by-bind (done a n) f h k = k a n
   by-bind (refused e p) f h k = h
 
@@ -60,7 +60,7 @@ module _ {P : Fault → Type 0} where
   unfolding iso
   gives-iso Ok to from f there back h = record { reads = λ s. by-map P to (f .read s) (h .reads s) }
 
-  pub gives-refine : {A : Type 0} (test : A → Bool) (e : Fault) {f : Form A} → P e → FormRefusedWith P f → FormRefusedWith P (refine test e f)
+  gives-refine : {A : Type 0} (test : A → Bool) (e : Fault) {f : Form A} → P e → FormRefusedWith P f → FormRefusedWith P (refine test e f)
   unfolding refine
   gives-refine test e {f} own h = record { reads = λ s. by-bind P (f .read s) (tested test e) (h .reads s) (λ a n. by-test P (test a) a n e 0 own) }
 
@@ -69,14 +69,14 @@ module _ {P : Fault → Type 0} where
   unfolding refine
   gives-any e {f} h = record { reads = λ s. by-bind P (f .read s) (tested (λ _. true) e) (h .reads s) (λ a n. tt) }
 
-  pub gives-cond : {A : Type 0} (b : Bool) {f g : Form A} → FormRefusedWith P f → FormRefusedWith P g → FormRefusedWith P (cond b f g)
+  gives-cond : {A : Type 0} (b : Bool) {f g : Form A} → FormRefusedWith P f → FormRefusedWith P g → FormRefusedWith P (cond b f g)
   gives-cond true h k = h
   gives-cond false h k = k
 
   pub gives-only : {A : Type 0} (b : Bool) (a : A) {f : Form A} → FormRefusedWith P f → FormRefusedWith P (only b a f)
   gives-only b a h = gives-cond b h (gives-nothing a)
 
-  pub gives-items : {A : Type 0} {item : List A → Form A} → ((seen : List A) → FormRefusedWith P (item seen)) → (k : ℕ) → FormRefusedWith P (items item k)
+  gives-items : {A : Type 0} {item : List A → Form A} → ((seen : List A) → FormRefusedWith P (item seen)) → (k : ℕ) → FormRefusedWith P (items item k)
   unfolding items readItems
   gives-items {A} {item} h k = record { reads = go k [] }
     where
@@ -103,9 +103,12 @@ module _ {P : Fault → Type 0} where
     unfolding prefixed
     gives-prefixed k = gives-iso _ _ _ _ _ _ (gives-number k then gives-run)
 
+    pub gives-constant : (k v : ℕ) (e : Fault) → P e → FormRefusedWith P (constant k v e)
+    gives-constant k v e own = gives-refine (λ n. eqb n v) e own (gives-number k)
+
     pub gives-fixed : {A : Type 0} (k v : ℕ) (e : Fault) {f : Form A} → P e → FormRefusedWith P f → FormRefusedWith P (fixed k v e f)
     unfolding behind
-    gives-fixed k v e own h = gives-iso _ _ _ _ _ _ (gives-refine (λ n. eqb n v) e own (gives-number k) then λ _. h)
+    gives-fixed k v e own h = gives-iso _ _ _ _ _ _ (gives-constant k v e own then λ _. h)
 
     pub gives-listed : {A : Type 0} (k : ℕ) {item : List A → Form A} → ((seen : List A) → FormRefusedWith P (item seen)) → FormRefusedWith P (listed k item)
     unfolding listed

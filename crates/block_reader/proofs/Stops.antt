@@ -38,7 +38,7 @@ abbrev pub Never : {A : Type 0} → ℕ → Form A → Type 0
 Never n f = FormRefusedWith (Other n) f
 
 module _ (n : ℕ) where
-  pub stops-not : {A : Type 0} (r : Read Fault A) (p : ℕ) → ReadRefusedWith (Other n) r → Stops n r p → ⊥
+  stops-not : {A : Type 0} (r : Read Fault A) (p : ℕ) → ReadRefusedWith (Other n) r → Stops n r p → ⊥
   stops-not (done a m) p h k = k
   stops-not (refused e q) p h k = eqb-false (refusalNumber e) n h (k .0)
 
@@ -46,11 +46,11 @@ module _ (n : ℕ) where
   never {f = f} h s p k = absurd (stops-not (f .read s) p (h .reads s) k)
 
   -- ---- readings
-  pub map-stops : {A B : Type 0} (f : A → B) (r : Read Fault A) (p : ℕ) → Stops n (mapRead f r) p → Stops n r p
+  map-stops : {A B : Type 0} (f : A → B) (r : Read Fault A) (p : ℕ) → Stops n (mapRead f r) p → Stops n r p
   map-stops f (done a m) p h = h
   map-stops f (refused e q) p h = h
 
-  pub stops-map : {A B : Type 0} (f : A → B) (r : Read Fault A) (p : ℕ) → Stops n r p → Stops n (mapRead f r) p
+  stops-map : {A B : Type 0} (f : A → B) (r : Read Fault A) (p : ℕ) → Stops n r p → Stops n (mapRead f r) p
   stops-map f (done a m) p h = h
   stops-map f (refused e q) p h = h
 

@@ -10,11 +10,11 @@ use lib.Dec.{eqb, lit<, lit≤}
 use lib.ListN.{length, getD, replicate, length-replicate, getD-replicate}
 use borrow.Author.Tests.{eqb-true, eq-eqb}
 use Rattle.wire.specs.Bytes.{Bytes, bytes-nil, bytes-cons}
-use Rattle.wire.specs.Read.{done, refused, not-done, bind-done, cond-done}
+use Rattle.wire.specs.Read.{done, not-done, bind-done, cond-done}
 use Rattle.wire.proofs.EveryFormat.{every-format}
 use Rattle.mapblock.specs.Data.{Block}
 use Rattle.mapblock.specs.Layout.{since, all}
-use Rattle.mapblock.specs.Block.{block, contentId, firstUnmapped, judged, verdict}
+use Rattle.mapblock.specs.Block.{judgedWhole, block, contentId, firstUnmapped, judged, verdict}
 use Rattle.mapblock.specs.Valid.{U32, Entries, Valid}
 use Rattle.block_reader.specs.Theorems.{Reader, TakenBy, Taken, WritesBack, ReadsBack, GivesOne, TakesTwo, ShutOut}
 use Rattle.mapblock.specs.declared.fault.Fault.the-variants as fault
@@ -31,7 +31,7 @@ taken s b n w = (there, back)
   where
     there : verdict all s ≡ done b n → Valid b × (s ≡ block all .encode b) × (n ≡ length s)
     there h =
-        let x = bind-done (block all .read s) (λ b n. cond (eqb n (length s)) (judged all b n (firstUnmapped all b)) (refused fault.BytesAfter n)) b n h in
+        let x = bind-done (block all .read s) (judgedWhole all s) b n h in
         let y = cond-done (eqb (x .1) (length s)) (judged all (x .0) (x .1) (firstUnmapped all (x .0))) fault.BytesAfter (x .1) b n (x .3) in
         let z = judged-done (x .0) b (x .1) n (firstUnmapped all (x .0)) (y .1) in
         let size : x .1 ≡ length s = eqb-true (x .1) (length s) (y .0) in

@@ -8,8 +8,8 @@ use mathlib.Core.Bool.{Bool, true, false, cond, _&&_}
 use lib.Dec.{leb, ltb, eqb}
 use lib.ListN.{drop}
 use Rattle.wire.specs.Read.{done}
-use Rattle.wire.specs.Format.{refine, _⨾_, items}
-use Rattle.wire.specs.Formats.{_▹_, number, u8, u16, u32, prefixed, only}
+use Rattle.wire.specs.Format.{_⨾_, items}
+use Rattle.wire.specs.Formats.{_▹_, constant, number, u16, u32, prefixed, only}
 use Rattle.wire.specs.Answer.{refusal, contentWidthDiffers, paramsWidthDiffers, metadataVersionDiffers, privateByteDiffers, timerByteDiffers, objectVersionDiffers, mappingVersionDiffers, timerRowLengthDiffers}
 use Rattle.mapblock.specs.Inventory.{Form}
 use Rattle.mapblock.specs.Data.{Variable, MetadataRow, ObjectRow, Opening, NameMapping, Timers, Front, noMapping}
@@ -60,7 +60,7 @@ contentWidth = record {
 }
 
 abbrev pub paramsWidth : FixedField (Opening × (NameMapping × ℕ))
-paramsWidth = byte (opening ⨾ λ o. frontMapping (o .version) ▹ refine (λ w. eqb w (width (o .version))) fault.ContentWidth u8) (λ x. true) 2
+paramsWidth = byte (opening ⨾ λ o. frontMapping (o .version) ▹ constant 1 (width (o .version)) fault.ContentWidth) (λ x. true) 2
 
 -- step 5: the list version
 abbrev pub metadataVersion : FixedField Front
@@ -77,7 +77,7 @@ privateByte rowsBefore variablesBefore = record {
   before =
       front all ⨾ λ f.
       let v = frontVersion f in
-      refine (λ n. eqb n (listVersion v)) fault.MetadataVersion (number (listVersionBytes v))
+      constant (listVersionBytes v) (listVersion v) fault.MetadataVersion
       ▹ u16  -- number of rows
       ▹ items (metadataRow v) rowsBefore ⨾ λ rows.
       newPosition (λ (r : MetadataRow). r .position) (reverse rows)

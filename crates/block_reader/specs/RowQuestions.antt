@@ -1,11 +1,11 @@
 -- Rows from the front of bytes: document 01, 'Reading, looking, writing' and 'Order'. The front row is judged alone, so never 5, 6 or 8.
 use Prim.Native.Nat.{ℕ}
 use mathlib.Core.Bool.{cond}
-use mathlib.Core.List.{List, []}
+use mathlib.Core.List.{List, [], _∷_}
 use lib.Dec.{eqb}
 use lib.ListN.{length}
 use Rattle.wire.specs.Read.{Read, mapRead}
-use Rattle.wire.specs.Answer.{Answer, plain, versionOutside, noSuch}
+use Rattle.wire.specs.Answer.{Answer, plain, endsInside, versionOutside, positionAbove, noSuch, privateByteDiffers}
 use Rattle.mapblock.specs.Layout.{all, isVersion, nameRow, metadataRow, objectRow, timerRow}
 use Rattle.mapblock.specs.Numbers.{answerOf}
 use Rattle.mapblock.specs.Rows.{nameFields, metadataFields, objectFields, timerFields}
@@ -31,3 +31,16 @@ objectRowOf s = frontRow s (mapRead objectFields (objectRow .read s))
 
 abbrev pub timerRowOf : List ℕ → Answer (TimerFields × ℕ)
 timerRowOf s = frontRow s (mapRead timerFields (timerRow [] .read s))
+
+-- ---- the numbers that each may be refused with: 2 for metadata alone, 16, and those of the reader that a row judged alone can give
+abbrev pub nameRowNumbers : List ℕ
+nameRowNumbers = noSuch ∷ endsInside ∷ []
+
+abbrev pub metadataRowNumbers : List ℕ
+metadataRowNumbers = versionOutside ∷ noSuch ∷ endsInside ∷ positionAbove ∷ privateByteDiffers ∷ []
+
+abbrev pub objectRowNumbers : List ℕ
+objectRowNumbers = noSuch ∷ endsInside ∷ []
+
+abbrev pub timerRowNumbers : List ℕ
+timerRowNumbers = noSuch ∷ endsInside ∷ positionAbove ∷ []

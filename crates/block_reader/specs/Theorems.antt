@@ -1,12 +1,13 @@
 -- What the definitions promise together, for document 01's 'Reading, looking, writing' and 'What may not slip through'. Proved in proofs/:
 -- `ValidIsOk` in ValidOk.antt, `SectionsAreRows` and `Param0There` in SectionsThere.antt, `VeryBytes` in NodeNames.antt, `RunsAreThere` in
--- RunsThere.antt, `WalkGivesRows` in Walk.antt, `BlockNumbers` and `RowNumbers` in AnswerNumbers.antt, `FirstEndLine` in EndLines.antt, the others in Taken.antt.
+-- RunsThere.antt, `WalkGivesRows` in Walk.antt, `BlockNumbers` and `RowNumbers` in AnswerNumbers.antt, `FirstEndLine` in EndLines.antt, the
+-- others in Taken.antt.
 use Prim.Native.Nat.{ℕ, zero, suc, _+_, _<_, _≤_}
 use mathlib.Core.Path.{_≡_}
 use mathlib.Core.Logic.{_↔_}
 use mathlib.Core.Bool.{Bool, true, false, _&&_}
 use mathlib.Core.Option.{some, none}
-use mathlib.Core.List.{List, [], _∷_, map}
+use mathlib.Core.List.{List, [], map}
 use lib.Dec.{eqb}
 use lib.ListN.{length, getD, drop}
 use Rattle.wire.specs.Bytes.{Bytes}
@@ -14,7 +15,7 @@ use Rattle.wire.specs.Marks.{starts}
 use Rattle.wire.specs.Read.{Read, done, refused}
 use Rattle.wire.specs.Format.{encodeItems}
 use Rattle.wire.specs.Formats.{number}
-use Rattle.wire.specs.Answer.{Answer, RefusedWith, endsInside, versionOutside, positionAbove, noSuch, privateByteDiffers}
+use Rattle.wire.specs.Answer.{Answer, RefusedWith}
 use Rattle.wire.specs.Walk.{walk, GivesRows, rowsBehind}
 use Rattle.mapblock.specs.Data.{NameRow, MetadataRow, ObjectRow, Block}
 use Rattle.mapblock.specs.Inventory.{Form, endLine, through}
@@ -26,7 +27,7 @@ use Rattle.wire.specs.Ranges.{rangeTold, bytesIn}
 use Rattle.mapblock.specs.Rows.{nameFields, metadataFields, objectFields, timerFields}
 use Rattle.block_reader.specs.Sections.{sections}
 use Rattle.block_reader.specs.Questions.{blockOf, nameAt, nameRange}
-use Rattle.block_reader.specs.RowQuestions.{nameRowOf, metadataRowOf, objectRowOf, timerRowOf}
+use Rattle.block_reader.specs.RowQuestions.{nameRowOf, metadataRowOf, objectRowOf, timerRowOf, nameRowNumbers, metadataRowNumbers, objectRowNumbers, timerRowNumbers}
 use Rattle.mapblock.specs.declared.fault.Fault.{Fault}
 use Rattle.mapblock.specs.declared.fault.Fault.the-variants as fault
 use Rattle.wire.specs.declared.ranges.Range.{Range}
@@ -180,10 +181,10 @@ BlockNumbers = (s : List ℕ) → RefusedWith blockNumbers (blockOf s)
 -- "Row question: 2, then 16 for an empty part, then the reader's 1, 3 or 4", where item 2 of document 02 has 34 for 3: no row question gives
 -- another number. "it judges the front row alone (so never 5, 6 or 8)"
 pub record RowNumbers : Type 0 where
-  pub name : (s : List ℕ) → RefusedWith (noSuch ∷ endsInside ∷ []) (nameRowOf s)
-  pub metadata : (v : ℕ) (s : List ℕ) → RefusedWith (versionOutside ∷ noSuch ∷ endsInside ∷ positionAbove ∷ privateByteDiffers ∷ []) (metadataRowOf v s)
-  pub object : (s : List ℕ) → RefusedWith (noSuch ∷ endsInside ∷ []) (objectRowOf s)
-  pub timer : (s : List ℕ) → RefusedWith (noSuch ∷ endsInside ∷ positionAbove ∷ []) (timerRowOf s)
+  pub name : (s : List ℕ) → RefusedWith nameRowNumbers (nameRowOf s)
+  pub metadata : (v : ℕ) (s : List ℕ) → RefusedWith metadataRowNumbers (metadataRowOf v s)
+  pub object : (s : List ℕ) → RefusedWith objectRowNumbers (objectRowOf s)
+  pub timer : (s : List ℕ) → RefusedWith timerRowNumbers (timerRowOf s)
 
 -- ---- number 8's place: document 01, 'The numbers a call comes back with'
 -- "place of the first such node's param0": where the verdict puts it, the node's param0 is read.

@@ -7,7 +7,7 @@ use lib.Dec.{leb, eqb}
 use Rattle.wire.specs.Answer.{isOneOf}
 use Rattle.wire.specs.Choice.{no-true}
 use Rattle.wire.specs.Format.{nothing, refine, _⨾_}
-use Rattle.wire.specs.Formats.{_▹_, u8, u16, u32, number, prefixed, listed, behind, fixed, only, into}
+use Rattle.wire.specs.Formats.{_▹_, constant, u8, u16, u32, prefixed, listed, behind, fixed, only, into}
 use Rattle.wire.proofs.Looser.{Looser, looser-self, looser-refine, looser-trans, looser-then, looser-iso, looser-cond, looser-listed}
 use Rattle.mapblock.specs.Inventory.{Form, inventory}
 use Rattle.mapblock.specs.Data.{NameRow, MetadataRow, TimerRow, NameMapping, Timers, noTimers, nameMappingShape, timersShape}
@@ -16,27 +16,27 @@ use Rattle.mapblock.specs.MetadataChecks.{variableFor, metadataRowFor}
 use Rattle.mapblock.specs.Numbers.{refusalNumber}
 use Rattle.mapblock.specs.declared.fault.Fault.{Fault}
 use Rattle.mapblock.specs.declared.fault.Fault.the-variants as fault
-use Rattle.block_writer.specs.Write.{judgedNumbers}
+use Rattle.block_writer.specs.Write.{valueNumbers}
 use Rattle.block_writer.specs.Frames.{nameFrame, metadataFrame, timerFrame}
 
 -- the faults of the values that a frame does not judge
-abbrev pub Judged : Fault → Type 0
-Judged e = isOneOf (refusalNumber e) judgedNumbers ≡ true
+abbrev pub ValueFault : Fault → Type 0
+ValueFault e = isOneOf (refusalNumber e) valueNumbers ≡ true
 
 -- bytes that end are not among them
-pub not-ends : Judged fault.Ends → ⊥
+pub not-ends : ValueFault fault.Ends → ⊥
 not-ends h = no-true h
 
 -- one after the other
-pub looser-both : {A B : Type 0} {f g : Form A} {h k : Form B} → Looser Judged f g → Looser Judged h k → Looser Judged (f ▹ h) (g ▹ k)
+pub looser-both : {A B : Type 0} {f g : Form A} {h k : Form B} → Looser ValueFault f g → Looser ValueFault h k → Looser ValueFault (f ▹ h) (g ▹ k)
 looser-both {f = f} {g = g} {h = h} {k = k} l m = looser-then f g (λ _. h) (λ _. k) l (λ _. m)
 
-pub name-looser : (free : ℕ → Bool) (seen : List NameRow) → Looser Judged (nameRow free seen) nameFrame
+pub name-looser : (free : ℕ → Bool) (seen : List NameRow) → Looser ValueFault (nameRow free seen) nameFrame
 unfolding nameRow nameFrame
 name-looser free seen =
     looser-iso _ _ _ _ _ _ (looser-both (looser-refine (unmapped free seen) fault.IdTwice u16 refl) (looser-self (prefixed 2))) _ _ _ _
 
-pub variable-looser : (v : ℕ) → Looser Judged (variable v) (variableFor false v)
+pub variable-looser : (v : ℕ) → Looser ValueFault (variable v) (variableFor false v)
 unfolding variable variableFor
 variable-looser v =
     looser-iso _ _ _ _ _ _
@@ -45,11 +45,11 @@ variable-looser v =
     (looser-cond (since 28 v) (looser-refine (λ b. leb b 1) fault.PrivateByte u8 refl) (looser-self (nothing 0)))))
     _ _ _ _
 
-position-looser : {A : Type 0} (key : A → ℕ) (seen : List A) → Looser Judged (newPosition key seen) u16
+position-looser : {A : Type 0} (key : A → ℕ) (seen : List A) → Looser ValueFault (newPosition key seen) u16
 position-looser key seen =
     looser-trans (looser-refine (unused key all seen) fault.PositionTwice position refl) (looser-refine (λ p. leb p 4095) fault.PositionAbove u16 refl)
 
-pub metadata-looser : (v : ℕ) (seen : List MetadataRow) → Looser Judged (metadataRow v seen) (metadataFrame v)
+pub metadata-looser : (v : ℕ) (seen : List MetadataRow) → Looser ValueFault (metadataRow v seen) (metadataFrame v)
 unfolding metadataRow metadataFrame metadataRowFor
 metadata-looser v seen =
     looser-iso _ _ _ _ _ _
@@ -60,7 +60,7 @@ metadata-looser v seen =
     (looser-self (only (since 23 v) [] inventory))))))
     _ _ _ _
 
-pub timer-looser : (seen : List TimerRow) → Looser Judged (timerRow seen) timerFrame
+pub timer-looser : (seen : List TimerRow) → Looser ValueFault (timerRow seen) timerFrame
 unfolding timerRow timerFrame
 timer-looser seen = looser-iso _ _ _ _ _ _ (looser-both (position-looser (λ (r : TimerRow). r .position) seen) (looser-self _)) _ _ _ _
 
@@ -81,23 +81,23 @@ earlyFrame v = only (before 25 v) noTimers
 abbrev pub lateFrame : ℕ → Form Timers
 lateFrame v = only (since 25 v) noTimers (into timersShape (nothing 0 ▹ fixed 1 10 fault.TimerRowLength (listed 2 λ _. timerFrame)))
 
-looser-fixed : {A : Type 0} (k v : ℕ) (e : Fault) {f g : Form A} → Looser Judged f g → Looser Judged (fixed k v e f) (fixed k v e g)
+looser-fixed : {A : Type 0} (k v : ℕ) (e : Fault) {f g : Form A} → Looser ValueFault f g → Looser ValueFault (fixed k v e f) (fixed k v e g)
 unfolding behind
-looser-fixed k v e {f} {g} l = looser-iso _ _ _ _ _ _ (looser-both (looser-self (refine (λ n. eqb n v) e (number k))) l) _ _ _ _
+looser-fixed k v e {f} {g} l = looser-iso _ _ _ _ _ _ (looser-both (looser-self (constant k v e)) l) _ _ _ _
 
-pub name-mapping-looser : (free : ℕ → Bool) → Looser Judged (nameMapping free) savedFrame
+pub name-mapping-looser : (free : ℕ → Bool) → Looser ValueFault (nameMapping free) savedFrame
 unfolding nameMapping
 name-mapping-looser free =
     looser-iso _ _ _ _ _ _ (looser-both (looser-self u32) (looser-fixed 1 0 fault.MappingVersion (looser-listed (nameRow free) (λ _. nameFrame) (name-looser free) 2))) _ _ _ _
 
-pub metadata-list-looser : (v : ℕ) → Looser Judged (metadata v) (metadataListFrame v)
+pub metadata-list-looser : (v : ℕ) → Looser ValueFault (metadata v) (metadataListFrame v)
 unfolding metadata
 metadata-list-looser v = looser-fixed _ _ fault.MetadataVersion (looser-listed (metadataRow v) (λ _. metadataFrame v) (metadata-looser v) 2)
 
-timers-looser : Looser Judged (listed 2 timerRow) (listed 2 λ _. timerFrame)
+timers-looser : Looser ValueFault (listed 2 timerRow) (listed 2 λ _. timerFrame)
 timers-looser = looser-listed timerRow (λ _. timerFrame) timer-looser 2
 
-early-24-looser : Looser Judged (into timersShape (refine (λ t. leb t 1) fault.TimerByte u8 ⨾ λ t. only (eqb t 1) [] (listed 2 timerRow))) (into timersShape (u8 ⨾ λ t. only (eqb t 1) [] (listed 2 λ _. timerFrame)))
+early-24-looser : Looser ValueFault (into timersShape (refine (λ t. leb t 1) fault.TimerByte u8 ⨾ λ t. only (eqb t 1) [] (listed 2 timerRow))) (into timersShape (u8 ⨾ λ t. only (eqb t 1) [] (listed 2 λ _. timerFrame)))
 early-24-looser =
     looser-iso _ _ _ _ _ _
     (looser-then (refine (λ t. leb t 1) fault.TimerByte u8) u8 (λ t. only (eqb t 1) [] (listed 2 timerRow)) (λ t. only (eqb t 1) [] (listed 2 λ _. timerFrame))
@@ -105,11 +105,11 @@ early-24-looser =
     (λ t. looser-cond (eqb t 1) timers-looser (looser-self (nothing []))))
     _ _ _ _
 
-pub early-looser : (v : ℕ) → Looser Judged (earlyTimers v) (earlyFrame v)
+pub early-looser : (v : ℕ) → Looser ValueFault (earlyTimers v) (earlyFrame v)
 unfolding earlyTimers
 early-looser v = looser-cond (before 25 v) (looser-cond (since 24 v) early-24-looser (looser-self _)) (looser-self (nothing noTimers))
 
-pub late-looser : (v : ℕ) → Looser Judged (lateTimers v) (lateFrame v)
+pub late-looser : (v : ℕ) → Looser ValueFault (lateTimers v) (lateFrame v)
 unfolding lateTimers
 late-looser v =
     looser-cond (since 25 v)

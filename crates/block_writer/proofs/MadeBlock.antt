@@ -27,7 +27,7 @@ use Rattle.block_writer.specs.BlockParts.{BlockParts, headFits, param0Fi
 use Rattle.block_writer.specs.Judging.{mappingOn, mappingFront, mappingBehind, timersLate}
 use Rattle.block_writer.specs.Sections.{Rows, SectionRows}
 use Rattle.block_writer.specs.declared.counts.RowCounts.{RowCounts}
-use Rattle.block_writer.proofs.Framed.{Judged, not-ends, savedFrame, metadataListFrame, earlyFrame, lateFrame, looser-both, name-mapping-looser, metadata-list-looser, early-looser, late-looser}
+use Rattle.block_writer.proofs.Framed.{ValueFault, not-ends, savedFrame, metadataListFrame, earlyFrame, lateFrame, looser-both, name-mapping-looser, metadata-list-looser, early-looser, late-looser}
 use Rattle.block_writer.proofs.RowsJudging.{rows-ok, name-mapping-ok}
 use Rattle.block_writer.proofs.Fitting.{Fitting, fits-plain, fits-headFits, fits-timed}
 use Rattle.block_writer.proofs.TimersJudging.{early-ok}
@@ -84,7 +84,7 @@ abbrev pub stepsFrame : Form Steps
 stepsFrame = into stepsShape (frontFrame ⨾ λ f. restFrame (f .opening .version))
 
 module _ (free : ℕ → Bool) where
-  pub front-looser : Looser Judged (front free) frontFrame
+  pub front-looser : Looser ValueFault (front free) frontFrame
   unfolding front
   front-looser =
       looser-iso _ _ _ _ _ _
@@ -92,7 +92,7 @@ module _ (free : ℕ → Bool) where
       (λ o. looser-both (looser-cond (since 29 (o .version)) (name-mapping-looser free) (looser-self _)) (looser-self (nodes (o .version)))))
       _ _ _ _
 
-  pub rest-looser : (v : ℕ) → Looser Judged (rest free v) (restFrame v)
+  pub rest-looser : (v : ℕ) → Looser ValueFault (rest free v) (restFrame v)
   unfolding rest
   rest-looser v =
       looser-iso _ _ _ _ _ _
@@ -103,7 +103,7 @@ module _ (free : ℕ → Bool) where
       (late-looser v)))))
       _ _ _ _
 
-  pub steps-looser : Looser Judged (steps free) stepsFrame
+  pub steps-looser : Looser ValueFault (steps free) stepsFrame
   unfolding steps
   steps-looser =
       looser-iso _ _ _ _ _ _

@@ -41,13 +41,13 @@ use Rattle.block_writer.specs.Sections.{Rows}
 use Rattle.block_writer.specs.Write.{judgedBytes, writtenBlock, writeOf}
 use Rattle.block_writer.specs.Theorems.{handedOut, Writer, written, WritesBackBy, ReadAs, ReadsBackBy, RoundTrip, DoesNothing, RefusesAll, ShutOut}
 use Rattle.block_writer.proofs.RowsIn.{rows-forward}
-use Rattle.block_writer.proofs.Framed.{Judged, name-looser, metadata-looser, timer-looser}
+use Rattle.block_writer.proofs.Framed.{ValueFault, name-looser, metadata-looser, timer-looser}
 use Rattle.block_writer.proofs.RowsJudging.{rows-bytes}
 use Rattle.block_writer.proofs.Fitting.{Fitting}
 use Rattle.block_writer.proofs.MadeBlock.{MadeOf, made-of, of-made, block-bytes, block-settled}
 
 -- ---- what was read: its sections are whole rows
-module _ {A : Type 0} (item : List A → Form A) (frame : Form A) (looser : (seen : List A) → Looser Judged (item seen) frame)
+module _ {A : Type 0} (item : List A → Form A) (frame : Form A) (looser : (seen : List A) → Looser ValueFault (item seen) frame)
     (some-byte : (a : A) → 0 < length (frame .encode a)) (l : List A) (ok : listed 2 item .Ok l) where
   rows-again : {s : List ℕ} → s ≡ encodeItems item [] l → Rows frame s (length l) l
   unfolding listed iso items

@@ -24,7 +24,7 @@ use Rattle.block_writer.specs.Frames.{nameFrame, metadataFrame, timerFra
 use Rattle.block_writer.specs.Sections.{Rows}
 use Rattle.block_writer.specs.Judging.{verdictOn, Small, MappingJudged}
 use Rattle.block_writer.proofs.RowsIn.{rows-made, rows-empty}
-use Rattle.block_writer.proofs.Framed.{Judged, not-ends, name-looser, savedFrame, timer-looser, metadata-looser}
+use Rattle.block_writer.proofs.Framed.{ValueFault, not-ends, name-looser, savedFrame, timer-looser, metadata-looser}
 use Rattle.block_writer.proofs.PiecesJudging.{shift-on, verdictOn-into, verdictOn-fixed, verdictOn-listed, verdictOn-ok, judged-on}
 
 -- ---- rows by their frames
@@ -48,7 +48,7 @@ module _ {A : Type 0} (frame : Form A) {s : List ℕ} {count : ℕ} {l : List A}
   pub rows-long : (m : ℕ) → ((a : A) → frame .Ok a → length (frame .encode a) ≤ m) → length s ≤ m * length l
   rows-long m h = let x = rows-made frame 65535 s l b (w .are) in rw (x .1) (long-by m h [] l (x .0 []))
 
-  module _ (item : List A → Form A) (looser : (seen : List A) → Looser Judged (item seen) frame) where
+  module _ (item : List A → Form A) (looser : (seen : List A) → Looser ValueFault (item seen) frame) where
     -- the section is the bytes of its rows
     pub rows-bytes : s ≡ encodeItems item [] l
     unfolding items

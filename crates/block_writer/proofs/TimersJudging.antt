@@ -25,7 +25,7 @@ use Rattle.block_writer.specs.BlockParts.{headFits, timersFit}
 use Rattle.block_writer.specs.Sections.{Rows}
 use Rattle.block_writer.specs.Judging.{verdictOn, timersOn, timersEarly, timersLate}
 use Rattle.block_writer.proofs.Fitting.{no-timer, no-timers}
-use Rattle.block_writer.proofs.Framed.{Judged, not-ends, earlyFrame, early-looser}
+use Rattle.block_writer.proofs.Framed.{ValueFault, not-ends, earlyFrame, early-looser}
 use Rattle.block_writer.proofs.RowsJudging.{no-rows, rows-ok}
 use Rattle.block_writer.proofs.PiecesJudging.{shift-none, verdictOn-ok, verdictOn-into, verdictOn-fixed, judged-refused, judged-on}
 
@@ -38,7 +38,7 @@ timersIf t = only (eqb t 1) [] (listed 2 timerRow)
 
 byte-settled : (t : ℕ) → t < 256 → Settled byte t
 unfolding number iso
-byte-settled t h = settled {Dropped = Judged} (looser-refine (λ t. leb t 1) fault.TimerByte u8 refl) t h not-ends
+byte-settled t h = settled {Dropped = ValueFault} (looser-refine (λ t. leb t 1) fault.TimerByte u8 refl) t h not-ends
 
 byte-good : (t : ℕ) → t ≤ 1 → done tt 1 ≡ verdictOn byte t
 unfolding refine number iso run

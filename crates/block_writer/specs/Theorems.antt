@@ -2,18 +2,18 @@
 -- proofs/RoundTrip.antt proves it.
 use Prim.Native.Nat.{ℕ, _≤_}
 use mathlib.Core.Path.{_≡_}
-use mathlib.Core.List.{List, _∷_, _++_}
+use mathlib.Core.List.{List, _++_}
 use lib.ListN.{length, take, drop}
 use Rattle.wire.specs.Bytes.{Bytes}
 use Rattle.wire.specs.Read.{done}
-use Rattle.wire.specs.Answer.{Answer, good, refusal, mapAnswer, lent, RefusedWith, versionOutside, idUnmapped, noRoom, partsMisfit}
+use Rattle.wire.specs.Answer.{Answer, good, refusal, mapAnswer, lent, RefusedWith}
 use Rattle.mapblock.specs.Data.{Block}
 use Rattle.mapblock.specs.Layout.{all}
 use Rattle.mapblock.specs.Block.{verdict}
 use Rattle.block_reader.specs.Sections.{sections}
 use Rattle.wire.specs.Ranges.{bytesIn}
 use Rattle.block_writer.specs.BlockParts.{BlockParts, WellTyped, blockParts}
-use Rattle.block_writer.specs.Write.{judgedNumbers, writeOf}
+use Rattle.block_writer.specs.Write.{writerNumbers, writeOf}
 
 -- what the reader hands out of the bytes s, which it takes with the block b: head, lists, and sections as slices of s
 abbrev pub handedOut : List ℕ → Block → BlockParts
@@ -62,7 +62,7 @@ abbrev pub ShutOut : Type 0
 ShutOut = (w : Writer) → WritesBackBy w → (DoesNothing w → ⊥) × (RefusesAll w → ⊥)
 
 -- ---- the numbers of the writer: document 01, 'Order'
--- "Writer: 2, 12, then what the reader would say of the bytes, then 11": of the reader's numbers these are `judgedNumbers` and 8, and so of 31 to
+-- "Writer: 2, 12, then what the reader would say of the bytes, then 11": of the reader's numbers these are `valueNumbers` and 8, and so of 31 to
 -- 38 it gives 34 and 35 alone. proofs/WriterNumbers.antt proves it.
 abbrev pub WriterNumbers : Type 0
-WriterNumbers = (p : BlockParts) (room : ℕ) → WellTyped p → RefusedWith (versionOutside ∷ partsMisfit ∷ noRoom ∷ idUnmapped ∷ judgedNumbers) (writeOf p room)
+WriterNumbers = (p : BlockParts) (room : ℕ) → WellTyped p → RefusedWith writerNumbers (writeOf p room)

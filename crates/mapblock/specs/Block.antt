@@ -127,8 +127,10 @@ module _ (free : ℕ → Bool) where
   judged b n none = done b n
   judged b n (some i) = refused fault.IdUnmapped (param0At b i)
 
+  -- a block that was read from the front of s, n bytes: 7, then 8
+  abbrev pub judgedWhole : List ℕ → Block → ℕ → Read Fault Block
+  judgedWhole s b n = cond (eqb n (length s)) (judged b n (firstUnmapped b)) (refused fault.BytesAfter n)
+
   -- fields in byte order, each judged when read; then 7; then 8
   unfoldable pub verdict : List ℕ → Read Fault Block
-  verdict s =
-      bind (block free .read s) λ b n.
-      cond (eqb n (length s)) (judged b n (firstUnmapped b)) (refused fault.BytesAfter n)
+  verdict s = bind (block free .read s) (judgedWhole s)

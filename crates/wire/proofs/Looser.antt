@@ -1,5 +1,5 @@
 -- A format with tests, and the same without: the looser one takes all that the stricter one takes, and where the stricter one alone refuses
--- it is with the fault of a test that was dropped. None of these is for want of bytes; so what the stricter one says of bytes that the looser
+-- it is with the fault of a test that was dropped. Where none of these is for want of bytes, what the stricter one says of bytes that the looser
 -- one takes stays, whatever follows.
 use Prim.Native.Nat.{ℕ, zero, suc, _+_}
 use mathlib.Core.Path.{_≡_, refl, ap, sym, subst, _∙_}

@@ -3,7 +3,8 @@
 --     number k, u8 .. u64, s32, s64     a number of k bytes; the usual widths
 --     f ▹ g, f ⨾ λ a. g                 f, then g; then g, which may look at what f read
 --     refine test e f                   f, refused with e where the test fails
---     fixed k v e f, mark m e f         the number v in k bytes, or the bytes m, refused with e where another stands there; then f
+--     constant k v e                    the number v in k bytes, refused with e where another stands there
+--     fixed k v e f, mark m e f         that, or the bytes m, refused likewise; then f
 --     headed m v e f, head m            the mark m and the u16 version v, then f; the version 1, then a u32 count
 --     prefixed k                        a length of k bytes, and so many bytes
 --     listed k item, times n f          a count of k bytes, and so many items, each told those before it; n of the same
@@ -118,13 +119,17 @@ module _ {E : Type 0} {ends : E} {A B : Type 0} (g : Format E ends A) (v : A) (f
 unfoldable pub behind : {E : Type 0} {ends : E} {A B : Type 0} (g : Format E ends A) (v : A) → ((a : A) → g .Ok a → v ≡ a) → Format E ends B → Format E ends B
 behind {A = A} {B = B} g v only f = iso (λ b. g .Ok v × f .Ok b) (λ (x : A × B). x .1) (pair v) (g ▹ f) (behind-there g v f) (behind-back g v f only)
 
-pub fixed-only : {E : Type 0} (ends : E) (k v : ℕ) (e : E) (n : ℕ) → refine (λ n. eqb n v) e (number {ends = ends} k) .Ok n → v ≡ n
+-- the number v in k bytes, else the fault e
+abbrev pub constant : {E : Type 0} {ends : E} → ℕ → ℕ → E → Format E ends ℕ
+constant k v e = refine (λ n. eqb n v) e (number k)
+
+pub fixed-only : {E : Type 0} (ends : E) (k v : ℕ) (e : E) (n : ℕ) → constant {ends = ends} k v e .Ok n → v ≡ n
 unfolding refine
 fixed-only ends k v e n h = sym (eqb-true n v (h .1))
 
--- the number v in k bytes, else the fault e; then f
+-- a constant, and then f
 abbrev pub fixed : {E : Type 0} {ends : E} {A : Type 0} → ℕ → ℕ → E → Format E ends A → Format E ends A
-fixed {ends = ends} k v e f = behind (refine (λ n. eqb n v) e (number k)) v (fixed-only ends k v e) f
+fixed {ends = ends} k v e f = behind (constant k v e) v (fixed-only ends k v e) f
 
 pub mark-only : {E : Type 0} (ends : E) (m : List ℕ) (e : E) (l : List ℕ) → refine (starts m) e (run {ends = ends} (length m)) .Ok l → m ≡ l
 unfolding refine run

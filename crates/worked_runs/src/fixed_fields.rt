@@ -16,7 +16,7 @@ use crate::reading::is_answer;
 use crate::reading::read;
 ghost use Prim.Native.Nat.{_<_};
 
-// Shows what the reader says of a block of which one byte was changed, beside what is expected.
+// Shows what the reader says of a block in which the byte at a place has another value, beside what is expected.
 fn changed_line(field: &[u8], version: u8, byte: usize, block: &[u8], number: u32, place: usize) {
     let answer = read(block);
     say(field);
@@ -29,7 +29,7 @@ fn changed_line(field: &[u8], version: u8, byte: usize, block: &[u8], number: u3
     say_verdict(is_answer(answer, number, place));
 }
 
-// Changes one byte of the shortest block of a version.
+// Shows it of the shortest block of a version.
 fn changed(field: &[u8], version: u8, byte: usize, value: u8, number: u32, place: usize)
     requires { ⌜ byte < 16500 ⌝ }
 {
@@ -39,7 +39,7 @@ fn changed(field: &[u8], version: u8, byte: usize, value: u8, number: u32, place
     changed_line(field, version, byte, front(&block, n), number, place);
 }
 
-// Changes the private byte of a variable.
+// Shows it of a block that has a variable, since no shortest block has a private byte.
 fn private_byte() {
     let mut block = [0u8; ROOM];
     let n = put_rows(29, &METADATA_29, b"", &mut block);
