@@ -8,7 +8,7 @@ use lib.ListN.{length}
 use Rattle.wire.specs.Read.{Read, done, refused, mapRead}
 use Rattle.wire.proofs.Answers.{with-cond}
 use Rattle.wire.specs.Answer.{plain, RefusedWith, isOneOf, versionOutside, noSuch}
-use Rattle.mapblock.specs.Inventory.{Form}
+use Rattle.mapblock.specs.Inventory.{BlockFormat}
 use Rattle.mapblock.specs.Data.{MetadataRow, TimerRow, Block}
 use Rattle.mapblock.specs.Layout.{all, isVersion, unused, nameRow, metadataRow, timerRow}
 use Rattle.mapblock.specs.Block.{verdict}
@@ -20,18 +20,18 @@ use Rattle.block_reader.specs.Theorems.{RowNumbers, BlockNumbers}
 use Rattle.mapblock.specs.declared.fault.Fault.{Fault}
 use Rattle.mapblock.specs.declared.fault.Fault.the-variants as fault
 use Rattle.mapblock.proofs.FaultNumbers.{fault-number}
-use Rattle.block_reader.proofs.GivenFaults.{ReadRefusedWith, FormRefusedWith, by-map, gives-any, gives-number, gives-first-position, gives-name-row, gives-metadata-row, gives-object-row, gives-timer-row}
+use Rattle.block_reader.proofs.GivenFaults.{ReadRefusedWith, FormatRefusedWith, by-map, gives-any, gives-number, gives-first-position, gives-name-row, gives-metadata-row, gives-object-row, gives-timer-row}
 
 module _ {P : Fault → Type 0} (ends : P fault.Ends) where
-  name-alone : FormRefusedWith P (nameRow all [])
+  name-alone : FormatRefusedWith P (nameRow all [])
   unfolding nameRow unused
   name-alone = gives-name-row ends (gives-any fault.IdTwice (gives-number ends 2))
 
-  metadata-alone : (v : ℕ) → P fault.PrivateByte → P fault.PositionAbove → FormRefusedWith P (metadataRow v [])
+  metadata-alone : (v : ℕ) → P fault.PrivateByte → P fault.PositionAbove → FormatRefusedWith P (metadataRow v [])
   unfolding metadataRow
   metadata-alone v own above = gives-metadata-row ends v own (gives-first-position ends (λ (r : MetadataRow). r .position) above)
 
-  timer-alone : P fault.PositionAbove → FormRefusedWith P (timerRow [])
+  timer-alone : P fault.PositionAbove → FormatRefusedWith P (timerRow [])
   unfolding timerRow
   timer-alone above = gives-timer-row ends (gives-first-position ends (λ (r : TimerRow). r .position) above)
 
@@ -39,7 +39,7 @@ module _ {P : Fault → Type 0} (ends : P fault.Ends) where
 abbrev IsOneOf : List ℕ → Fault → Type 0
 IsOneOf numbers e = isOneOf (refusalNumber e) numbers ≡ true
 
-module _ {A B : Type 0} (numbers : List ℕ) (none : isOneOf noSuch numbers ≡ true) (fields : A → B) {f : Form A} (h : FormRefusedWith (IsOneOf numbers) f) where
+module _ {A B : Type 0} (numbers : List ℕ) (none : isOneOf noSuch numbers ≡ true) (fields : A → B) {f : BlockFormat A} (h : FormatRefusedWith (IsOneOf numbers) f) where
   answer-in : (r : Read Fault B) → ReadRefusedWith (IsOneOf numbers) r → RefusedWith numbers (answerOf r)
   answer-in (done a n) k = tt
   answer-in (refused e p) k = k

@@ -18,7 +18,7 @@ use Rattle.wire.proofs.Places.{place-is, place-first}
 use Rattle.wire.specs.Read.{Read, done, refused, mapRead}
 use Rattle.wire.specs.Answer.{Answer, good, refusal, plain, versionOutside, noSuch}
 use Rattle.wire.proofs.Answers.{no-good}
-use Rattle.mapblock.specs.Inventory.{Form}
+use Rattle.mapblock.specs.Inventory.{BlockFormat}
 use Rattle.mapblock.specs.Layout.{isVersion, metadataRow}
 use Rattle.wire.specs.Ranges.{rangeTold, IsSlice}
 use Rattle.mapblock.specs.Rows.{metadataFields}
@@ -116,7 +116,7 @@ no-timer (timer.Refused f p) k = tt
 
 -- ---- a row that was told ends in the part
 module _ (s : List ℕ) where
-  pub row-fits : {A B : Type 0} (to : A → B) (f : Form A) {b : B} {n : ℕ} → good (b, n) ≡ frontRow s (mapRead to (f .read s)) → n ≤ length s
+  pub row-fits : {A B : Type 0} (to : A → B) (f : BlockFormat A) {b : B} {n : ℕ} → good (b, n) ≡ frontRow s (mapRead to (f .read s)) → n ≤ length s
   row-fits to f h = told-in to f s (asked-done s (mapRead to (f .read s)) h)
 
 -- ---- the rows behind a row: their bytes, and where they lie

@@ -16,7 +16,7 @@ use Rattle.wire.specs.Choice.{no-true}
 use Rattle.wire.proofs.Tests.{and-yes}
 use Rattle.wire.proofs.Answers.{no-good}
 use Rattle.wire.specs.Formats.{constant, _▹_, into, listed, behind, fixed, u8, u16, u32, prefixed, only}
-use Rattle.mapblock.specs.Inventory.{Form, inventory}
+use Rattle.mapblock.specs.Inventory.{BlockFormat, inventory}
 use Rattle.mapblock.specs.Data.{Variable, MetadataRow, ObjectRow, Timers, Front, Rest, Block, noMapping, noTimers, metadataShape, timersShape, stepsShape}
 use Rattle.mapblock.specs.Layout.{since, before, all, newPosition, variable, metadataRow, width, unmapped, nodes, nameMapping, listVersionBytes, listVersion, metadata, earlyTimers, objects, lateTimers, timerRow, front, rest, steps}
 use Rattle.mapblock.specs.Block.{judgedWhole, blockFrom, block, firstUnmapped, judged, verdict}
@@ -29,7 +29,7 @@ use Rattle.block_reader.proofs.GivenFaults.{gives-constant, gives-numbe
 use Rattle.block_reader.proofs.Stops.{Stops, Other, Behind, then-stops, stops-first, stops-behind, differs-behind, behind-differs, Here, StopsExactly, here-refine, here-iso, here-first, here-fixed, here-absent, here-nothing, here-only, exact-iso, exact-absent, exact-then-here, exact-first, exact-behind, exact-nothing, exact-items, fieldBehind, rowField}
 
 -- the eight steps, but for their record
-abbrev frontAndRest : Form (Front × Rest)
+abbrev frontAndRest : BlockFormat (Front × Rest)
 frontAndRest = front all ⨾ λ f. rest all (frontVersion f)
 
 -- ---- 31: content width

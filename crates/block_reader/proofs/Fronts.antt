@@ -11,7 +11,7 @@ use borrow.Author.Tests.{le-leb, lt-leb}
 use Rattle.wire.specs.Bytes.{Bytes, bytes-drop}
 use Rattle.wire.specs.Read.{Read, done, refused, mapRead, reach, map-done, map-refused}
 use Rattle.wire.specs.Format.{refine, nothing, _⨾_, iso, ends-in}
-use Rattle.mapblock.specs.Inventory.{Form}
+use Rattle.mapblock.specs.Inventory.{BlockFormat}
 use Rattle.wire.specs.Walk.{rowsRead}
 use Rattle.mapblock.specs.Data.{Opening, NameMapping, Nodes, Front, noMapping}
 use Rattle.mapblock.specs.Layout.{isVersion, unused, width, opening, nameMapping, nodes, front}
@@ -62,7 +62,7 @@ unfolding opening iso _⨾_ refine
 opening-length o l = rw (le-leb 27 (o .version) l, length-append, length-append, num-length 1 (o .version), num-length 1 (o .flags), num-length 2 (o .lighting))
 
 -- what was told of bytes behind the opening lies in the list
-pub opened-in : {A B : Type 0} (to : A → B) (f : Form A) (s : List ℕ) {o : Opening} {at : ℕ} {r : Read Fault B} → opening .read s ≡ done o at
+pub opened-in : {A B : Type 0} (to : A → B) (f : BlockFormat A) (s : List ℕ) {o : Opening} {at : ℕ} {r : Read Fault B} → opening .read s ≡ done o at
     → r ≡ mapRead to (f .read (drop at s)) → at + reach r ≤ length s
 opened-in to f s {at = at} h k = omega (arith, ends-in opening h, told-in to f (drop at s) k, length-drop at s)
 

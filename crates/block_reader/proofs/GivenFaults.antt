@@ -9,7 +9,7 @@ use lib.ListN.{length, take, drop}
 use Rattle.wire.specs.Read.{Read, done, refused, bind, mapRead, shift}
 use Rattle.wire.specs.Format.{tested, run, nothing, refine, _⨾_, next, pair, iso, items, readItems}
 use Rattle.wire.specs.Formats.{constant, _▹_, number, signed, s32, prefixed, listed, behind, fixed, only}
-use Rattle.mapblock.specs.Inventory.{Form, through, sized, inventory}
+use Rattle.mapblock.specs.Inventory.{BlockFormat, through, sized, inventory}
 use Rattle.mapblock.specs.Data.{NameRow, MetadataRow, TimerRow, noMapping, noTimers}
 use Rattle.mapblock.specs.Layout.{since, before, all, unused, unmapped, position, newPosition, nameRowBy, nameRow, variable, metadataRowBy, metadataRow, objectRow, timerRowBy, timerRow, nameMapping, width, params, nodes, listVersionBytes, listVersion, metadata, objects, earlyTimers, lateTimers, isVersion, opening, front, rest}
 use Rattle.mapblock.specs.declared.fault.Fault.{Fault}
@@ -21,7 +21,7 @@ module _ (P : Fault → Type 0) where
   ReadRefusedWith (done a n) = Unit {0}
   ReadRefusedWith (refused e p) = P e
 
-  pub record FormRefusedWith {A : Type 0} (f : Form A) : Type 0 where
+  pub record FormatRefusedWith {A : Type 0} (f : BlockFormat A) : Type 0 where
     pub reads : (s : List ℕ) → ReadRefusedWith (f .read s)
 
   -- ---- readings
@@ -43,40 +43,40 @@ module _ (P : Fault → Type 0) where
 
 -- ---- formats
 module _ {P : Fault → Type 0} where
-  pub gives-nothing : {A : Type 0} (a : A) → FormRefusedWith P (nothing a)
+  pub gives-nothing : {A : Type 0} (a : A) → FormatRefusedWith P (nothing a)
   unfolding nothing
   gives-nothing a = record { reads = λ s. tt }
 
   infixr 20 _then_
-  pub _then_ : {A B : Type 0} {f : Form A} {g : A → Form B} → FormRefusedWith P f → ((a : A) → FormRefusedWith P (g a)) → FormRefusedWith P (f ⨾ g)
+  pub _then_ : {A B : Type 0} {f : BlockFormat A} {g : A → BlockFormat B} → FormatRefusedWith P f → ((a : A) → FormatRefusedWith P (g a)) → FormatRefusedWith P (f ⨾ g)
   unfolding _⨾_
   _then_ {f = f} {g = g} h k = record {
     reads = λ s. by-bind P (f .read s) (next g s) (h .reads s) (λ a n. by-shift P n (pair a) (g a .read (drop n s)) (k a .reads (drop n s)));
   }
 
   -- the same bytes under another type
-  pub gives-iso : {A B : Type 0} (Ok : B → Type 0) (to : A → B) (from : B → A) (f : Form A) (there : (b : B) → Ok b → f .Ok (from b) × (to (from b) ≡ b))
-      (back : (a : A) → f .Ok a → Ok (to a) × (from (to a) ≡ a)) → FormRefusedWith P f → FormRefusedWith P (iso Ok to from f there back)
+  pub gives-iso : {A B : Type 0} (Ok : B → Type 0) (to : A → B) (from : B → A) (f : BlockFormat A) (there : (b : B) → Ok b → f .Ok (from b) × (to (from b) ≡ b))
+      (back : (a : A) → f .Ok a → Ok (to a) × (from (to a) ≡ a)) → FormatRefusedWith P f → FormatRefusedWith P (iso Ok to from f there back)
   unfolding iso
   gives-iso Ok to from f there back h = record { reads = λ s. by-map P to (f .read s) (h .reads s) }
 
-  gives-refine : {A : Type 0} (test : A → Bool) (e : Fault) {f : Form A} → P e → FormRefusedWith P f → FormRefusedWith P (refine test e f)
+  gives-refine : {A : Type 0} (test : A → Bool) (e : Fault) {f : BlockFormat A} → P e → FormatRefusedWith P f → FormatRefusedWith P (refine test e f)
   unfolding refine
   gives-refine test e {f} own h = record { reads = λ s. by-bind P (f .read s) (tested test e) (h .reads s) (λ a n. by-test P (test a) a n e 0 own) }
 
   -- a test that cannot fail
-  pub gives-any : {A : Type 0} (e : Fault) {f : Form A} → FormRefusedWith P f → FormRefusedWith P (refine (λ _. true) e f)
+  pub gives-any : {A : Type 0} (e : Fault) {f : BlockFormat A} → FormatRefusedWith P f → FormatRefusedWith P (refine (λ _. true) e f)
   unfolding refine
   gives-any e {f} h = record { reads = λ s. by-bind P (f .read s) (tested (λ _. true) e) (h .reads s) (λ a n. tt) }
 
-  gives-cond : {A : Type 0} (b : Bool) {f g : Form A} → FormRefusedWith P f → FormRefusedWith P g → FormRefusedWith P (cond b f g)
+  gives-cond : {A : Type 0} (b : Bool) {f g : BlockFormat A} → FormatRefusedWith P f → FormatRefusedWith P g → FormatRefusedWith P (cond b f g)
   gives-cond true h k = h
   gives-cond false h k = k
 
-  pub gives-only : {A : Type 0} (b : Bool) (a : A) {f : Form A} → FormRefusedWith P f → FormRefusedWith P (only b a f)
+  pub gives-only : {A : Type 0} (b : Bool) (a : A) {f : BlockFormat A} → FormatRefusedWith P f → FormatRefusedWith P (only b a f)
   gives-only b a h = gives-cond b h (gives-nothing a)
 
-  gives-items : {A : Type 0} {item : List A → Form A} → ((seen : List A) → FormRefusedWith P (item seen)) → (k : ℕ) → FormRefusedWith P (items item k)
+  gives-items : {A : Type 0} {item : List A → BlockFormat A} → ((seen : List A) → FormatRefusedWith P (item seen)) → (k : ℕ) → FormatRefusedWith P (items item k)
   unfolding items readItems
   gives-items {A} {item} h k = record { reads = go k [] }
     where
@@ -87,34 +87,34 @@ module _ {P : Fault → Type 0} where
 
   -- bytes may end inside a field
   module _ (ends : P fault.Ends) where
-    gives-run : (n : ℕ) → FormRefusedWith P (run n)
+    gives-run : (n : ℕ) → FormatRefusedWith P (run n)
     unfolding run
     gives-run n = record { reads = λ s. by-test P (leb n (length s)) (take n s) n fault.Ends 0 ends }
 
-    pub gives-number : (k : ℕ) → FormRefusedWith P (number k)
+    pub gives-number : (k : ℕ) → FormatRefusedWith P (number k)
     unfolding number
     gives-number k = gives-iso _ _ _ _ _ _ (gives-run k)
 
-    gives-s32 : FormRefusedWith P s32
+    gives-s32 : FormatRefusedWith P s32
     unfolding signed
     gives-s32 = gives-iso _ _ _ _ _ _ (gives-number 4)
 
-    pub gives-prefixed : (k : ℕ) → FormRefusedWith P (prefixed k)
+    pub gives-prefixed : (k : ℕ) → FormatRefusedWith P (prefixed k)
     unfolding prefixed
     gives-prefixed k = gives-iso _ _ _ _ _ _ (gives-number k then gives-run)
 
-    pub gives-constant : (k v : ℕ) (e : Fault) → P e → FormRefusedWith P (constant k v e)
+    pub gives-constant : (k v : ℕ) (e : Fault) → P e → FormatRefusedWith P (constant k v e)
     gives-constant k v e own = gives-refine (λ n. eqb n v) e own (gives-number k)
 
-    pub gives-fixed : {A : Type 0} (k v : ℕ) (e : Fault) {f : Form A} → P e → FormRefusedWith P f → FormRefusedWith P (fixed k v e f)
+    pub gives-fixed : {A : Type 0} (k v : ℕ) (e : Fault) {f : BlockFormat A} → P e → FormatRefusedWith P f → FormatRefusedWith P (fixed k v e f)
     unfolding behind
     gives-fixed k v e own h = gives-iso _ _ _ _ _ _ (gives-constant k v e own then λ _. h)
 
-    pub gives-listed : {A : Type 0} (k : ℕ) {item : List A → Form A} → ((seen : List A) → FormRefusedWith P (item seen)) → FormRefusedWith P (listed k item)
+    pub gives-listed : {A : Type 0} (k : ℕ) {item : List A → BlockFormat A} → ((seen : List A) → FormatRefusedWith P (item seen)) → FormatRefusedWith P (listed k item)
     unfolding listed
     gives-listed k h = gives-iso _ _ _ _ _ _ (gives-number k then gives-items h)
 
-    pub gives-inventory : FormRefusedWith P inventory
+    pub gives-inventory : FormatRefusedWith P inventory
     unfolding inventory
     gives-inventory = record { reads = λ s. go s (through true s) }
       where
@@ -123,27 +123,27 @@ module _ {P : Fault → Type 0} where
         go s (some n) = tt
 
     -- ---- rows
-    gives-position : P fault.PositionAbove → FormRefusedWith P position
+    gives-position : P fault.PositionAbove → FormatRefusedWith P position
     gives-position above = gives-refine (λ p. leb p 4095) fault.PositionAbove above (gives-number 2)
 
-    pub gives-new-position : {A : Type 0} (key : A → ℕ) (seen : List A) → P fault.PositionAbove → P fault.PositionTwice → FormRefusedWith P (newPosition key seen)
+    pub gives-new-position : {A : Type 0} (key : A → ℕ) (seen : List A) → P fault.PositionAbove → P fault.PositionTwice → FormatRefusedWith P (newPosition key seen)
     gives-new-position key seen above twice = gives-refine (unused key all seen) fault.PositionTwice twice (gives-position above)
 
     -- of a row that is judged alone, no number is taken
-    pub gives-first-position : {A : Type 0} (key : A → ℕ) → P fault.PositionAbove → FormRefusedWith P (newPosition key [])
+    pub gives-first-position : {A : Type 0} (key : A → ℕ) → P fault.PositionAbove → FormatRefusedWith P (newPosition key [])
     unfolding unused
     gives-first-position key above = gives-any fault.PositionTwice (gives-position above)
 
-    pub gives-name-row : {id : Form ℕ} → FormRefusedWith P id → FormRefusedWith P (nameRowBy id)
+    pub gives-name-row : {id : BlockFormat ℕ} → FormatRefusedWith P id → FormatRefusedWith P (nameRowBy id)
     gives-name-row h = gives-iso _ _ _ _ _ _ (h then λ _. gives-prefixed 2)
 
-    gives-variable : (v : ℕ) → P fault.PrivateByte → FormRefusedWith P (variable v)
+    gives-variable : (v : ℕ) → P fault.PrivateByte → FormatRefusedWith P (variable v)
     unfolding variable
     gives-variable v own =
         let hidden = gives-refine (λ b. leb b 1) fault.PrivateByte own (gives-number 1) in
         gives-iso _ _ _ _ _ _ (gives-prefixed 2 then λ _. gives-prefixed 4 then λ _. gives-only (since 28 v) 0 hidden)
 
-    pub gives-metadata-row : (v : ℕ) {at : Form ℕ} → P fault.PrivateByte → FormRefusedWith P at → FormRefusedWith P (metadataRowBy at (variable v) v)
+    pub gives-metadata-row : (v : ℕ) {at : BlockFormat ℕ} → P fault.PrivateByte → FormatRefusedWith P at → FormatRefusedWith P (metadataRowBy at (variable v) v)
     gives-metadata-row v own h =
         gives-iso _ _ _ _ _ _
         (h
@@ -152,53 +152,53 @@ module _ {P : Fault → Type 0} where
         then λ _. gives-only (since 23 v) [] (gives-listed 4 λ _. gives-variable v own)
         then λ _. gives-only (since 23 v) [] gives-inventory)
 
-    pub gives-object-row : FormRefusedWith P objectRow
+    pub gives-object-row : FormatRefusedWith P objectRow
     unfolding objectRow
     gives-object-row = gives-iso _ _ _ _ _ _ (gives-number 1 then λ _. gives-s32 then λ _. gives-s32 then λ _. gives-s32 then λ _. gives-prefixed 2)
 
-    pub gives-timer-row : {at : Form ℕ} → FormRefusedWith P at → FormRefusedWith P (timerRowBy at)
+    pub gives-timer-row : {at : BlockFormat ℕ} → FormatRefusedWith P at → FormatRefusedWith P (timerRowBy at)
     gives-timer-row h = gives-iso _ _ _ _ _ _ (h then λ _. gives-s32 then λ _. gives-s32)
 
     -- ---- the parts of the layout
-    pub gives-opening : P fault.Version → FormRefusedWith P opening
+    pub gives-opening : P fault.Version → FormatRefusedWith P opening
     unfolding opening
     gives-opening version =
         gives-iso _ _ _ _ _ _
         (gives-refine isVersion fault.Version version (gives-number 1) then λ v. gives-number 1 then λ _. gives-only (since 27 v) 65535 (gives-number 2))
 
-    pub gives-names : (free : ℕ → Bool) (seen : List NameRow) → P fault.IdTwice → FormRefusedWith P (nameRow free seen)
+    pub gives-names : (free : ℕ → Bool) (seen : List NameRow) → P fault.IdTwice → FormatRefusedWith P (nameRow free seen)
     unfolding nameRow
     gives-names free seen twice = gives-name-row (gives-refine (unmapped free seen) fault.IdTwice twice (gives-number 2))
 
-    pub gives-mapping : (free : ℕ → Bool) → P fault.MappingVersion → P fault.IdTwice → FormRefusedWith P (nameMapping free)
+    pub gives-mapping : (free : ℕ → Bool) → P fault.MappingVersion → P fault.IdTwice → FormatRefusedWith P (nameMapping free)
     unfolding nameMapping
     gives-mapping free version twice =
         gives-iso _ _ _ _ _ _ (gives-number 4 then λ _. gives-fixed 1 0 fault.MappingVersion version (gives-listed 2 λ seen. gives-names free seen twice))
 
-    pub gives-params : (v : ℕ) → FormRefusedWith P (params v)
+    pub gives-params : (v : ℕ) → FormatRefusedWith P (params v)
     unfolding params
     gives-params v =
         gives-iso _ _ _ _ _ _
         (gives-items (λ _. gives-number (width v)) 4096 then λ _. gives-items (λ _. gives-number 1) 4096 then λ _. gives-items (λ _. gives-number 1) 4096)
 
-    pub gives-nodes : (v : ℕ) → P fault.ContentWidth → P fault.ParamsWidth → FormRefusedWith P (nodes v)
+    pub gives-nodes : (v : ℕ) → P fault.ContentWidth → P fault.ParamsWidth → FormatRefusedWith P (nodes v)
     unfolding nodes
     gives-nodes v content widths = gives-fixed 1 (width v) fault.ContentWidth content (gives-fixed 1 2 fault.ParamsWidth widths (gives-params v))
 
     module _ (above : P fault.PositionAbove) (twice : P fault.PositionTwice) where
-      pub gives-metadata-rows : (v : ℕ) → P fault.PrivateByte → (seen : List MetadataRow) → FormRefusedWith P (metadataRow v seen)
+      pub gives-metadata-rows : (v : ℕ) → P fault.PrivateByte → (seen : List MetadataRow) → FormatRefusedWith P (metadataRow v seen)
       unfolding metadataRow
       gives-metadata-rows v own seen = gives-metadata-row v own (gives-new-position (λ (r : MetadataRow). r .position) seen above twice)
 
-      pub gives-metadata : (v : ℕ) → P fault.MetadataVersion → P fault.PrivateByte → FormRefusedWith P (metadata v)
+      pub gives-metadata : (v : ℕ) → P fault.MetadataVersion → P fault.PrivateByte → FormatRefusedWith P (metadata v)
       unfolding metadata
       gives-metadata v version own = gives-fixed (listVersionBytes v) (listVersion v) fault.MetadataVersion version (gives-listed 2 (gives-metadata-rows v own))
 
-      pub gives-timers : (seen : List TimerRow) → FormRefusedWith P (timerRow seen)
+      pub gives-timers : (seen : List TimerRow) → FormatRefusedWith P (timerRow seen)
       unfolding timerRow
       gives-timers seen = gives-timer-row (gives-new-position (λ (r : TimerRow). r .position) seen above twice)
 
-      pub gives-early : (v : ℕ) → P fault.TimerByte → P fault.ByteOf23 → FormRefusedWith P (earlyTimers v)
+      pub gives-early : (v : ℕ) → P fault.TimerByte → P fault.ByteOf23 → FormatRefusedWith P (earlyTimers v)
       unfolding earlyTimers
       gives-early v byte other =
           gives-only (before 25 v) noTimers
@@ -206,17 +206,17 @@ module _ {P : Fault → Type 0} where
           (gives-iso _ _ _ _ _ _ (gives-refine (λ t. leb t 1) fault.TimerByte byte (gives-number 1) then λ t. gives-only (eqb t 1) [] (gives-listed 2 gives-timers)))
           (gives-cond (since 23 v) (gives-fixed 1 0 fault.ByteOf23 other (gives-nothing noTimers)) (gives-nothing noTimers)))
 
-      pub gives-late : (v : ℕ) → P fault.TimerRowLength → FormRefusedWith P (lateTimers v)
+      pub gives-late : (v : ℕ) → P fault.TimerRowLength → FormatRefusedWith P (lateTimers v)
       unfolding lateTimers
       gives-late v length =
           gives-only (since 25 v) noTimers
           (gives-iso _ _ _ _ _ _ (gives-nothing 0 then λ _. gives-fixed 1 10 fault.TimerRowLength length (gives-listed 2 gives-timers)))
 
-    pub gives-objects : P fault.ObjectVersion → FormRefusedWith P objects
+    pub gives-objects : P fault.ObjectVersion → FormatRefusedWith P objects
     unfolding objects
     gives-objects version = gives-fixed 1 0 fault.ObjectVersion version (gives-listed 2 λ _. gives-object-row)
 
-    pub gives-front : (free : ℕ → Bool) → P fault.Version → P fault.MappingVersion → P fault.IdTwice → P fault.ContentWidth → P fault.ParamsWidth → FormRefusedWith P (front free)
+    pub gives-front : (free : ℕ → Bool) → P fault.Version → P fault.MappingVersion → P fault.IdTwice → P fault.ContentWidth → P fault.ParamsWidth → FormatRefusedWith P (front free)
     unfolding front
     gives-front free version mapping twice content widths =
         gives-iso _ _ _ _ _ _
@@ -226,17 +226,17 @@ module _ {P : Fault → Type 0} where
 
     -- what follows the static objects, and what follows the metadata
     pub gives-ending : (free : ℕ → Bool) (v : ℕ) → P fault.PositionAbove → P fault.PositionTwice → P fault.MappingVersion → P fault.IdTwice → P fault.TimerRowLength
-        → FormRefusedWith P (only (before 29 v) noMapping (nameMapping free) ▹ lateTimers v)
+        → FormatRefusedWith P (only (before 29 v) noMapping (nameMapping free) ▹ lateTimers v)
     gives-ending free v above twice mapping id length = gives-only (before 29 v) noMapping (gives-mapping free mapping id) then λ _. gives-late above twice v length
 
     pub gives-behind-metadata : (free : ℕ → Bool) (v : ℕ) → P fault.PositionAbove → P fault.PositionTwice → P fault.TimerByte → P fault.ByteOf23 → P fault.ObjectVersion
         → P fault.MappingVersion → P fault.IdTwice → P fault.TimerRowLength
-        → FormRefusedWith P (earlyTimers v ▹ objects ▹ only (before 29 v) noMapping (nameMapping free) ▹ lateTimers v)
+        → FormatRefusedWith P (earlyTimers v ▹ objects ▹ only (before 29 v) noMapping (nameMapping free) ▹ lateTimers v)
     gives-behind-metadata free v above twice byte other version mapping id length =
         gives-early above twice v byte other then λ _. gives-objects version then λ _. gives-ending free v above twice mapping id length
 
     pub gives-rest : (free : ℕ → Bool) (v : ℕ) → P fault.PositionAbove → P fault.PositionTwice → P fault.MetadataVersion → P fault.PrivateByte → P fault.TimerByte
-        → P fault.ByteOf23 → P fault.ObjectVersion → P fault.MappingVersion → P fault.IdTwice → P fault.TimerRowLength → FormRefusedWith P (rest free v)
+        → P fault.ByteOf23 → P fault.ObjectVersion → P fault.MappingVersion → P fault.IdTwice → P fault.TimerRowLength → FormatRefusedWith P (rest free v)
     unfolding rest
     gives-rest free v above twice list own byte other version mapping id length =
         gives-iso _ _ _ _ _ _ (gives-metadata above twice v list own then λ _. gives-behind-metadata free v above twice byte other version mapping id length)

@@ -12,7 +12,7 @@ use Rattle.wire.specs.Bytes.{Bytes, fromBE, toBE-length}
 use Rattle.wire.specs.Read.{Read, done, refused, mapRead, shift, not-done, map-done, bind-done, shift-done}
 use Rattle.wire.specs.Format.{run, nothing, refine, _⨾_, iso, items, encodeItems, readItems, pair, next}
 use Rattle.wire.specs.Formats.{number, behind, fixed, listed, only, into}
-use Rattle.mapblock.specs.Inventory.{Form}
+use Rattle.mapblock.specs.Inventory.{BlockFormat}
 use Rattle.wire.specs.Walk.{rowsRead}
 use Rattle.mapblock.specs.Data.{NameRow, MetadataRow, ObjectRow, TimerRow, NameMapping, Timers, noTimers, nameMappingShape, timersShape}
 use Rattle.mapblock.specs.Layout.{since, before, all, nameRow, metadataRow, objectRow, timerRow, nameMapping, listVersionBytes, listVersion, metadata, objects, earlyTimers, lateTimers}
@@ -40,7 +40,7 @@ num-takes k s {v} {n} h = go (leb k (length s)) h
     go false e = not-done e
 
 -- two that were read one after the other
-pub then-parts : {A B : Type 0} (f : Form A) (g : A → Form B) (s : List ℕ) {x : A × B} {n : ℕ} → (f ⨾ g) .read s ≡ done x n
+pub then-parts : {A B : Type 0} (f : BlockFormat A) (g : A → BlockFormat B) (s : List ℕ) {x : A × B} {n : ℕ} → (f ⨾ g) .read s ≡ done x n
     → (i : ℕ) × (j : ℕ) × (f .read s ≡ done (x .0) i) × (g (x .0) .read (drop i s) ≡ done (x .1) j) × (i + j ≡ n)
 unfolding _⨾_
 then-parts {A} {B} f g s {x} {n} h =
@@ -49,7 +49,7 @@ then-parts {A} {B} f g s {x} {n} h =
     let w = subst (λ (w : A × B). (f .read s ≡ done (w .0) (y .1)) × (g (w .0) .read (drop (y .1) s) ≡ done (w .1) (z .1))) (z .3) (y .2, z .2) in
     (y .1, z .1, w .0, w .1, z .4)
 
-module _ {A : Type 0} (k : ℕ) (item : List A → Form A) where
+module _ {A : Type 0} (k : ℕ) (item : List A → BlockFormat A) where
   listed-length : (l : List A) → length (listed k item .encode l) ≡ k + length (encodeItems item [] l)
   unfolding listed iso _⨾_ items
   listed-length l = rw (length-append, num-length k (length l))
@@ -124,10 +124,10 @@ objects-rows-length l = fixed-length 2 (λ _. objectRow) 1 0 fault.ObjectVersion
 abbrev pub AtEnd : Timers → ℕ → Type 0
 AtEnd k n = (length (encodeItems timerRow [] (k .rows)) ≡ n - cond (eqb (k .byte) 1) 3 n) × (cond (eqb (k .byte) 1) 3 n ≤ n)
 
-abbrev pub timersOf24 : Form Timers
+abbrev pub timersOf24 : BlockFormat Timers
 timersOf24 = into timersShape (refine (λ t. leb t 1) fault.TimerByte (number 1) ⨾ λ t. only (eqb t 1) [] (listed 2 timerRow))
 
-abbrev pub earlyBy : Bool → Bool → Bool → Form Timers
+abbrev pub earlyBy : Bool → Bool → Bool → BlockFormat Timers
 earlyBy a b c = only a noTimers (cond b timersOf24 (cond c (fixed 1 0 fault.ByteOf23 (nothing noTimers)) (nothing noTimers)))
 
 rows-none : (k : Timers) (n : ℕ) → k ≡ noTimers → AtEnd k n

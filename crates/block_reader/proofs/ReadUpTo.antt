@@ -10,7 +10,7 @@ use borrow.Author.Tests.{le-leb, lt-leb}
 use Rattle.wire.specs.Read.{Read, done, refused, mapRead, shift}
 use Rattle.wire.specs.Format.{nothing, _⨾_, pair, iso}
 use Rattle.wire.specs.Formats.{_▹_, only}
-use Rattle.mapblock.specs.Inventory.{Form}
+use Rattle.mapblock.specs.Inventory.{BlockFormat}
 use Rattle.mapblock.specs.Data.{Block, NameMapping, Timers, Front, Rest, Steps, noMapping, restShape, stepsShape}
 use Rattle.mapblock.specs.Layout.{before, nameMapping, metadata, earlyTimers, objects, lateTimers, front, rest, steps}
 use Rattle.mapblock.specs.Block.{block, blockFrom}
@@ -20,7 +20,7 @@ use Rattle.block_reader.proofs.Verdicts.{Then, then-one, then-more, the
 
 -- ---- the reading
 -- what may stand behind the static objects
-abbrev tail : (ℕ → Bool) → ℕ → Form (NameMapping × Timers)
+abbrev tail : (ℕ → Bool) → ℕ → BlockFormat (NameMapping × Timers)
 tail free v = only (before 29 v) noMapping (nameMapping free) ▹ lateTimers v
 
 abbrev joined : MiddleRows → NameMapping × Timers → Rest

@@ -12,7 +12,7 @@ use Rattle.wire.specs.Bytes.{Bytes, fromBE}
 use Rattle.wire.specs.Read.{done}
 use Rattle.wire.specs.Format.{Parsed, nothing, refine, _⨾_, iso, items, encodeItems}
 use Rattle.wire.specs.Formats.{behind, fixed, listed, only}
-use Rattle.mapblock.specs.Inventory.{Form}
+use Rattle.mapblock.specs.Inventory.{BlockFormat}
 use Rattle.mapblock.specs.Data.{Block, NameMapping, Timers, Nodes, MetadataRow, ObjectRow, noMapping, noTimers}
 use Rattle.mapblock.specs.Layout.{since, before, all, width, nameRow, metadataRow, objectRow, timerRow, opening, nameMapping, nodes, metadata, earlyTimers, objects, lateTimers, front, rest, steps}
 use Rattle.mapblock.specs.Block.{block, openingOf, nameMappingOf, timersOf, listsAt, frontNamesEnd, param0At, verdict}
@@ -48,7 +48,7 @@ rows-hold s p x q {r} end e (h, g) z =
     part-holds s (p ++ h) r q (end - length r) (e ∙ rw g (simp append-assoc)) place
 
 -- ---- rows stand at the end of their lists
-module _ {A : Type 0} (k : ℕ) (item : List A → Form A) where
+module _ {A : Type 0} (k : ℕ) (item : List A → BlockFormat A) where
   listed-ending : (l : List A) → Ending (listed k item .encode l) (encodeItems item [] l)
   unfolding listed iso _⨾_ items
   listed-ending l = (num k .encode (length l), refl)
@@ -208,23 +208,23 @@ module _ (x : Pieces) where
           rows-hold whole (toNodes ++ (x .metadata ++ [])) (x .early) (x .objects ++ (names₂ ++ [])) _ (rw z (simp append-assoc)) (early z) (rw (end, z))
 
 -- ---- a block's bytes
-slot-first : {A : Type 0} (b : Bool) (f : Form A) (x u : A) → only b u f .encode (cond b x u) ≡ cond b (f .encode x) []
+slot-first : {A : Type 0} (b : Bool) (f : BlockFormat A) (x u : A) → only b u f .encode (cond b x u) ≡ cond b (f .encode x) []
 unfolding nothing
 slot-first true f x u = refl
 slot-first false f x u = refl
 
-slot-second : {A : Type 0} (b : Bool) (f : Form A) (x u : A) → only (not b) u f .encode (cond b u x) ≡ cond b [] (f .encode x)
+slot-second : {A : Type 0} (b : Bool) (f : BlockFormat A) (x u : A) → only (not b) u f .encode (cond b u x) ≡ cond b [] (f .encode x)
 unfolding nothing
 slot-second true f x u = refl
 slot-second false f x u = refl
 
 -- where the other place has the format itself
-same-second : {A : Type 0} (b : Bool) (f : Form A) (x u : A) → only (not b) u f .encode (cond b u x) ≡ cond b [] (only (not b) u f .encode x)
+same-second : {A : Type 0} (b : Bool) (f : BlockFormat A) (x u : A) → only (not b) u f .encode (cond b u x) ≡ cond b [] (only (not b) u f .encode x)
 unfolding nothing
 same-second true f x u = refl
 same-second false f x u = refl
 
-same-first : {A : Type 0} (b : Bool) (f : Form A) (x u : A) → only b u f .encode (cond b x u) ≡ cond b (only b u f .encode x) []
+same-first : {A : Type 0} (b : Bool) (f : BlockFormat A) (x u : A) → only b u f .encode (cond b x u) ≡ cond b (only b u f .encode x) []
 unfolding nothing
 same-first true f x u = refl
 same-first false f x u = refl

@@ -18,12 +18,12 @@ use Rattle.wire.specs.Formats.{_▹_, behind, fixed, only}
 use Rattle.wire.proofs.Steps.{number-done, number-ends}
 use Rattle.wire.proofs.Tests.{and-yes}
 use Rattle.mapblock.proofs.Readings.{num}
-use Rattle.mapblock.specs.Inventory.{Form}
+use Rattle.mapblock.specs.Inventory.{BlockFormat}
 use Rattle.mapblock.specs.Numbers.{refusalNumber}
 use Rattle.block_reader.specs.FixedFields.{FixedField, NotAllowed, Differs}
 use Rattle.mapblock.specs.declared.fault.Fault.{Fault}
 use Rattle.mapblock.specs.declared.fault.Fault.the-variants as fault
-use Rattle.block_reader.proofs.GivenFaults.{ReadRefusedWith, FormRefusedWith, gives-nothing}
+use Rattle.block_reader.proofs.GivenFaults.{ReadRefusedWith, FormatRefusedWith, gives-nothing}
 
 -- refused with the number n at the place p
 abbrev pub Stops : {A : Type 0} → ℕ → Read Fault A → ℕ → Type 0
@@ -34,15 +34,15 @@ Stops n (refused e q) p = (refusalNumber e ≡ n) × (q ≡ p)
 abbrev pub Other : ℕ → Fault → Type 0
 Other n e = eqb (refusalNumber e) n ≡ false
 
-abbrev pub Never : {A : Type 0} → ℕ → Form A → Type 0
-Never n f = FormRefusedWith (Other n) f
+abbrev pub Never : {A : Type 0} → ℕ → BlockFormat A → Type 0
+Never n f = FormatRefusedWith (Other n) f
 
 module _ (n : ℕ) where
   stops-not : {A : Type 0} (r : Read Fault A) (p : ℕ) → ReadRefusedWith (Other n) r → Stops n r p → ⊥
   stops-not (done a m) p h k = k
   stops-not (refused e q) p h k = eqb-false (refusalNumber e) n h (k .0)
 
-  never : {A C : Type 0} {f : Form A} → Never n f → (s : List ℕ) (p : ℕ) → Stops n (f .read s) p → C
+  never : {A C : Type 0} {f : BlockFormat A} → Never n f → (s : List ℕ) (p : ℕ) → Stops n (f .read s) p → C
   never {f = f} h s p k = absurd (stops-not (f .read s) p (h .reads s) k)
 
   -- ---- readings
@@ -64,7 +64,7 @@ module _ (n : ℕ) where
 
 -- ---- one format after another
 -- the second of two stops, and p is told from the first byte of the first
-pub record Behind {A B : Type 0} (n : ℕ) (f : Form A) (g : A → Form B) (s : List ℕ) (p : ℕ) : Type 0 where
+pub record Behind {A B : Type 0} (n : ℕ) (f : BlockFormat A) (g : A → BlockFormat B) (s : List ℕ) (p : ℕ) : Type 0 where
   pub a : A
   pub m : ℕ
   pub q : ℕ
@@ -72,7 +72,7 @@ pub record Behind {A B : Type 0} (n : ℕ) (f : Form A) (g : A → Form B) (s : 
   pub stops : Stops n (g a .read (drop m s)) q
   pub place : m + q ≡ p
 
-module _ (n : ℕ) {A B : Type 0} (f : Form A) (g : A → Form B) (s : List ℕ) (p : ℕ) where
+module _ (n : ℕ) {A B : Type 0} (f : BlockFormat A) (g : A → BlockFormat B) (s : List ℕ) (p : ℕ) where
   pub then-stops : Stops n ((f ⨾ g) .read s) p → Stops n (f .read s) p ⊎ Behind n f g s p
   unfolding _⨾_
   then-stops h = go (f .read s) refl h
@@ -96,17 +96,17 @@ module _ (n : ℕ) {A B : Type 0} (f : Form A) (g : A → Form B) (s : List ℕ)
   stops-behind h = rw (h .reads) (stops-shift n (h .m) (pair (h .a)) (g (h .a) .read (drop (h .m) s)) p (h .q) (h .stops) (h .place))
 
 -- ---- a format that stops with the number at its first byte alone, where it is present and its number of k bytes is not allowed
-pub record Here {A : Type 0} (n : ℕ) (f : Form A) (present : Bool) (k : ℕ) (allowed : ℕ → Bool) : Type 0 where
+pub record Here {A : Type 0} (n : ℕ) (f : BlockFormat A) (present : Bool) (k : ℕ) (allowed : ℕ → Bool) : Type 0 where
   pub found : (s : List ℕ) (p : ℕ) → Stops n (f .read s) p → (p ≡ 0) × (present ≡ true) × NotAllowed k allowed s
   pub given : (s : List ℕ) → present ≡ true → NotAllowed k allowed s → Stops n (f .read s) 0
 
 -- a format that stops with the number exactly where one of the fields differs
-pub record StopsExactly {I A B : Type 0} (n : ℕ) (f : Form B) (fields : I → FixedField A) : Type 0 where
+pub record StopsExactly {I A B : Type 0} (n : ℕ) (f : BlockFormat B) (fields : I → FixedField A) : Type 0 where
   pub found : (s : List ℕ) (p : ℕ) → Stops n (f .read s) p → (i : I) × Differs (fields i) s p
   pub given : (s : List ℕ) (p : ℕ) (i : I) → Differs (fields i) s p → Stops n (f .read s) p
 
 -- a field behind what f reads
-abbrev pub fieldBehind : {A B : Type 0} → Form A → (A → FixedField B) → FixedField (A × B)
+abbrev pub fieldBehind : {A B : Type 0} → BlockFormat A → (A → FixedField B) → FixedField (A × B)
 fieldBehind f field = record {
   before = f ⨾ λ a. field a .before;
   present = λ x. field (x .0) .present (x .1);
@@ -119,7 +119,7 @@ fieldBehind f field = record {
 abbrev OtherBehind : {A : Type 0} → FixedField A → List ℕ → A → Type 0
 OtherBehind field s a = (field .present a ≡ true) × NotAllowed (field .bytes a) (field .allowed a) s
 
-module _ (n : ℕ) {A B C : Type 0} (f : Form A) (g : A → Form B) (field : A → FixedField C) (s : List ℕ) (p : ℕ) where
+module _ (n : ℕ) {A B C : Type 0} (f : BlockFormat A) (g : A → BlockFormat B) (field : A → FixedField C) (s : List ℕ) (p : ℕ) where
   pub differs-behind : (z : Behind n f g s p) → Differs (field (z .a)) (drop (z .m) s) (z .q) → Differs (fieldBehind f field) s p
   unfolding _⨾_
   differs-behind z d = record {
@@ -166,7 +166,7 @@ module _ {n : ℕ} where
           tested-found s (fromBE 0 (take k s)) p r (allowed (fromBE 0 (take k s))) refl (rw r at z)
       found s p false h z = absurd (eqb-false (refusalNumber fault.Ends) n ends ((rw (number-ends fault.Ends k s (leb-false _ _ h)) at z) .0))
 
-  pub here-iso : {A B : Type 0} {present : Bool} {k : ℕ} {allowed : ℕ → Bool} (Ok : B → Type 0) (to : A → B) (from : B → A) (f : Form A)
+  pub here-iso : {A B : Type 0} {present : Bool} {k : ℕ} {allowed : ℕ → Bool} (Ok : B → Type 0) (to : A → B) (from : B → A) (f : BlockFormat A)
       (there : (b : B) → Ok b → f .Ok (from b) × (to (from b) ≡ b)) (back : (a : A) → f .Ok a → Ok (to a) × (from (to a) ≡ a))
       → Here n f present k allowed → Here n (iso Ok to from f there back) present k allowed
   unfolding iso
@@ -175,7 +175,7 @@ module _ {n : ℕ} where
     given = λ s b z. stops-map n to (f .read s) 0 (h .given s b z);
   }
 
-  pub here-first : {A B : Type 0} {present : Bool} {k : ℕ} {allowed : ℕ → Bool} {f : Form A} {g : A → Form B} → Here n f present k allowed
+  pub here-first : {A B : Type 0} {present : Bool} {k : ℕ} {allowed : ℕ → Bool} {f : BlockFormat A} {g : A → BlockFormat B} → Here n f present k allowed
       → ((a : A) → Never n (g a)) → Here n (f ⨾ g) present k allowed
   here-first {A} {B} {present} {k} {allowed} {f} {g} h rest = record {
     found = λ s p z. go s p (then-stops n f g s p z);
@@ -186,27 +186,27 @@ module _ {n : ℕ} where
       go s p (inl z) = h .found s p z
       go s p (inr z) = never n (rest (z .a)) (drop (z .m) s) (z .q) (z .stops)
 
-  pub here-fixed : {A : Type 0} (k v : ℕ) (e : Fault) {f : Form A} → Other n fault.Ends → refusalNumber e ≡ n → Never n f → Here n (fixed k v e f) true k (λ x. eqb x v)
+  pub here-fixed : {A : Type 0} (k v : ℕ) (e : Fault) {f : BlockFormat A} → Other n fault.Ends → refusalNumber e ≡ n → Never n f → Here n (fixed k v e f) true k (λ x. eqb x v)
   unfolding behind
   here-fixed k v e ends own h = here-iso _ _ _ _ _ _ (here-first (here-refine k (λ x. eqb x v) e ends own) (λ _. h))
 
-  pub here-absent : {A : Type 0} {f : Form A} (k : ℕ) (allowed : ℕ → Bool) → Never n f → Here n f false k allowed
+  pub here-absent : {A : Type 0} {f : BlockFormat A} (k : ℕ) (allowed : ℕ → Bool) → Never n f → Here n f false k allowed
   here-absent k allowed h = record { found = λ s p z. never n h s p z; given = λ s b z. no-true b }
 
   -- behind no bytes
-  pub here-nothing : {A B : Type 0} {present : Bool} {k : ℕ} {allowed : ℕ → Bool} (a : A) {f : Form B} → Here n f present k allowed → Here n (nothing a ▹ f) present k allowed
+  pub here-nothing : {A B : Type 0} {present : Bool} {k : ℕ} {allowed : ℕ → Bool} (a : A) {f : BlockFormat B} → Here n f present k allowed → Here n (nothing a ▹ f) present k allowed
   unfolding _⨾_ nothing
   here-nothing a {f} h = record {
     found = λ s p z. let x = shift-stops n 0 (pair a) (f .read s) p z in let y = h .found s (x .0) (x .1) in (sym (x .2) ∙ ap (λ (q : ℕ). 0 + q) (y .0), y .1, y .2);
     given = λ s b z. stops-shift n 0 (pair a) (f .read s) 0 0 (h .given s b z) refl;
   }
 
-  pub here-only : {A : Type 0} {k : ℕ} {allowed : ℕ → Bool} (b : Bool) (a : A) {f : Form A} → Here n f true k allowed → Here n (only b a f) b k allowed
+  pub here-only : {A : Type 0} {k : ℕ} {allowed : ℕ → Bool} (b : Bool) (a : A) {f : BlockFormat A} → Here n f true k allowed → Here n (only b a f) b k allowed
   here-only true a h = h
   here-only {k = k} {allowed = allowed} false a h = here-absent k allowed (gives-nothing a)
 
   -- ---- formats that stop where a field differs
-  pub exact-iso : {I A B C : Type 0} {fields : I → FixedField C} (Ok : B → Type 0) (to : A → B) (from : B → A) (f : Form A)
+  pub exact-iso : {I A B C : Type 0} {fields : I → FixedField C} (Ok : B → Type 0) (to : A → B) (from : B → A) (f : BlockFormat A)
       (there : (b : B) → Ok b → f .Ok (from b) × (to (from b) ≡ b)) (back : (a : A) → f .Ok a → Ok (to a) × (from (to a) ≡ a))
       → StopsExactly n f fields → StopsExactly n (iso Ok to from f there back) fields
   unfolding iso
@@ -215,11 +215,11 @@ module _ {n : ℕ} where
     given = λ s p i z. stops-map n to (f .read s) p (h .given s p i z);
   }
 
-  pub exact-absent : {I A B : Type 0} {f : Form B} {fields : I → FixedField A} → Never n f → ((i : I) (a : A) → fields i .present a ≡ true → ⊥) → StopsExactly n f fields
+  pub exact-absent : {I A B : Type 0} {f : BlockFormat B} {fields : I → FixedField A} → Never n f → ((i : I) (a : A) → fields i .present a ≡ true → ⊥) → StopsExactly n f fields
   exact-absent h none = record { found = λ s p z. never n h s p z; given = λ s p i z. absurd (none i (z .earlier) (z .present)) }
 
   -- one field, at the end of f
-  pub exact-then-here : {A B : Type 0} {f : Form A} {g : A → Form B} {present : A → Bool} {k : A → ℕ} {allowed : A → ℕ → Bool} → Never n f
+  pub exact-then-here : {A B : Type 0} {f : BlockFormat A} {g : A → BlockFormat B} {present : A → Bool} {k : A → ℕ} {allowed : A → ℕ → Bool} → Never n f
       → ((a : A) → Here n (g a) (present a) (k a) (allowed a))
       → StopsExactly n (f ⨾ g) (λ (_ : Unit {0}). record { before = f; present = present; bytes = k; allowed = allowed })
   exact-then-here {A} {B} {f} {g} {present} {k} {allowed} h behind = record {
@@ -242,7 +242,7 @@ module _ {n : ℕ} where
           record { earlier = z .a; reads = z .reads ∙ ap (done (z .a)) e; present = x .1; other = rw (← e) (x .2) }
 
   -- fields of the first of two
-  pub exact-first : {I A B C : Type 0} {f : Form A} {g : A → Form B} {fields : I → FixedField C} → StopsExactly n f fields → ((a : A) → Never n (g a)) → StopsExactly n (f ⨾ g) fields
+  pub exact-first : {I A B C : Type 0} {f : BlockFormat A} {g : A → BlockFormat B} {fields : I → FixedField C} → StopsExactly n f fields → ((a : A) → Never n (g a)) → StopsExactly n (f ⨾ g) fields
   exact-first {I} {A} {B} {C} {f} {g} {fields} h rest = record {
     found = λ s p z. go s p (then-stops n f g s p z);
     given = λ s p i z. stops-first n f g s p (h .given s p i z);
@@ -253,7 +253,7 @@ module _ {n : ℕ} where
       go s p (inr z) = never n (rest (z .a)) (drop (z .m) s) (z .q) (z .stops)
 
   -- fields of the second of two
-  pub exact-behind : {I A B C : Type 0} {f : Form A} {g : A → Form B} {fields : A → I → FixedField C} → Never n f → ((a : A) → StopsExactly n (g a) (fields a))
+  pub exact-behind : {I A B C : Type 0} {f : BlockFormat A} {g : A → BlockFormat B} {fields : A → I → FixedField C} → Never n f → ((a : A) → StopsExactly n (g a) (fields a))
       → StopsExactly n (f ⨾ g) (λ i. fieldBehind f λ a. fields a i)
   exact-behind {I} {A} {B} {C} {f} {g} {fields} h behind = record {
     found = λ s p z. go s p (then-stops n f g s p z);
@@ -267,7 +267,7 @@ module _ {n : ℕ} where
           (x .0, differs-behind n f g (λ a. fields a (x .0)) s p z (x .1))
 
   -- behind no bytes
-  pub exact-nothing : {I A B C : Type 0} {fields : I → FixedField C} (a : A) {f : Form B} → StopsExactly n f fields → StopsExactly n (nothing a ▹ f) fields
+  pub exact-nothing : {I A B C : Type 0} {fields : I → FixedField C} (a : A) {f : BlockFormat B} → StopsExactly n f fields → StopsExactly n (nothing a ▹ f) fields
   unfolding _⨾_ nothing
   exact-nothing {fields = fields} a {f} h = record {
     found = λ s p z.
@@ -278,7 +278,7 @@ module _ {n : ℕ} where
   }
 
 -- ---- so many items, each told those before it
-module _ {R : Type 0} (n : ℕ) (item : List R → Form R) where
+module _ {R : Type 0} (n : ℕ) (item : List R → BlockFormat R) where
   -- the item behind k others stops
   record ItemStops (count : ℕ) (seen : List R) (s : List ℕ) (p : ℕ) : Type 0 where
     k : ℕ
@@ -334,7 +334,7 @@ module _ {R : Type 0} (n : ℕ) (item : List R → Form R) where
       rw (y .2) (stops-shift n (y .1) (λ l. y .0 ∷ l) (readItems item count (y .0 ∷ seen) (drop (y .1) s)) p (z .1 + q) ih (omega (arith, z .4, e)))
 
 -- a field of the next item, behind k of so many
-abbrev pub rowField : {I R C : Type 0} → (List R → Form R) → (List R → I → FixedField C) → ℕ → ℕ × I → FixedField (List R × C)
+abbrev pub rowField : {I R C : Type 0} → (List R → BlockFormat R) → (List R → I → FixedField C) → ℕ → ℕ × I → FixedField (List R × C)
 rowField item fields count x = record {
   before = items item (x .0) ⨾ λ rows. fields (reverse rows) (x .1) .before;
   present = λ a. ltb (x .0) count && fields (reverse (a .0)) (x .1) .present (a .1);
@@ -342,7 +342,7 @@ rowField item fields count x = record {
   allowed = λ a. fields (reverse (a .0)) (x .1) .allowed (a .1);
 }
 
-module _ {n : ℕ} {I R C : Type 0} {item : List R → Form R} {fields : List R → I → FixedField C} (h : (seen : List R) → StopsExactly n (item seen) (fields seen)) (count : ℕ) where
+module _ {n : ℕ} {I R C : Type 0} {item : List R → BlockFormat R} {fields : List R → I → FixedField C} (h : (seen : List R) → StopsExactly n (item seen) (fields seen)) (count : ℕ) where
   items-found : (s : List ℕ) (p : ℕ) → Stops n (items item count .read s) p → (x : ℕ × I) × Differs (rowField item fields count x) s p
   unfolding items
   items-found s p z =

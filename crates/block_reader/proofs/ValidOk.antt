@@ -12,7 +12,7 @@ use borrow.Author.Tests.{le-leb, lt-leb, leb-true, eqb-true, eqb-false}
 use Rattle.wire.proofs.Tests.{and-yes, yes-and}
 use Rattle.wire.specs.Format.{nothing, refine, _⨾_, iso, items, OkItems, items-length}
 use Rattle.wire.specs.Formats.{number, u16, fixed, listed, times, only}
-use Rattle.mapblock.specs.Inventory.{Form}
+use Rattle.mapblock.specs.Inventory.{BlockFormat}
 use Rattle.mapblock.specs.Data.{NameRow, MetadataRow, ObjectRow, TimerRow, Nodes, Opening, NameMapping, Timers, Block, noMapping, noTimers}
 use Rattle.mapblock.specs.Layout.{since, all, unmapped, nameRow, metadataRow, objectRow, timerRow, nameMapping, width, params, nodes, listVersionBytes, listVersion, metadata, objects, earlyTimers, lateTimers, opening, front, rest, steps}
 use Rattle.mapblock.specs.Block.{openingOf, nameMappingOf, timersOf, block, idAt, firstUnmapped}
@@ -188,7 +188,7 @@ name-mapping-ok x =
     ((λ h. (h .0, rows .0 (list .0 (h .1)))), λ h. (h .0, list .1 (rows .1 (h .1))))
 
 -- they stand in front or behind
-pub slot-ok : {A : Type 0} (f : Form A) (a₀ a : A) (c : Bool) → (only c a₀ f .Ok (cond c a a₀) × only (not c) a₀ f .Ok (cond c a₀ a)) ↔ f .Ok a
+pub slot-ok : {A : Type 0} (f : BlockFormat A) (a₀ a : A) (c : Bool) → (only c a₀ f .Ok (cond c a a₀) × only (not c) a₀ f .Ok (cond c a₀ a)) ↔ f .Ok a
 unfolding nothing
 slot-ok f a₀ a true = ((λ h. h .0), λ h. (h, refl))
 slot-ok f a₀ a false = ((λ h. h .1), λ h. (refl, h))

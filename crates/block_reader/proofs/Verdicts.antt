@@ -13,7 +13,7 @@ use Rattle.wire.specs.Bytes.{Bytes, bytes-drop}
 use Rattle.wire.specs.Read.{Read, done, refused, mapRead, shift, not-done, same-refusal, map-done, map-refused, shift-done, shift-refused}
 use Rattle.wire.specs.Format.{_⨾_, iso, pair, ends-in}
 use Rattle.wire.specs.Formats.{Shape, into, _▹_}
-use Rattle.mapblock.specs.Inventory.{Form}
+use Rattle.mapblock.specs.Inventory.{BlockFormat}
 use Rattle.mapblock.specs.Data.{Block, Timers}
 use Rattle.mapblock.specs.Layout.{width, lateTimers}
 use Rattle.mapblock.specs.Block.{block, firstUnmapped, param0At, verdict}
@@ -37,15 +37,15 @@ map-shift n f g (done a k) = refl
 map-shift n f g (refused e p) = refl
 
 -- ---- G is F, and then X
-pub record Then {A B C : Type 0} (F : Form A) (G : Form B) (X : Form C) (put : A → C → B) : Type 0 where
+pub record Then {A B C : Type 0} (F : BlockFormat A) (G : BlockFormat B) (X : BlockFormat C) (put : A → C → B) : Type 0 where
   pub fails : (s : List ℕ) (e : Fault) (p : ℕ) → F .read s ≡ refused e p → G .read s ≡ refused e p
   pub goes : (s : List ℕ) (a : A) (n : ℕ) → F .read s ≡ done a n → G .read s ≡ shift n (put a) (X .read (drop n s))
 
-pub then-one : {A C : Type 0} (F : Form A) (X : Form C) → Then F (F ▹ X) X pair
+pub then-one : {A C : Type 0} (F : BlockFormat A) (X : BlockFormat C) → Then F (F ▹ X) X pair
 unfolding _⨾_
 then-one F X = record { fails = λ s e p h. rw h; goes = λ s a n h. rw h }
 
-module _ {A B C D : Type 0} (H : Form D) (F : Form A) (G : Form B) (X : Form C) (put : A → C → B) (t : Then F G X put) where
+module _ {A B C D : Type 0} (H : BlockFormat D) (F : BlockFormat A) (G : BlockFormat B) (X : BlockFormat C) (put : A → C → B) (t : Then F G X put) where
   more-fails : (s : List ℕ) (e : Fault) (p : ℕ) (r : Read Fault D) → H .read s ≡ r → (H ▹ F) .read s ≡ refused e p → (H ▹ G) .read s ≡ refused e p
   unfolding _⨾_
   more-fails s e p (done d n) g h =
@@ -71,7 +71,7 @@ module _ {A B C D : Type 0} (H : Form D) (F : Form A) (G : Form B) (X : Form C) 
   then-more = record { fails = λ s e p h. more-fails s e p (H .read s) refl h; goes = λ s x m h. more-goes s x m (H .read s) refl h }
 
 -- the same of records
-module _ {A A' B B' C : Type 0} (K : Shape A A') (L : Shape B B') (F : Form A) (G : Form B) (X : Form C) (put : A → C → B) (t : Then F G X put) where
+module _ {A A' B B' C : Type 0} (K : Shape A A') (L : Shape B B') (F : BlockFormat A) (G : BlockFormat B) (X : BlockFormat C) (put : A → C → B) (t : Then F G X put) where
   pub then-into : Then (into K F) (into L G) X (λ a c. L .make (put (K .parts a) c))
   unfolding iso
   then-into = record {

@@ -15,7 +15,7 @@ use Rattle.wire.specs.Formats.{number}
 use Rattle.wire.specs.Answer.{Answer, good}
 use Rattle.wire.specs.Walk.{GivesRows, rowsBehind}
 use Rattle.wire.proofs.Walks.{walk-rows, walk-ends}
-use Rattle.mapblock.specs.Inventory.{Form}
+use Rattle.mapblock.specs.Inventory.{BlockFormat}
 use Rattle.mapblock.specs.Data.{NameRow, MetadataRow, ObjectRow}
 use Rattle.mapblock.specs.Layout.{all, unused, isVersion, nameRow, variable, metadataRow, objectRow, timerRow}
 use Rattle.wire.specs.Ranges.{rangeTold, bytesIn}
@@ -35,7 +35,7 @@ use Rattle.block_reader.proofs.RunsThere.{runs-are-there}
 
 -- ---- rows of any format
 -- A list's rows are those of `item`, each told those before it, and the question judges the front row alone, as `item []` does.
-record Asks {A B : Type 0} (item : List A → Form A) (Good : A → Type 0) (fields : A → B) (ask : List ℕ → Answer (B × ℕ)) : Type 0 where
+record Asks {A B : Type 0} (item : List A → BlockFormat A) (Good : A → Type 0) (fields : A → B) (ask : List ℕ → Answer (B × ℕ)) : Type 0 where
   front : (s : List ℕ) → ask s ≡ frontRow s (mapRead fields (item [] .read s))
   -- a row's bytes do not say which rows were before it, and a good row can be written with none before it
   alike : (seen : List A) (a : A) → item seen .encode a ≡ item [] .encode a
@@ -44,13 +44,13 @@ record Asks {A B : Type 0} (item : List A → Form A) (Good : A → Type 0) (fie
   nothing : Misread (item [] .read [])
 
 -- the bytes of good rows, behind those seen
-record Held {A : Type 0} (item : List A → Form A) (Good : A → Type 0) (s : List ℕ) (l : List A) : Type 0 where
+record Held {A : Type 0} (item : List A → BlockFormat A) (Good : A → Type 0) (s : List ℕ) (l : List A) : Type 0 where
   are-bytes : Bytes s
   seen : List A
   rows : s ≡ encodeItems item seen l
   each : Each Good l
 
-module _ {A B : Type 0} {item : List A → Form A} {Good : A → Type 0} {fields : A → B} {ask : List ℕ → Answer (B × ℕ)} (q : Asks item Good fields ask) where
+module _ {A B : Type 0} {item : List A → BlockFormat A} {Good : A → Type 0} {fields : A → B} {ask : List ℕ → Answer (B × ℕ)} (q : Asks item Good fields ask) where
   abbrev Rows : List ℕ → List A → Type 0
   Rows = Held item Good
 
@@ -135,7 +135,7 @@ timer-asked = record {
 
 -- ---- a block that is taken
 -- a section's rows, held in its range
-section : {A : Type 0} {item : List A → Form A} {Good : A → Type 0} {s : List ℕ} {p : Range} (l : List A) → Bytes s → Holds s p (encodeItems item [] l) → Each Good l
+section : {A : Type 0} {item : List A → BlockFormat A} {Good : A → Type 0} {s : List ℕ} {p : Range} (l : List A) → Bytes s → Holds s p (encodeItems item [] l) → Each Good l
     → Held item Good (bytesIn s p) l
 section {s = s} {p = p} l w h g = record { are-bytes = bytes-take (p .length) (drop (p .start) s) (bytes-drop (p .start) s w); seen = []; rows = h .bytes; each = g }
 

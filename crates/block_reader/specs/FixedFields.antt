@@ -11,7 +11,7 @@ use Rattle.wire.specs.Read.{done}
 use Rattle.wire.specs.Format.{_⨾_, items}
 use Rattle.wire.specs.Formats.{_▹_, constant, number, u16, u32, prefixed, only}
 use Rattle.wire.specs.Answer.{refusal, contentWidthDiffers, paramsWidthDiffers, metadataVersionDiffers, privateByteDiffers, timerByteDiffers, objectVersionDiffers, mappingVersionDiffers, timerRowLengthDiffers}
-use Rattle.mapblock.specs.Inventory.{Form}
+use Rattle.mapblock.specs.Inventory.{BlockFormat}
 use Rattle.mapblock.specs.Data.{Variable, MetadataRow, ObjectRow, Opening, NameMapping, Timers, Front, noMapping}
 use Rattle.mapblock.specs.Layout.{since, before, all, newPosition, variable, metadataRow, width, nameMapping, listVersionBytes, listVersion, metadata, earlyTimers, objects, opening, front}
 use Rattle.block_reader.specs.Questions.{blockOf}
@@ -20,7 +20,7 @@ use Rattle.mapblock.specs.declared.fault.Fault.the-variants as fault
 -- A field that is fixed: what stands before it in a block; and, told that, whether the block has the field, its bytes, and the values that it
 -- may have.
 pub record FixedField (A : Type 0) : Type 1 where
-  pub before : Form A
+  pub before : BlockFormat A
   pub present : A → Bool
   pub bytes : A → ℕ
   pub allowed : A → ℕ → Bool
@@ -40,11 +40,11 @@ pub record Differs {A : Type 0} (f : FixedField A) (s : List ℕ) (p : ℕ) : Ty
 
 -- ---- the fields, by the steps of document 01's 'Block layout'
 -- a field of one byte that has one value in every version
-abbrev byte : {A : Type 0} → Form A → (A → Bool) → ℕ → FixedField A
+abbrev byte : {A : Type 0} → BlockFormat A → (A → Bool) → ℕ → FixedField A
 byte before present v = record { before = before; present = present; bytes = λ a. 1; allowed = λ a n. eqb n v }
 
 -- step 2, which version 29 has
-abbrev pub frontMapping : ℕ → Form NameMapping
+abbrev pub frontMapping : ℕ → BlockFormat NameMapping
 frontMapping v = only (since 29 v) noMapping (nameMapping all)
 
 abbrev pub frontVersion : Front → ℕ

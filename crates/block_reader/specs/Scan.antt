@@ -7,7 +7,7 @@ use lib.Dec.{eqb}
 use lib.ListN.{length, drop}
 use Rattle.wire.specs.Read.{Read, done, refused, shift}
 use Rattle.wire.specs.Formats.{Shape, into, _▹_}
-use Rattle.mapblock.specs.Inventory.{Form}
+use Rattle.mapblock.specs.Inventory.{BlockFormat}
 use Rattle.mapblock.specs.Data.{MetadataRow, ObjectRow, Opening, Timers, Front, Block}
 use Rattle.mapblock.specs.Layout.{since, all, width, unmapped, opening, nameMapping, metadata, earlyTimers, objects, lateTimers, front}
 use Rattle.mapblock.specs.Block.{block}
@@ -77,7 +77,7 @@ middleShape = record {
   back = λ x. refl;
 }
 
-abbrev pub middle : ℕ → Form MiddleRows
+abbrev pub middle : ℕ → BlockFormat MiddleRows
 middle v = into middleShape (metadata v ▹ earlyTimers v ▹ objects)
 
 pub record MiddleIs (v : ℕ) (s : List ℕ) (w : MiddleFields) : Type 0 where

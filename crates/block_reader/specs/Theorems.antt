@@ -18,7 +18,7 @@ use Rattle.wire.specs.Formats.{number}
 use Rattle.wire.specs.Answer.{Answer, RefusedWith}
 use Rattle.wire.specs.Walk.{walk, GivesRows, rowsBehind}
 use Rattle.mapblock.specs.Data.{NameRow, MetadataRow, ObjectRow, Block}
-use Rattle.mapblock.specs.Inventory.{Form, endLine, through}
+use Rattle.mapblock.specs.Inventory.{BlockFormat, endLine, through}
 use Rattle.mapblock.specs.Layout.{all, width, nameRow, variable, metadataRow, objectRow, timerRow}
 use Rattle.mapblock.specs.Block.{block, firstUnmapped, param0At, verdict}
 use Rattle.mapblock.specs.Numbers.{blockNumbers}
@@ -138,7 +138,7 @@ pub record RunsAreThere : Type 0 where
 
 -- ---- rows from the front: document 01, 'Reading, looking, writing'
 -- what a row question tells of a row: its fields and its length
-abbrev pub rowShown : {A B : Type 0} → Form A → (A → B) → A → B × ℕ
+abbrev pub rowShown : {A B : Type 0} → BlockFormat A → (A → B) → A → B × ℕ
 rowShown f fields r = (fields r, length (f .encode r))
 
 -- The run that comes back of each row, where bytes are walked by their row question and what remains, is these bytes.

@@ -15,7 +15,7 @@ use Rattle.wire.specs.Format.{nothing, refine, _⨾_, iso}
 use Rattle.wire.specs.Formats.{_▹_, number, listed, only, u16}
 use Rattle.wire.proofs.EveryFormat.{every-format}
 use Rattle.wire.proofs.Looser.{Settled, settled, settled-ok, looser-self}
-use Rattle.mapblock.specs.Inventory.{Form}
+use Rattle.mapblock.specs.Inventory.{BlockFormat}
 use Rattle.mapblock.specs.Data.{NameRow, MetadataRow, ObjectRow, TimerRow, NameMapping, Timers, Nodes, Block, noMapping, frontShape, restShape}
 use Rattle.mapblock.specs.Layout.{since, all, isVersion, opening, nameMapping, nodes, metadata, earlyTimers, objects, objectRow, lateTimers, front, rest, steps}
 use Rattle.mapblock.specs.Block.{block, piecesOf, firstUnmapped, param0At, verdict}
@@ -152,7 +152,7 @@ nodes-verdictOn : (v : ℕ) (n : Nodes) → nodes v .Ok n → done tt (2 + lists
 nodes-verdictOn v n ok = sym (verdictOn-ok (nodes v) n ok ∙ ap (done tt) (nodes-done v (nodes v .encode n) (every-format (nodes v) .reads-back n ok) .0))
 
 module _ (h : Head) (l : List NameRow) (n : Nodes) (ok : opening .Ok (openingOn h)) (nk : nodes (h .version) .Ok n) where
-  abbrev behindOpening : (ℕ → Bool) → Form (NameMapping × Nodes)
+  abbrev behindOpening : (ℕ → Bool) → BlockFormat (NameMapping × Nodes)
   behindOpening free = only (since 29 (h .version)) noMapping (nameMapping free) ▹ nodes (h .version)
 
   -- k bytes of step 1

@@ -10,7 +10,7 @@ use borrow.Author.Tests.{leb-true, leb-false, eq-eqb, ne-eqb}
 use Rattle.wire.specs.Bytes.{Bytes, toBE}
 use Rattle.wire.specs.Format.{run, nothing, refine, _⨾_, iso, items, encodeItems}
 use Rattle.wire.specs.Formats.{number, behind, fixed, listed, only}
-use Rattle.mapblock.specs.Inventory.{Form}
+use Rattle.mapblock.specs.Inventory.{BlockFormat}
 use Rattle.mapblock.specs.Data.{NameRow, MetadataRow, ObjectRow, TimerRow, Nodes, Opening, NameMapping, Timers, noMapping, noTimers}
 use Rattle.mapblock.specs.Layout.{since, before, all, nameRow, metadataRow, objectRow, timerRow, opening, nameMapping, params, nodes, listVersionBytes, listVersion, metadata, objects, earlyTimers, lateTimers, front, rest, steps}
 use Rattle.mapblock.specs.Block.{block, openingOf, nameMappingOf, timersOf}
@@ -22,17 +22,17 @@ use Rattle.block_writer.specs.declared.counts.RowCounts.{RowCounts}
 use Rattle.block_writer.specs.Pieces.{listBytes, mappingBytes, nodesBytes, metadataBytes, earlyBytes, objectsBytes, lateBytes, blockBytes}
 
 -- a list behind a number that is fixed, and its count
-fixed-bytes : {A : Type 0} (item : List A → Form A) (l : List A) (k v : ℕ) (e : Fault) → fixed k v e (listed 2 item) .encode l ≡ toBE k v ++ listBytes (length l) (encodeItems item [] l)
+fixed-bytes : {A : Type 0} (item : List A → BlockFormat A) (l : List A) (k v : ℕ) (e : Fault) → fixed k v e (listed 2 item) .encode l ≡ toBE k v ++ listBytes (length l) (encodeItems item [] l)
 unfolding behind listed iso _⨾_ refine items number run
 fixed-bytes item l k v e = refl
 
 -- ---- formats chosen by a test
-cond-bytes : {A : Type 0} (b : Bool) (f g : Form A) (a : A) → cond b f g .encode a ≡ cond b (f .encode a) (g .encode a)
+cond-bytes : {A : Type 0} (b : Bool) (f g : BlockFormat A) (a : A) → cond b f g .encode a ≡ cond b (f .encode a) (g .encode a)
 cond-bytes true f g a = refl
 cond-bytes false f g a = refl
 
 -- what stands in one of two places
-module _ {A : Type 0} (none : A) (f : Form A) (a : A) where
+module _ {A : Type 0} (none : A) (f : BlockFormat A) (a : A) where
   only-here : (b : Bool) → only b none f .encode (cond b a none) ≡ cond b (f .encode a) []
   unfolding nothing
   only-here true = refl
@@ -84,7 +84,7 @@ bytes-of-24 : (x : Timers) → timersOf24 .encode x ≡ toBE 1 (x .byte) ++ cond
 unfolding listed iso _⨾_ refine nothing items number run
 bytes-of-24 x = rw (cond-bytes (eqb (x .byte) 1) (listed 2 timerRow) (nothing []) (x .rows))
 
-abbrev zeroOf23 : Form Timers
+abbrev zeroOf23 : BlockFormat Timers
 zeroOf23 = fixed 1 0 fault.ByteOf23 (nothing noTimers)
 
 pub early-bytes : (v : ℕ) (x : Timers) → earlyTimers v .encode (cond (since 25 v) noTimers x) ≡ earlyBytes v (x .byte) (length (x .rows)) (encodeItems timerRow [] (x .rows))

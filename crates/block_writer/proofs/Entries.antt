@@ -12,12 +12,12 @@ use Rattle.wire.specs.Store.{overwrite, PutAt}
 use Rattle.wire.specs.Format.{iso, run, encodeItems}
 use Rattle.wire.specs.Formats.{number}
 use Rattle.wire.proofs.Overwrites.{overwrite-none, overwrite-length, overwrite-last}
-use Rattle.mapblock.specs.Inventory.{Form}
+use Rattle.mapblock.specs.Inventory.{BlockFormat}
 use Rattle.mapblock.specs.Layout.{width}
 use Rattle.mapblock.proofs.Entries.{width-old, width-new}
 use Rattle.block_writer.specs.Pieces.{entryBytes}
 
-abbrev entry : ℕ → List ℕ → Form ℕ
+abbrev entry : ℕ → List ℕ → BlockFormat ℕ
 entry w seen = number w
 
 module _ (w : ℕ) where

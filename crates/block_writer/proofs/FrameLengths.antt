@@ -14,7 +14,7 @@ use Rattle.wire.specs.Format.{_⨾_, next, pair, iso, ends-in}
 use Rattle.wire.specs.Formats.{_▹_, u16, s32, signed}
 use Rattle.wire.proofs.Steps.{number-done, number-ends}
 use Rattle.wire.proofs.Joints.{refine-all}
-use Rattle.mapblock.specs.Inventory.{Form}
+use Rattle.mapblock.specs.Inventory.{BlockFormat}
 use Rattle.mapblock.specs.Layout.{all, unused, unmapped, nameRow}
 use Rattle.mapblock.specs.MetadataChecks.{metadataRowFor}
 use Rattle.mapblock.specs.Rows.{nameFields, metadataFields}
@@ -45,24 +45,24 @@ length-none : {A : Type 0} (r : Read Fault A) → none ≡ lengthRead r → (e :
 length-none (done a m) h = absurd (Option·none-ne-some m h)
 length-none (refused e p) h = (e, p, refl)
 
-abbrev pub Long : {A : Type 0} → Form A → List ℕ → Option ℕ
+abbrev pub Long : {A : Type 0} → BlockFormat A → List ℕ → Option ℕ
 Long f s = lengthRead (f .read s)
 
 -- what was told of a reading has its length
-pub long-told : {A B : Type 0} (to : A → B) (f : Form A) (s : List ℕ) {r : Read Fault B} → r ≡ mapRead to (f .read s) → lengthRead r ≡ Long f s
+pub long-told : {A B : Type 0} (to : A → B) (f : BlockFormat A) (s : List ℕ) {r : Read Fault B} → r ≡ mapRead to (f .read s) → lengthRead r ≡ Long f s
 long-told to f s h = rw h (length-map to (f .read s))
 
-pub long-done : {A : Type 0} (f : Form A) (s : List ℕ) {n : ℕ} → some n ≡ Long f s → (a : A) × (f .read s ≡ done a n)
+pub long-done : {A : Type 0} (f : BlockFormat A) (s : List ℕ) {n : ℕ} → some n ≡ Long f s → (a : A) × (f .read s ≡ done a n)
 long-done f s h = length-some (f .read s) h
 
-pub long-refused : {A : Type 0} (f : Form A) (s : List ℕ) → none ≡ Long f s → (e : Fault) × (p : ℕ) × (f .read s ≡ refused e p)
+pub long-refused : {A : Type 0} (f : BlockFormat A) (s : List ℕ) → none ≡ Long f s → (e : Fault) × (p : ℕ) × (f .read s ≡ refused e p)
 long-refused f s h = length-none (f .read s) h
 
-pub long-in : {A : Type 0} (f : Form A) (s : List ℕ) {n : ℕ} → some n ≡ Long f s → n ≤ length s
+pub long-in : {A : Type 0} (f : BlockFormat A) (s : List ℕ) {n : ℕ} → some n ≡ Long f s → n ≤ length s
 long-in f s h = ends-in f (long-done f s h .1)
 
 -- ---- one after the other
-module _ {A B : Type 0} (f : Form A) (g : Form B) (s : List ℕ) where
+module _ {A B : Type 0} (f : BlockFormat A) (g : BlockFormat B) (s : List ℕ) where
   then-by : (r : Read Fault A) → lengthRead (bind r (next (λ _. g) s)) ≡ (given (lengthRead r) λ n. Option·map (λ m. n + m) (Long g (drop n s)))
   then-by (done a n) = length-shift n (pair a) (g .read (drop n s))
   then-by (refused e p) = refl
@@ -72,7 +72,7 @@ module _ {A B : Type 0} (f : Form A) (g : Form B) (s : List ℕ) where
   length-then = then-by (f .read s)
 
 -- a field of so many bytes
-abbrev Width : {A : Type 0} → ℕ → Form A → Type 0
+abbrev Width : {A : Type 0} → ℕ → BlockFormat A → Type 0
 Width w f = (s : List ℕ) → Long f s ≡ cond (leb w (length s)) (some w) none
 
 number-width : (k : ℕ) → Width k (num k)
@@ -87,7 +87,7 @@ unfolding signed iso
 s32-width s = length-map _ (num 4 .read s) ∙ number-width 4 s
 
 -- a field that is not empty, behind one of so many bytes
-skip : {A B : Type 0} (f : Form A) (g : Form B) (w : ℕ) (s : List ℕ) → Width w f → Long g [] ≡ none → Long (f ▹ g) s ≡ Option·map (λ m. w + m) (Long g (drop w s))
+skip : {A B : Type 0} (f : BlockFormat A) (g : BlockFormat B) (w : ℕ) (s : List ℕ) → Width w f → Long g [] ≡ none → Long (f ▹ g) s ≡ Option·map (λ m. w + m) (Long g (drop w s))
 skip f g w s h k = length-then f g s ∙ rw (h s) (go (leb w (length s)) refl)
   where
     go : (b : Bool) → leb w (length s) ≡ b
@@ -96,7 +96,7 @@ skip f g w s h k = length-then f g s ∙ rw (h s) (go (leb w (length s)) refl)
     go false e = let short : length s ≤ w = omega (arith, leb-false w (length s) e) in rw (drop-of-length-le s short, k)
 
 -- two fields of which the first is not empty
-begins : {A B : Type 0} (f : Form A) (g : Form B) → Long f [] ≡ none → Long (f ▹ g) [] ≡ none
+begins : {A B : Type 0} (f : BlockFormat A) (g : BlockFormat B) → Long f [] ≡ none → Long (f ▹ g) [] ≡ none
 begins f g h = length-then f g [] ∙ rw h
 
 -- ---- names

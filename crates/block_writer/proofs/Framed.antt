@@ -9,7 +9,7 @@ use Rattle.wire.specs.Choice.{no-true}
 use Rattle.wire.specs.Format.{nothing, refine, _⨾_}
 use Rattle.wire.specs.Formats.{_▹_, constant, u8, u16, u32, prefixed, listed, behind, fixed, only, into}
 use Rattle.wire.proofs.Looser.{Looser, looser-self, looser-refine, looser-trans, looser-then, looser-iso, looser-cond, looser-listed}
-use Rattle.mapblock.specs.Inventory.{Form, inventory}
+use Rattle.mapblock.specs.Inventory.{BlockFormat, inventory}
 use Rattle.mapblock.specs.Data.{NameRow, MetadataRow, TimerRow, NameMapping, Timers, noTimers, nameMappingShape, timersShape}
 use Rattle.mapblock.specs.Layout.{since, before, all, unused, unmapped, position, newPosition, nameRow, variable, metadataRow, timerRow, nameMapping, listVersionBytes, listVersion, metadata, earlyTimers, lateTimers}
 use Rattle.mapblock.specs.MetadataChecks.{variableFor, metadataRowFor}
@@ -28,7 +28,7 @@ pub not-ends : ValueFault fault.Ends → ⊥
 not-ends h = no-true h
 
 -- one after the other
-pub looser-both : {A B : Type 0} {f g : Form A} {h k : Form B} → Looser ValueFault f g → Looser ValueFault h k → Looser ValueFault (f ▹ h) (g ▹ k)
+pub looser-both : {A B : Type 0} {f g : BlockFormat A} {h k : BlockFormat B} → Looser ValueFault f g → Looser ValueFault h k → Looser ValueFault (f ▹ h) (g ▹ k)
 looser-both {f = f} {g = g} {h = h} {k = k} l m = looser-then f g (λ _. h) (λ _. k) l (λ _. m)
 
 pub name-looser : (free : ℕ → Bool) (seen : List NameRow) → Looser ValueFault (nameRow free seen) nameFrame
@@ -65,23 +65,23 @@ unfolding timerRow timerFrame
 timer-looser seen = looser-iso _ _ _ _ _ _ (looser-both (position-looser (λ (r : TimerRow). r .position) seen) (looser-self _)) _ _ _ _
 
 -- ---- the lists, with frames for rows
-abbrev pub savedFrame : Form NameMapping
+abbrev pub savedFrame : BlockFormat NameMapping
 savedFrame = into nameMappingShape (u32 ▹ fixed 1 0 fault.MappingVersion (listed 2 λ _. nameFrame))
 
-abbrev pub metadataListFrame : ℕ → Form (List MetadataRow)
+abbrev pub metadataListFrame : ℕ → BlockFormat (List MetadataRow)
 metadataListFrame v = fixed (listVersionBytes v) (listVersion v) fault.MetadataVersion (listed 2 λ _. metadataFrame v)
 
 -- the timer byte may have any value
-abbrev pub earlyFrame : ℕ → Form Timers
+abbrev pub earlyFrame : ℕ → BlockFormat Timers
 earlyFrame v = only (before 25 v) noTimers
     (cond (since 24 v) (into timersShape (u8 ⨾ λ t. only (eqb t 1) [] (listed 2 λ _. timerFrame)))
     (cond (since 23 v) (fixed 1 0 fault.ByteOf23 (nothing noTimers))
     (nothing noTimers)))
 
-abbrev pub lateFrame : ℕ → Form Timers
+abbrev pub lateFrame : ℕ → BlockFormat Timers
 lateFrame v = only (since 25 v) noTimers (into timersShape (nothing 0 ▹ fixed 1 10 fault.TimerRowLength (listed 2 λ _. timerFrame)))
 
-looser-fixed : {A : Type 0} (k v : ℕ) (e : Fault) {f g : Form A} → Looser ValueFault f g → Looser ValueFault (fixed k v e f) (fixed k v e g)
+looser-fixed : {A : Type 0} (k v : ℕ) (e : Fault) {f g : BlockFormat A} → Looser ValueFault f g → Looser ValueFault (fixed k v e f) (fixed k v e g)
 unfolding behind
 looser-fixed k v e {f} {g} l = looser-iso _ _ _ _ _ _ (looser-both (looser-self (constant k v e)) l) _ _ _ _
 

@@ -13,7 +13,7 @@ use Rattle.wire.specs.Read.{mapRead, map-done}
 use Rattle.wire.specs.Format.{nothing, _⨾_, iso}
 use Rattle.wire.specs.Formats.{_▹_, listed, only, into}
 use Rattle.wire.proofs.Looser.{Looser, Settled, looser-self, looser-then, looser-iso, looser-cond, settled}
-use Rattle.mapblock.specs.Inventory.{Form}
+use Rattle.mapblock.specs.Inventory.{BlockFormat}
 use Rattle.mapblock.specs.Data.{NameRow, MetadataRow, ObjectRow, TimerRow, Front, Rest, Steps, Block, noMapping, frontShape, restShape, stepsShape}
 use Rattle.mapblock.specs.Layout.{since, before, all, isVersion, objectRow, opening, nodes, objects, front, rest, steps}
 use Rattle.mapblock.specs.Block.{block, blockFrom, piecesOf, built-pieces}
@@ -74,13 +74,13 @@ unfolding blockMade
 of-made p b m = rw (fits-plain p .1 (m .fitting), m .names .are, m .metadata .are, m .objects .are, m .timers .are, m .same)
 
 -- ---- the eight steps, with frames for rows
-abbrev pub frontFrame : Form Front
+abbrev pub frontFrame : BlockFormat Front
 frontFrame = into frontShape (opening ⨾ λ o. only (since 29 (o .version)) noMapping savedFrame ▹ nodes (o .version))
 
-abbrev pub restFrame : ℕ → Form Rest
+abbrev pub restFrame : ℕ → BlockFormat Rest
 restFrame v = into restShape (metadataListFrame v ▹ earlyFrame v ▹ objects ▹ only (before 29 v) noMapping savedFrame ▹ lateFrame v)
 
-abbrev pub stepsFrame : Form Steps
+abbrev pub stepsFrame : BlockFormat Steps
 stepsFrame = into stepsShape (frontFrame ⨾ λ f. restFrame (f .opening .version))
 
 module _ (free : ℕ → Bool) where

@@ -11,7 +11,7 @@ use Rattle.wire.specs.Format.{refine, _⨾_, iso, pair, items, encodeItems, run
 use Rattle.wire.specs.Formats.{Shape, number, listed, behind, fixed, into}
 use Rattle.wire.proofs.EveryFormat.{every-format}
 use Rattle.wire.proofs.Looser.{Settled, followed, verdictOn-then}
-use Rattle.mapblock.specs.Inventory.{Form}
+use Rattle.mapblock.specs.Inventory.{BlockFormat}
 use Rattle.mapblock.specs.Told.{ended}
 use Rattle.mapblock.specs.declared.fault.Fault.{Fault}
 use Rattle.mapblock.specs.declared.fault.Fault.the-variants as fault
@@ -40,10 +40,10 @@ pub shift-thrice : (a b c : ℕ) (r : Read Fault (Unit {0})) → shift (a + b + 
 shift-thrice a b c r = sym (shift-on (a + b) c r) ∙ sym (shift-on a b (shift c (λ u. u) r))
 
 -- of a value that can be written
-pub verdictOn-ok : {A : Type 0} (f : Form A) (a : A) → f .Ok a → verdictOn f a ≡ done tt (length (f .encode a))
+pub verdictOn-ok : {A : Type 0} (f : BlockFormat A) (a : A) → f .Ok a → verdictOn f a ≡ done tt (length (f .encode a))
 verdictOn-ok f a ok = ap ended (every-format f .reads-back a ok)
 
-pub verdictOn-into : {A B : Type 0} (k : Shape A B) (f : Form A) (b : B) → verdictOn (into k f) b ≡ verdictOn f (k .parts b)
+pub verdictOn-into : {A B : Type 0} (k : Shape A B) (f : BlockFormat A) (b : B) → verdictOn (into k f) b ≡ verdictOn f (k .parts b)
 unfolding iso
 verdictOn-into k f b = ended-map (k .make) (f .read (f .encode (k .parts b)))
 
@@ -55,14 +55,14 @@ number-front k v t h = num k .forward v h t ∙ ap (done v) (toBE-length k v)
 number-behind : (k v : ℕ) (t : List ℕ) → drop k (toBE k v ++ t) ≡ t
 number-behind k v t = ap (λ (n : ℕ). drop n (toBE k v ++ t)) (sym (toBE-length k v)) ∙ drop-append-seam (toBE k v) t
 
-pub verdictOn-fixed : {A : Type 0} (k v : ℕ) (e : Fault) (f : Form A) (a : A) → v < 256 ^ k → verdictOn (fixed k v e f) a ≡ shift k (λ u. u) (verdictOn f a)
+pub verdictOn-fixed : {A : Type 0} (k v : ℕ) (e : Fault) (f : BlockFormat A) (a : A) → v < 256 ^ k → verdictOn (fixed k v e f) a ≡ shift k (λ u. u) (verdictOn f a)
 unfolding behind iso _⨾_ refine number run
 verdictOn-fixed k v e f a h =
     let t = f .encode a in
     ap ended (fixed-on fault.Ends k v e f (toBE k v ++ t) (number-front k v t h)) ∙ ended-shift k (λ x. x) (f .read (drop k (toBE k v ++ t)))
     ∙ ap (λ (s : List ℕ). shift k (λ u. u) (ended (f .read s))) (number-behind k v t)
 
-pub verdictOn-listed : {A : Type 0} (k : ℕ) (item : List A → Form A) (l : List A) → length l < 256 ^ k → verdictOn (listed k item) l ≡ shift k (λ u. u) (verdictOn (items item (length l)) l)
+pub verdictOn-listed : {A : Type 0} (k : ℕ) (item : List A → BlockFormat A) (l : List A) → length l < 256 ^ k → verdictOn (listed k item) l ≡ shift k (λ u. u) (verdictOn (items item (length l)) l)
 unfolding listed iso _⨾_ number run items
 verdictOn-listed k item l h =
     let t = encodeItems item [] l in
@@ -71,7 +71,7 @@ verdictOn-listed k item l h =
     ∙ ap (λ (s : List ℕ). shift k (λ u. u) (ended (items item (length l) .read s))) (number-behind k (length l) t)
 
 -- ---- one after the other
-module _ {A B : Type 0} (f : Form A) (g : A → Form B) (a : A) (b : B) (w : Settled f a) where
+module _ {A B : Type 0} (f : BlockFormat A) (g : A → BlockFormat B) (a : A) (b : B) (w : Settled f a) where
   both : ended ((f ⨾ g) .read ((f ⨾ g) .encode (pair a b))) ≡ followed (verdictOn f a) (length (f .encode a)) (λ u. u) (verdictOn (g a) b)
   both = ap ended (verdictOn-then f g a b w) ∙ go (f .read (f .encode a))
     where

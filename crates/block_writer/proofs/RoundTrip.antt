@@ -19,7 +19,7 @@ use Rattle.wire.specs.Format.{refine, _⨾_, iso, items, run, encodeItems}
 use Rattle.wire.specs.Formats.{number, listed}
 use Rattle.wire.proofs.EveryFormat.{every-format}
 use Rattle.wire.proofs.Looser.{Looser, looser-self, looser-items, looser-ok}
-use Rattle.mapblock.specs.Inventory.{Form}
+use Rattle.mapblock.specs.Inventory.{BlockFormat}
 use Rattle.mapblock.specs.Data.{NameRow, MetadataRow, ObjectRow, TimerRow, Block}
 use Rattle.mapblock.specs.Layout.{all, isVersion, nameRow, metadataRow, objectRow, timerRow, opening, front, steps}
 use Rattle.mapblock.specs.MetadataChecks.{metadataRowFor}
@@ -47,7 +47,7 @@ use Rattle.block_writer.proofs.Fitting.{Fitting}
 use Rattle.block_writer.proofs.MadeBlock.{MadeOf, made-of, of-made, block-bytes, block-settled}
 
 -- ---- what was read: its sections are whole rows
-module _ {A : Type 0} (item : List A → Form A) (frame : Form A) (looser : (seen : List A) → Looser ValueFault (item seen) frame)
+module _ {A : Type 0} (item : List A → BlockFormat A) (frame : BlockFormat A) (looser : (seen : List A) → Looser ValueFault (item seen) frame)
     (some-byte : (a : A) → 0 < length (frame .encode a)) (l : List A) (ok : listed 2 item .Ok l) where
   rows-again : {s : List ℕ} → s ≡ encodeItems item [] l → Rows frame s (length l) l
   unfolding listed iso items

@@ -6,7 +6,7 @@ use mathlib.Core.List.{List, _∷_}
 use native.Mathlib.Nat.{add-zero, le-refl}
 use native.Mathlib.Omega.{arith}
 use lib.ListN.{length, drop}
-use Rattle.mapblock.specs.Inventory.{Form}
+use Rattle.mapblock.specs.Inventory.{BlockFormat}
 use Rattle.mapblock.specs.Data.{NameRow, MetadataRow, ObjectRow, TimerRow}
 use Rattle.mapblock.specs.Layout.{objectRow}
 use Rattle.block_writer.specs.Frames.{nameFrame, metadataFrame, timerFrame, rowsIn, sectionRows}
@@ -15,22 +15,22 @@ use Rattle.block_writer.specs.Sections.{countsOf, countsIn}
 use Rattle.block_writer.proofs.FrameLengths.{Long, long-done, long-refused}
 use Rattle.block_writer.proofs.RowsIn.{rows-empty, rows-over, rows-on, rows-stop}
 
-abbrev howMany : {A : Type 0} → Form A → ℕ → List ℕ → Option ℕ
+abbrev howMany : {A : Type 0} → BlockFormat A → ℕ → List ℕ → Option ℕ
 howMany f k s = Option·map length (rowsIn f k s)
 
 -- ---- the loop: of at most k rows so many are left, which start at `rest`
-pub record Counting {A : Type 0} (f : Form A) (k : ℕ) (s rest : List ℕ) (left : ℕ) : Type 0 where
+pub record Counting {A : Type 0} (f : BlockFormat A) (k : ℕ) (s rest : List ℕ) (left : ℕ) : Type 0 where
   pub whole : Option·map (λ n. k - left + n) (howMany f left rest) ≡ howMany f k s
   pub few : left ≤ k
 
-abbrev pub counting-start : {A : Type 0} (f : Form A) (k : ℕ) (s : List ℕ) → Counting f k s s k
+abbrev pub counting-start : {A : Type 0} (f : BlockFormat A) (k : ℕ) (s : List ℕ) → Counting f k s s k
 counting-start {A} f k s = record { whole = go (rowsIn f k s); few = le-refl k }
   where
     go : (o : Option (List A)) → Option·map (λ n. k - k + n) (Option·map length o) ≡ Option·map length o
     go none = refl
     go (some l) = let z : k - k + length l ≡ length l = omega arith in ap some z
 
-module _ {A : Type 0} {f : Form A} {k : ℕ} {s rest : List ℕ} {left : ℕ} (c : Counting f k s rest left) where
+module _ {A : Type 0} {f : BlockFormat A} {k : ℕ} {s rest : List ℕ} {left : ℕ} (c : Counting f k s rest left) where
   pub counting-end : length rest ≤ 0 → some (k - left) ≡ howMany f k s
   counting-end h =
       let z : length rest ≡ 0 = omega arith in

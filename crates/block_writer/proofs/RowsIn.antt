@@ -14,11 +14,11 @@ use Rattle.wire.proofs.Lists.{nil-is}
 use Rattle.wire.specs.Bytes.{Bytes, bytes-drop}
 use Rattle.wire.specs.Read.{Read, done, refused}
 use Rattle.wire.specs.Format.{OkItems, encodeItems}
-use Rattle.mapblock.specs.Inventory.{Form}
+use Rattle.mapblock.specs.Inventory.{BlockFormat}
 use Rattle.mapblock.specs.declared.fault.Fault.{Fault}
 use Rattle.block_writer.specs.Frames.{wholeRowThen, rowsIn}
 
-module _ {A : Type 0} (f : Form A) where
+module _ {A : Type 0} (f : BlockFormat A) where
   -- ---- one step
   pub rows-empty : (k : ℕ) (s : List ℕ) → length s ≡ 0 → rowsIn f k s ≡ some []
   unfolding rowsIn

@@ -11,7 +11,7 @@ use Rattle.wire.specs.Read.{Read, done, refused, shift, reach, not-done, shift-
 use Rattle.wire.specs.Format.{run, refine, _⨾_, iso, OkItems, encodeItems, items}
 use Rattle.wire.specs.Formats.{_▹_, u32, number, signed, prefixed, listed, behind, fixed, unsignedOf, half32}
 use Rattle.wire.proofs.Looser.{Looser, Settled, settled, settled-ok, looser-items}
-use Rattle.mapblock.specs.Inventory.{Form}
+use Rattle.mapblock.specs.Inventory.{BlockFormat}
 use Rattle.mapblock.specs.Data.{NameRow, MetadataRow, ObjectRow, TimerRow, NameMapping, nameMappingShape}
 use Rattle.mapblock.specs.Layout.{since, unmapped, nameRow, metadataRow, objectRow, timerRow, nameMapping, metadata}
 use Rattle.block_reader.specs.Scan.{metadataHead}
@@ -28,7 +28,7 @@ use Rattle.block_writer.proofs.Framed.{ValueFault, not-ends, name-loose
 use Rattle.block_writer.proofs.PiecesJudging.{shift-on, verdictOn-into, verdictOn-fixed, verdictOn-listed, verdictOn-ok, judged-on}
 
 -- ---- rows by their frames
-module _ {A : Type 0} (frame : Form A) {s : List ℕ} {count : ℕ} {l : List A} (b : Bytes s) (w : Rows frame s count l) where
+module _ {A : Type 0} (frame : BlockFormat A) {s : List ℕ} {count : ℕ} {l : List A} (b : Bytes s) (w : Rows frame s count l) where
   pub rows-few : length l < 65536
   rows-few = omega (arith, rows-made frame 65535 s l b (w .are) .2)
 
@@ -48,7 +48,7 @@ module _ {A : Type 0} (frame : Form A) {s : List ℕ} {count : ℕ} {l : List A}
   pub rows-long : (m : ℕ) → ((a : A) → frame .Ok a → length (frame .encode a) ≤ m) → length s ≤ m * length l
   rows-long m h = let x = rows-made frame 65535 s l b (w .are) in rw (x .1) (long-by m h [] l (x .0 []))
 
-  module _ (item : List A → Form A) (looser : (seen : List A) → Looser ValueFault (item seen) frame) where
+  module _ (item : List A → BlockFormat A) (looser : (seen : List A) → Looser ValueFault (item seen) frame) where
     -- the section is the bytes of its rows
     pub rows-bytes : s ≡ encodeItems item [] l
     unfolding items
@@ -153,7 +153,7 @@ judge-timers b h l w =
     ap (shift 2 (λ u. u)) (rows-verdictOn timerFrame b w timerRow timer-looser h) ∙ sym (verdictOn-listed 2 timerRow l (rows-few timerFrame b w))
 
 -- how far the reader's loop comes
-pub rows-reach : {A : Type 0} (item : List A → Form A) (count : ℕ) (s : List ℕ) {r : Read Fault (Unit {0})} → r ≡ ended (items item count .read s) → reach r ≤ length s
+pub rows-reach : {A : Type 0} (item : List A → BlockFormat A) (count : ℕ) (s : List ℕ) {r : Read Fault (Unit {0})} → r ≡ ended (items item count .read s) → reach r ≤ length s
 rows-reach item count s h = within-ended (items item count) s h
 
 pub metadata-head-few : (v : ℕ) → metadataHead v ≤ 4

@@ -12,7 +12,7 @@ use Rattle.wire.specs.Format.{run, nothing, refine, _⨾_, iso, tested}
 use Rattle.wire.specs.Formats.{_▹_, u8, number, listed, behind, fixed, only}
 use Rattle.wire.proofs.EveryFormat.{every-format}
 use Rattle.wire.proofs.Looser.{Settled, settled, settled-ok, looser-refine}
-use Rattle.mapblock.specs.Inventory.{Form}
+use Rattle.mapblock.specs.Inventory.{BlockFormat}
 use Rattle.mapblock.specs.Data.{TimerRow, noTimers, timersShape}
 use Rattle.mapblock.specs.Layout.{since, timerRow, earlyTimers, lateTimers}
 use Rattle.mapblock.specs.Told.{ended}
@@ -30,10 +30,10 @@ use Rattle.block_writer.proofs.RowsJudging.{no-rows, rows-ok}
 use Rattle.block_writer.proofs.PiecesJudging.{shift-none, verdictOn-ok, verdictOn-into, verdictOn-fixed, judged-refused, judged-on}
 
 -- ---- version 24
-abbrev byte : Form ℕ
+abbrev byte : BlockFormat ℕ
 byte = refine (λ t. leb t 1) fault.TimerByte u8
 
-abbrev timersIf : ℕ → Form (List TimerRow)
+abbrev timersIf : ℕ → BlockFormat (List TimerRow)
 timersIf t = only (eqb t 1) [] (listed 2 timerRow)
 
 byte-settled : (t : ℕ) → t < 256 → Settled byte t

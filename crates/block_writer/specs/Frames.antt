@@ -7,7 +7,7 @@ use lib.Dec.{eqb}
 use lib.ListN.{length, drop}
 use Rattle.wire.specs.Read.{Read, done, refused}
 use Rattle.wire.specs.Formats.{u16}
-use Rattle.mapblock.specs.Inventory.{Form}
+use Rattle.mapblock.specs.Inventory.{BlockFormat}
 use Rattle.mapblock.specs.Data.{NameRow, MetadataRow, TimerRow}
 use Rattle.mapblock.specs.Layout.{nameRowBy, timerRowBy}
 use Rattle.mapblock.specs.MetadataChecks.{metadataRowFor}
@@ -15,13 +15,13 @@ use Rattle.mapblock.specs.declared.fault.Fault.{Fault}
 
 -- A frame is a row of the layout whose id, position and private byte may have any value: these are the reader's to judge. Of a static object
 -- the reader judges no value, so its row is its frame.
-unfoldable pub nameFrame : Form NameRow
+unfoldable pub nameFrame : BlockFormat NameRow
 nameFrame = nameRowBy u16
 
-unfoldable pub metadataFrame : ℕ → Form MetadataRow
+unfoldable pub metadataFrame : ℕ → BlockFormat MetadataRow
 metadataFrame = metadataRowFor false
 
-unfoldable pub timerFrame : Form TimerRow
+unfoldable pub timerFrame : BlockFormat TimerRow
 timerFrame = timerRowBy u16
 
 -- ---- whole rows
@@ -31,7 +31,7 @@ wholeRowThen (done a n) behind = Option·map (λ l. a ∷ l) (behind n)
 wholeRowThen (refused e p) behind = none
 
 -- the rows that bytes are made of, one after another to the end, at most k
-unfoldable pub rowsIn : {A : Type 0} → Form A → ℕ → List ℕ → Option (List A)
+unfoldable pub rowsIn : {A : Type 0} → BlockFormat A → ℕ → List ℕ → Option (List A)
 rowsIn f zero s = cond (eqb (length s) 0) (some []) none
 rowsIn f (suc k) s = cond (eqb (length s) 0) (some []) (wholeRowThen (f .read s) λ n. rowsIn f k (drop n s))
 
@@ -39,5 +39,5 @@ rowsIn f (suc k) s = cond (eqb (length s) 0) (some []) (wholeRowThen (f .read s)
 abbrev pub maxRows : ℕ
 maxRows = 65535
 
-abbrev pub sectionRows : {A : Type 0} → Form A → List ℕ → Option (List A)
+abbrev pub sectionRows : {A : Type 0} → BlockFormat A → List ℕ → Option (List A)
 sectionRows f s = rowsIn f maxRows s

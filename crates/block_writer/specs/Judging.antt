@@ -7,7 +7,7 @@ use mathlib.Core.Bool.{Bool, true, cond}
 use lib.ListN.{length, getD}
 use Rattle.wire.specs.Read.{Read, done}
 use Rattle.wire.specs.Formats.{_▹_, only}
-use Rattle.mapblock.specs.Inventory.{Form}
+use Rattle.mapblock.specs.Inventory.{BlockFormat}
 use Rattle.mapblock.specs.Data.{NameRow, MetadataRow, ObjectRow, TimerRow, Opening, NameMapping, Timers, Nodes, Front, Rest, noMapping, noTimers}
 use Rattle.mapblock.specs.Layout.{since, before, all, width, isVersion, unmapped, nameMapping, front, rest, lateTimers}
 use Rattle.mapblock.specs.Block.{contentId, firstFrom, block, verdict}
@@ -21,7 +21,7 @@ use Rattle.block_writer.specs.Sections.{SectionRows}
 use Rattle.block_writer.specs.declared.counts.RowCounts.{RowCounts}
 
 -- what is said of a value's bytes, but for the value
-abbrev pub verdictOn : {A : Type 0} → Form A → A → Read Fault (Unit {0})
+abbrev pub verdictOn : {A : Type 0} → BlockFormat A → A → Read Fault (Unit {0})
 verdictOn f a = ended (f .read (f .encode a))
 
 -- a section of at most 65,535 rows, each of at most 65,550 bytes: all but the metadata
@@ -75,7 +75,7 @@ pub record FrontJudged (t u : List ℕ) (h : Head) (l : List NameRow) (n : Nodes
   pub kept : h .version < 29 → u ≡ t
 
 -- behind the static objects: names before version 29, timers from 25 on
-abbrev pub ending : (ℕ → Bool) → ℕ → Form (NameMapping × Timers)
+abbrev pub ending : (ℕ → Bool) → ℕ → BlockFormat (NameMapping × Timers)
 ending free v = only (before 29 v) noMapping (nameMapping free) ▹ lateTimers v
 
 -- `free` matters where the names stand behind

@@ -5,7 +5,7 @@ use mathlib.Core.Option.{Option, some, none, Option·map}
 use mathlib.Core.List.{List}
 use lib.ListN.{length}
 use Rattle.wire.specs.Read.{Read, done, refused}
-use Rattle.mapblock.specs.Inventory.{Form}
+use Rattle.mapblock.specs.Inventory.{BlockFormat}
 use Rattle.mapblock.specs.Data.{NameRow, MetadataRow, ObjectRow, TimerRow, Block}
 use Rattle.mapblock.specs.Layout.{objectRow}
 use Rattle.mapblock.specs.declared.fault.Fault.{Fault}
@@ -27,7 +27,7 @@ RowOf section.Metadata = MetadataRow
 RowOf section.Objects = ObjectRow
 RowOf section.Timers = TimerRow
 
-abbrev pub frameOf : (k : SectionKind) → ℕ → Form (RowOf k)
+abbrev pub frameOf : (k : SectionKind) → ℕ → BlockFormat (RowOf k)
 frameOf section.Names v = nameFrame
 frameOf section.Metadata v = metadataFrame v
 frameOf section.Objects v = objectRow
@@ -64,7 +64,7 @@ toldCounts (countsRead.Rows counts) = some counts
 toldCounts countsRead.NotWhole = none
 
 -- bytes that are so many rows
-pub record Rows {A : Type 0} (f : Form A) (s : List ℕ) (count : ℕ) (l : List A) : Type 0 where
+pub record Rows {A : Type 0} (f : BlockFormat A) (s : List ℕ) (count : ℕ) (l : List A) : Type 0 where
   pub are : sectionRows f s ≡ some l
   pub many : length l ≡ count
 

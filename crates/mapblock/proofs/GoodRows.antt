@@ -12,7 +12,7 @@ use lib.ListN.{length}
 use borrow.Author.Tests.{le-leb, lt-leb, leb-true, leb-false, eq-eqb}
 use Rattle.wire.specs.Format.{nothing, refine, _⨾_, iso}
 use Rattle.wire.specs.Formats.{number, u8, u16, signed, s32, behind, fixed, prefixed, listed, only}
-use Rattle.mapblock.specs.Inventory.{Form, inventory}
+use Rattle.mapblock.specs.Inventory.{BlockFormat, inventory}
 use Rattle.mapblock.specs.Data.{NameRow, Variable, MetadataRow, ObjectRow, TimerRow}
 use Rattle.mapblock.specs.Layout.{since, before, all, unused, unmapped, newPosition, nameRow, variable, metadataRow, objectRow, timerRow}
 use Rattle.mapblock.specs.Valid.{Each, U16, S32, Run16, NameGood, VariableGood, MetadataGood, ObjectGood, TimerGood}
@@ -28,7 +28,7 @@ either {P} n v p q = by (leb n v) refl
     by true e = p (leb-true n v e)
     by false e = q (leb-false n v e)
 
-module _ {A : Type 0} (f : Form A) (a₀ a : A) (n v : ℕ) where
+module _ {A : Type 0} (f : BlockFormat A) (a₀ a : A) (n v : ℕ) where
   pub since-ok : only (since n v) a₀ f .Ok a ↔ ((n ≤ v → f .Ok a) × (v < n → a ≡ a₀))
   unfolding nothing
   since-ok = (
@@ -45,7 +45,7 @@ module _ {A : Type 0} (f : Form A) (a₀ a : A) (n v : ℕ) where
 
 -- ---- fields
 -- one that is fixed asks nothing of the value
-pub fixed-ok : {A : Type 0} (k n : ℕ) (e : Fault) (f : Form A) (a : A) → n < 256 ^ k → fixed k n e f .Ok a ↔ f .Ok a
+pub fixed-ok : {A : Type 0} (k n : ℕ) (e : Fault) (f : BlockFormat A) (a : A) → n < 256 ^ k → fixed k n e f .Ok a ↔ f .Ok a
 unfolding behind iso refine number
 fixed-ok k n e f a h = ((λ x. x .1), λ x. ((h, eq-eqb n n refl), x))
 

@@ -10,7 +10,7 @@ use borrow.Author.Tests.{eq-eqb, eqb-true}
 use Rattle.wire.specs.Choice.{no-true, no-false}
 use Rattle.wire.specs.Format.{iso, items, OkItems}
 use Rattle.wire.specs.Formats.{listed}
-use Rattle.mapblock.specs.Inventory.{Form}
+use Rattle.mapblock.specs.Inventory.{BlockFormat}
 use Rattle.mapblock.specs.Layout.{all, unused}
 use Rattle.mapblock.specs.Valid.{Each, Has, Distinct, Rows}
 
@@ -46,7 +46,7 @@ module _ {A : Type 0} (key : A → ℕ) where
       go false e = absurd (h (used-has l n e))
 
 -- ---- rows that do not look at those before them
-module _ {A : Type 0} (Good : A → Type 0) (f : Form A) (row : (a : A) → f .Ok a ↔ Good a) where
+module _ {A : Type 0} (Good : A → Type 0) (f : BlockFormat A) (row : (a : A) → f .Ok a ↔ Good a) where
   each-there : (k : ℕ) (seen l : List A) → OkItems (λ _. f) k seen l → Each Good l
   each-there zero seen [] h = tt
   each-there zero seen (a ∷ l) h = absurd h
@@ -63,7 +63,7 @@ module _ {A : Type 0} (Good : A → Type 0) (f : Form A) (row : (a : A) → f .O
   each-ok k l = ((λ h. (h .0, each-there (length l) [] l (h .1))), λ h. (h .0, each-back [] l (h .1)))
 
 -- ---- rows whose number none before them has
-module _ {A : Type 0} (key : A → ℕ) (Good : A → Type 0) (item : List A → Form A)
+module _ {A : Type 0} (key : A → ℕ) (Good : A → Type 0) (item : List A → BlockFormat A)
     (row : (seen : List A) (a : A) → item seen .Ok a ↔ (Good a × (unused key all seen (key a) ≡ true))) where
   -- no number of the one list is in the other
   Apart : List A → List A → Type 0

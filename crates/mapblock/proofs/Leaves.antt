@@ -11,7 +11,7 @@ use Rattle.wire.specs.Format.{ends-in}
 use Rattle.wire.specs.Formats.{number, signed, prefixed}
 use Rattle.wire.specs.Told.{Short, short}
 use Rattle.wire.proofs.Steps.{number-told, signed-told, prefixed-told}
-use Rattle.mapblock.specs.Inventory.{Form}
+use Rattle.mapblock.specs.Inventory.{BlockFormat}
 use Rattle.mapblock.specs.declared.fault.Fault.{Fault}
 use Rattle.mapblock.specs.declared.fault.Fault.the-variants as fault
 
@@ -29,17 +29,17 @@ module _ {R : Type 0} {x y : R} where
   by-counted k s told e g = prefixed-told fault.Ends k s (sym (ap told g) ∙ e)
 
 -- what was told of a reading lies in the list
-pub told-in : {A B : Type 0} (to : A → B) (f : Form A) (s : List ℕ) {r : Read Fault B} → r ≡ mapRead to (f .read s) → reach r ≤ length s
+pub told-in : {A B : Type 0} (to : A → B) (f : BlockFormat A) (s : List ℕ) {r : Read Fault B} → r ≡ mapRead to (f .read s) → reach r ≤ length s
 told-in to f s h = rw (h, reach-map) (f .inside s)
 
 -- the same behind n bytes
-pub told-behind : {A : Type 0} (f : Form A) (n : ℕ) (s : List ℕ) {r : Read Fault A} → f .read (drop n s) ≡ r → n ≤ length s → n + reach r ≤ length s
+pub told-behind : {A : Type 0} (f : BlockFormat A) (n : ℕ) (s : List ℕ) {r : Read Fault A} → f .read (drop n s) ≡ r → n ≤ length s → n + reach r ≤ length s
 told-behind f n s {r} h k =
     let i : reach r ≤ length (drop n s) = rw (← h) (f .inside (drop n s)) in
     omega (arith, length-drop n s)
 
 -- a field that was read behind n bytes
-pub read-behind : {A : Type 0} (f : Form A) (n : ℕ) (s : List ℕ) {a : A} {m : ℕ} → f .read (drop n s) ≡ done a m → 0 < m → n + m ≤ length s
+pub read-behind : {A : Type 0} (f : BlockFormat A) (n : ℕ) (s : List ℕ) {a : A} {m : ℕ} → f .read (drop n s) ≡ done a m → 0 < m → n + m ≤ length s
 read-behind f n s h k = omega (arith, ends-in f h, length-drop n s)
 
 -- a run that was told has its length

@@ -14,7 +14,7 @@ use Rattle.wire.specs.Bytes.{Bytes, bytes-drop, fromBE}
 use Rattle.wire.specs.Read.{Read, done, refused, bind, mapRead, shift, bind-done, map-done, shift-done, cond-done}
 use Rattle.wire.specs.Format.{run, nothing, refine, _⨾_, next, pair, iso, items, encodeItems, items-length}
 use Rattle.wire.specs.Formats.{_▹_, number, u8, u16, s32, prefixed, listed, times, only, into, Shape}
-use Rattle.mapblock.specs.Inventory.{Form, inventory}
+use Rattle.mapblock.specs.Inventory.{BlockFormat, inventory}
 use Rattle.mapblock.specs.Data.{Variable, MetadataRow, TimerRow, metadataShape, timerShape}
 use Rattle.mapblock.specs.Layout.{since, all, unused, position, newPosition, variableBy, variable, metadataRow, timerRow}
 use Rattle.mapblock.specs.MetadataChecks.{positionFor, variableFor, metadataRowFor}
@@ -28,13 +28,13 @@ use Rattle.wire.proofs.Joints.{refine-done, refine-all, then-refused, then-done
 use Rattle.mapblock.proofs.Readings.{num, text, within, ended-done, ended-refused, ended-map, behind, ended-third}
 
 -- ---- one variable
-abbrev pub keyAndValue : Form (List ℕ × List ℕ)
+abbrev pub keyAndValue : BlockFormat (List ℕ × List ℕ)
 keyAndValue = text 2 ▹ text 4
 
-abbrev private : Bool → Form ℕ
+abbrev private : Bool → BlockFormat ℕ
 private values = cond values (refine (λ b. leb b 1) fault.PrivateByte u8) u8
 
-abbrev hidden : Bool → ℕ → Form ℕ
+abbrev hidden : Bool → ℕ → BlockFormat ℕ
 hidden values v = only (since 28 v) 0 (private values)
 
 module _ (s : List ℕ) where
@@ -95,17 +95,17 @@ module _ (values : Bool) (v : ℕ) (s : List ℕ) where
       private-done {b} g o = sym (variable-by h ∙ rw (le-leb 28 v k, private-done-by values (drop n s) g o))
 
 -- ---- rows that begin with a number that is tested
-first-done : {A C : Type 0} (f : Form A) (g : Form C) (s : List ℕ) (x : A × C) {n : ℕ} → (f ▹ g) .read s ≡ done x n → (m : ℕ) × (f .read s ≡ done (x .0) m)
+first-done : {A C : Type 0} (f : BlockFormat A) (g : BlockFormat C) (s : List ℕ) (x : A × C) {n : ℕ} → (f ▹ g) .read s ≡ done x n → (m : ℕ) × (f .read s ≡ done (x .0) m)
 unfolding _⨾_
 first-done {A} {C} f g s x {n} h =
     let y = bind-done (f .read s) (next (λ _. g) s) x n h in
     let z = shift-done (y .1) (pair (y .0)) (g .read (drop (y .1) s)) x n (y .3) in
     (y .1, y .2 ∙ ap (λ (a : A × C). done (a .0) (y .1)) (z .3))
 
-abbrev pub firstTested : {B C : Type 0} → Shape (ℕ × C) B → Fault → Form ℕ → Form C → (ℕ → Bool) → Form B
+abbrev pub firstTested : {B C : Type 0} → Shape (ℕ × C) B → Fault → BlockFormat ℕ → BlockFormat C → (ℕ → Bool) → BlockFormat B
 firstTested shape e f g test = into shape (refine test e f ▹ g)
 
-module _ {B C : Type 0} (shape : Shape (ℕ × C) B) (e : Fault) (f : Form ℕ) (g : Form C) (test : ℕ → Bool) (s : List ℕ) where
+module _ {B C : Type 0} (shape : Shape (ℕ × C) B) (e : Fault) (f : BlockFormat ℕ) (g : BlockFormat C) (test : ℕ → Bool) (s : List ℕ) where
   pub first-passes : (other : ℕ → Bool) {p n : ℕ} → f .read s ≡ done p n → test p ≡ other p → firstTested shape e f g test .read s ≡ firstTested shape e f g other .read s
   unfolding iso _⨾_ refine
   first-passes other h t = rw (h, t)
@@ -136,17 +136,17 @@ nodeNameOf r = r .position
 abbrev pub timedOf : TimerRow → ℕ
 timedOf r = r .position
 
-abbrev variableList : Bool → ℕ → Form (List Variable)
+abbrev variableList : Bool → ℕ → BlockFormat (List Variable)
 variableList values v = listed 4 λ _. variableFor values v
 
 -- the fields by themselves, and whether the version is 23 or more
-abbrev tailBy : Form ℕ → Form (List ℕ) → Form (List Variable) → Form (List ℕ) → Bool → Form (ℕ × (List ℕ × (List Variable × List ℕ)))
+abbrev tailBy : BlockFormat ℕ → BlockFormat (List ℕ) → BlockFormat (List Variable) → BlockFormat (List ℕ) → Bool → BlockFormat (ℕ × (List ℕ × (List Variable × List ℕ)))
 tailBy u c l i b = only (not b) 0 u ▹ only (not b) [] c ▹ only b [] l ▹ only b [] i
 
-abbrev metadataTail : ℕ → Bool → Form (ℕ × (List ℕ × (List Variable × List ℕ)))
+abbrev metadataTail : ℕ → Bool → BlockFormat (ℕ × (List ℕ × (List Variable × List ℕ)))
 metadataTail v b = tailBy u16 (prefixed 2) (listed 4 λ _. variable v) inventory b
 
-abbrev timerTail : Form (ℤ × ℤ)
+abbrev timerTail : BlockFormat (ℤ × ℤ)
 timerTail = s32 ▹ s32
 
 module _ (v : ℕ) (seen : List MetadataRow) (s : List ℕ) where
@@ -203,7 +203,7 @@ module _ (values : Bool) (v : ℕ) (s : List ℕ) {at : ℕ} (h : positionFor va
 abbrev newRow : ℕ → List Variable × List ℕ → MetadataRow
 newRow at x = record { position = at; kind = 0; content = []; variables = x .0; inventory = x .1 }
 
-new-by : (p u : Form ℕ) (c : Form (List ℕ)) (l : Form (List Variable)) (i : Form (List ℕ)) (s : List ℕ) {at : ℕ} → p .read s ≡ done at 2
+new-by : (p u : BlockFormat ℕ) (c : BlockFormat (List ℕ)) (l : BlockFormat (List Variable)) (i : BlockFormat (List ℕ)) (s : List ℕ) {at : ℕ} → p .read s ≡ done at 2
     → into metadataShape (p ▹ tailBy u c l i true) .read s ≡ shift 2 (newRow at) ((l ▹ i) .read (drop 2 s))
 unfolding iso _⨾_ nothing
 new-by p u c l i s {at} h = rw h (go ((l ▹ i) .read (drop 2 s)))

@@ -9,7 +9,7 @@ use lib.Seq.{drop-drop}
 use Rattle.wire.specs.Read.{Read, done, refused, mapRead, shift, bind-done, shift-done}
 use Rattle.wire.specs.Format.{_⨾_, iso, items, readItems, pair}
 use Rattle.wire.specs.Formats.{listed}
-use Rattle.mapblock.specs.Inventory.{Form}
+use Rattle.mapblock.specs.Inventory.{BlockFormat}
 use Rattle.mapblock.specs.Data.{NameRow, nameMappingShape}
 use Rattle.mapblock.specs.Layout.{nameRow, nameMapping}
 use Rattle.mapblock.specs.Table.{freeIn, NamesMarked, RowsMarked, NameMappingMarked}
@@ -21,7 +21,7 @@ use Rattle.wire.proofs.Joints.{listed-refused, listed-done}
 use Rattle.mapblock.proofs.Readings.{num, ended-refused, ended-done}
 
 -- so many items as were asked for
-pub read-length : {A : Type 0} (item : List A → Form A) (k : ℕ) (seen : List A) (s : List ℕ) {l : List A} {n : ℕ} → readItems item k seen s ≡ done l n → length l ≡ k
+pub read-length : {A : Type 0} (item : List A → BlockFormat A) (k : ℕ) (seen : List A) (s : List ℕ) {l : List A} {n : ℕ} → readItems item k seen s ≡ done l n → length l ≡ k
 unfolding readItems
 read-length item zero seen s h = cc
 read-length {A} item (suc k) seen s {l} {n} h =
@@ -30,7 +30,7 @@ read-length {A} item (suc k) seen s {l} {n} h =
     sym (ap (length {A = A}) (y .3)) ∙ ap suc (read-length item k (x .0 ∷ seen) (drop (x .1) s) (y .2))
 
 module _ (free : ℕ → Bool) (s : List ℕ) where
-  abbrev names : Form (List NameRow)
+  abbrev names : BlockFormat (List NameRow)
   names = listed 2 (nameRow free)
 
   pub name-mapping-no-time : {e : Fault} {p : ℕ} → num 4 .read s ≡ refused e p → nameMapping free .read s ≡ refused e p

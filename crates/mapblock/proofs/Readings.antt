@@ -10,23 +10,23 @@ use Rattle.wire.specs.Read.{Read, done, refused, bind, mapRead, shift, reach, m
 use Rattle.wire.specs.Format.{_⨾_, next, pair, items, readItems, ends-in}
 use Rattle.wire.specs.Formats.{_▹_, number, prefixed}
 use Rattle.wire.proofs.Items.{after, items-start, items-on, items-refused, items-end}
-use Rattle.mapblock.specs.Inventory.{Form}
+use Rattle.mapblock.specs.Inventory.{BlockFormat}
 use Rattle.mapblock.proofs.Leaves.{told-in}
 use Rattle.mapblock.specs.Told.{ended}
 use Rattle.mapblock.specs.declared.fault.Fault.{Fault}
 
 -- ---- fields whose bytes may end
-abbrev pub num : ℕ → Form ℕ
+abbrev pub num : ℕ → BlockFormat ℕ
 num k = number k
 
-abbrev pub text : ℕ → Form (List ℕ)
+abbrev pub text : ℕ → BlockFormat (List ℕ)
 text k = prefixed k
 
 -- ---- an end or a place lies in the bytes
-pub within : {A : Type 0} (f : Form A) (s : List ℕ) {r : Read Fault A} → f .read s ≡ r → reach r ≤ length s
+pub within : {A : Type 0} (f : BlockFormat A) (s : List ℕ) {r : Read Fault A} → f .read s ≡ r → reach r ≤ length s
 within f s h = rw h at (f .inside s)
 
-pub within-ended : {A : Type 0} (f : Form A) (s : List ℕ) {r : Read Fault (Unit {0})} → r ≡ ended (f .read s) → reach r ≤ length s
+pub within-ended : {A : Type 0} (f : BlockFormat A) (s : List ℕ) {r : Read Fault (Unit {0})} → r ≡ ended (f .read s) → reach r ≤ length s
 within-ended f s h = told-in (λ _. tt) f s h
 
 -- ---- where of what was read the end alone is known
@@ -45,10 +45,10 @@ shift-twice n m f g (done a k) = rw add-assoc
 shift-twice n m f g (refused e p) = rw add-assoc
 
 -- what follows a reading that ended
-abbrev pub behind : {A : Type 0} → Form A → List ℕ → Unit {0} → ℕ → Read Fault (Unit {0})
+abbrev pub behind : {A : Type 0} → BlockFormat A → List ℕ → Unit {0} → ℕ → Read Fault (Unit {0})
 behind h s u n = shift n (λ w. w) (ended (h .read (drop n s)))
 
-module _ {A B C : Type 0} (f : Form A) (g : Form B) (h : Form C) (s : List ℕ) where
+module _ {A B C : Type 0} (f : BlockFormat A) (g : BlockFormat B) (h : BlockFormat C) (s : List ℕ) where
   third-by : (a : A) (n : ℕ) (x : Read Fault B) → ended (shift n (pair a) (bind x (next (λ _. h) (drop n s)))) ≡ bind (ended (shift n (pair a) x)) (behind h s)
   third-by a n (done b m) = rw (drop-drop m n s) (shift-twice n m (pair a) (pair b) (h .read (drop (n + m) s)))
   third-by a n (refused e p) = refl
@@ -64,16 +64,16 @@ module _ {A B C : Type 0} (f : Form A) (g : Form B) (h : Form C) (s : List ℕ) 
   ended-third = second-by (f .read s)
 
 -- ---- so many items, where of each the end alone is known
-pub record Reading {A : Type 0} (item : List A → Form A) (count : ℕ) (s rest : List ℕ) (at left : ℕ) : Type 0 where
+pub record Reading {A : Type 0} (item : List A → BlockFormat A) (count : ℕ) (s rest : List ℕ) (at left : ℕ) : Type 0 where
   pub pre : List A
   pub seen : List A
   pub whole : after pre at (readItems item left seen rest) ≡ items item count .read s
   pub size : at + length rest ≡ length s
 
-abbrev pub reading-start : {A : Type 0} (item : List A → Form A) (count : ℕ) (s : List ℕ) → Reading item count s s 0 count
+abbrev pub reading-start : {A : Type 0} (item : List A → BlockFormat A) (count : ℕ) (s : List ℕ) → Reading item count s s 0 count
 reading-start item count s = record { pre = []; seen = []; whole = items-start item count s; size = zero-add (length s) }
 
-module _ {A : Type 0} {item : List A → Form A} {count : ℕ} {s rest : List ℕ} {at left : ℕ} (r : Reading item count s rest at left) where
+module _ {A : Type 0} {item : List A → BlockFormat A} {count : ℕ} {s rest : List ℕ} {at left : ℕ} (r : Reading item count s rest at left) where
   pub reading-inside : {x : Read Fault (Unit {0})} → x ≡ ended (item (r .seen) .read rest) → reach x ≤ length rest
   reading-inside h = within-ended (item (r .seen)) rest h
 

@@ -12,7 +12,7 @@ use Rattle.wire.specs.Read.{Read, done, refused, mapRead, shift, not-done}
 use Rattle.wire.specs.Format.{nothing, refine, _⨾_, iso, pair, items}
 use Rattle.wire.specs.Formats.{_▹_, u8, listed, fixed, into, Shape}
 use Rattle.wire.proofs.Lists.{rest-is}
-use Rattle.mapblock.specs.Inventory.{Form}
+use Rattle.mapblock.specs.Inventory.{BlockFormat}
 use Rattle.mapblock.specs.Data.{MetadataRow, TimerRow, noTimers, metadataShape, timerShape, timersShape}
 use Rattle.mapblock.specs.Layout.{all, unused, position, newPosition, metadataRow, timerRow, metadata, earlyTimers, lateTimers}
 use Rattle.mapblock.specs.Table.{Tabled}
@@ -37,7 +37,7 @@ row-told j v s to {r = r} e h =
     subst⁻¹ (λ (i : ListKind). ended r ≡ ended (rowAfter i v [] .read s)) e (ap ended h ∙ ended-map to (rowAfter j v [] .read s))
 
 -- ---- a row after others
-first-stops : {B C : Type 0} (shape : Shape (ℕ × C) B) (p : Form ℕ) (g : Form C) (s : List ℕ) {e : Fault} {q : ℕ} → p .read s ≡ refused e q
+first-stops : {B C : Type 0} (shape : Shape (ℕ × C) B) (p : BlockFormat ℕ) (g : BlockFormat C) (s : List ℕ) {e : Fault} {q : ℕ} → p .read s ≡ refused e q
     → into shape (p ▹ g) .read s ≡ refused e q
 unfolding iso _⨾_
 first-stops shape p g s h = rw h
@@ -119,7 +119,7 @@ module _ {k : ListKind} {v count : ℕ} {s rest t : List ℕ} {at left : ℕ} (w
       rw (rest-is n rest) record { reading = reading-on (w .reading) h (x .1); marked = m .marked (w .reading .seen) (x .0) n (w .marked) (x .1) }
 
 -- ---- lists, by where they end: r is the answer for the bytes behind the first n and y the case that the code is in
-part-told : {A : Type 0} (f : Form A) (n : ℕ) (s : List ℕ) {x : Read Fault A} {r y : Reach} → x ≡ shift n (λ a. a) (f .read (drop n s))
+part-told : {A : Type 0} (f : BlockFormat A) (n : ℕ) (s : List ℕ) {x : Read Fault A} {r y : Reach} → x ≡ shift n (λ a. a) (f .read (drop n s))
     → toldReach r ≡ ended (f .read (take (length s - n) (drop n s))) → r ≡ y → shift n (λ a. a) (toldReach y) ≡ ended x
 part-told {A} f n s h e q = ap (λ (i : Reach). shift n (λ a. a) (toldReach i)) (sym q) ∙ ap (shift n (λ a. a)) (rw (rest-is n s) at e) ∙ go (f .read (drop n s)) ∙ ap ended (sym h)
   where
@@ -127,12 +127,12 @@ part-told {A} f n s h e q = ap (λ (i : Reach). shift n (λ a. a) (toldReach i))
     go (done a m) = refl
     go (refused k p) = refl
 
-module _ {A : Type 0} (k : ℕ) (item : List A → Form A) (s : List ℕ) where
+module _ {A : Type 0} (k : ℕ) (item : List A → BlockFormat A) (s : List ℕ) where
   pub listed-told : {count : ℕ} {r y : Reach} → num k .read s ≡ done count k
       → toldReach r ≡ ended (items item count .read (take (length s - k) (drop k s))) → r ≡ y → shift k (λ a. a) (toldReach y) ≡ ended (listed k item .read s)
   listed-told {count} h e q = part-told (items item count) k s (listed-done k item s h) e q
 
-module _ {A : Type 0} (k v : ℕ) (e : Fault) (f : Form A) (s : List ℕ) where
+module _ {A : Type 0} (k v : ℕ) (e : Fault) (f : BlockFormat A) (s : List ℕ) where
   pub fixed-told : {x : ℕ} {r y : Reach} → num k .read s ≡ done x k → x ≡ v
       → toldReach r ≡ ended (f .read (take (length s - k) (drop k s))) → r ≡ y → shift k (λ a. a) (toldReach y) ≡ ended (fixed k v e f .read s)
   fixed-told h g d q = part-told f k s (fixed-on fault.Ends k v e f s (h ∙ ap (λ (n : ℕ). done n k) g)) d q

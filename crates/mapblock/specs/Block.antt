@@ -9,7 +9,7 @@ use lib.ListN.{length, getD}
 use Rattle.wire.specs.Read.{Read, done, refused, bind}
 use Rattle.wire.specs.Format.{nothing, iso, _⨾_}
 use Rattle.wire.specs.Formats.{only}
-use Rattle.mapblock.specs.Inventory.{Form}
+use Rattle.mapblock.specs.Inventory.{BlockFormat}
 use Rattle.mapblock.specs.Data.{Block, Opening, NameMapping, Timers, Steps, noMapping, noTimers}
 use Rattle.mapblock.specs.Layout.{since, all, unmapped, nameMapping, opening, front, rest, earlyTimers, lateTimers, steps, width}
 use Rattle.mapblock.specs.declared.fault.Fault.{Fault}
@@ -64,7 +64,7 @@ with4 x a e s l = record {
   rest = record { metadata = x .rest .metadata; early = e; objects = x .rest .objects; mapping = s; late = l };
 }
 
-slots : (n t : Bool) (x : Steps) (f g : Form NameMapping) (e l : Form Timers)
+slots : (n t : Bool) (x : Steps) (f g : BlockFormat NameMapping) (e l : BlockFormat Timers)
     → only n noMapping f .Ok (x .front .mapping) → only (not n) noMapping g .Ok (x .rest .mapping)
     → only (not t) noTimers e .Ok (x .rest .early) → only t noTimers l .Ok (x .rest .late) → pieces n t (built n t x) ≡ x
 unfolding nothing
@@ -87,7 +87,7 @@ module _ (free : ℕ → Bool) where
       let v = x .front .opening .version in
       slots (since 29 v) (since 25 v) x (nameMapping free) (nameMapping free) _ _ first second early late
 
-  unfoldable pub block : Form Block
+  unfoldable pub block : BlockFormat Block
   block =
       iso (λ b. steps free .Ok (piecesOf b)) blockFrom piecesOf (steps free)
       (λ b h. (h, built-pieces (since 29 (b .head .version)) (since 25 (b .head .version)) b))

@@ -18,8 +18,8 @@ use Rattle.mapblock.specs.declared.fault.Fault.{Fault}
 use Rattle.mapblock.specs.declared.fault.Fault.the-variants as fault
 
 -- a format of a block's bytes
-abbrev pub Form : Type 0 → Type 1
-Form A = Format Fault fault.Ends A
+abbrev pub BlockFormat : Type 0 → Type 1
+BlockFormat A = Format Fault fault.Ends A
 
 -- `EndInventory` and a newline
 abbrev pub endLine : List ℕ
@@ -134,7 +134,7 @@ pub inventory-inside : (s : List ℕ) (o : Option ℕ) → through true s ≡ o 
 inventory-inside s none h = zero-le
 inventory-inside s (some n) h = through-long true s n h .1
 
-unfoldable pub inventory : Form (List ℕ)
+unfoldable pub inventory : BlockFormat (List ℕ)
 inventory = record {
   Ok = λ l. (through true l ≡ some (length l)) × Bytes l;
   encode = λ l. l;

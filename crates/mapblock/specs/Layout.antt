@@ -6,7 +6,7 @@ use mathlib.Core.Bool.{Bool, true, false, cond, not, _&&_}
 use lib.Dec.{leb, eqb}
 use Rattle.wire.specs.Format.{nothing, refine, _⨾_}
 use Rattle.wire.specs.Formats.{_▹_, u8, u16, u32, s32, number, prefixed, listed, fixed, times, only, into}
-use Rattle.mapblock.specs.Inventory.{Form, inventory}
+use Rattle.mapblock.specs.Inventory.{BlockFormat, inventory}
 use Rattle.mapblock.specs.Data.{NameRow, Variable, MetadataRow, ObjectRow, TimerRow, Nodes, Opening, NameMapping, Timers, Front, Rest, Steps, noMapping, noTimers, nameShape, variableShape, metadataShape, objectShape, timerShape, nodeShape, openingShape, nameMappingShape, timersShape, frontShape, restShape, stepsShape}
 use Rattle.mapblock.specs.declared.fault.Fault.the-variants as fault
 
@@ -30,34 +30,34 @@ unused key free (a ∷ l) = without (key a) (unused key free l)
 abbrev pub all : ℕ → Bool
 all n = true
 
-abbrev pub position : Form ℕ
+abbrev pub position : BlockFormat ℕ
 position = refine (λ p. leb p 4095) fault.PositionAbove u16
 
-abbrev pub newPosition : {A : Type 0} → (A → ℕ) → List A → Form ℕ
+abbrev pub newPosition : {A : Type 0} → (A → ℕ) → List A → BlockFormat ℕ
 newPosition key seen = refine (unused key all seen) fault.PositionTwice position
 
 abbrev pub unmapped : (ℕ → Bool) → List NameRow → ℕ → Bool
 unmapped = unused (λ (r : NameRow). r .id)
 
 -- A row is laid out over the fields that its list judges: an id, a position, the private byte of a variable.
-abbrev pub nameRowBy : Form ℕ → Form NameRow
+abbrev pub nameRowBy : BlockFormat ℕ → BlockFormat NameRow
 nameRowBy id = into nameShape
     (id
     ▹ prefixed 2)  -- name
 
-unfoldable pub nameRow : (ℕ → Bool) → List NameRow → Form NameRow
+unfoldable pub nameRow : (ℕ → Bool) → List NameRow → BlockFormat NameRow
 nameRow free seen = nameRowBy (refine (unmapped free seen) fault.IdTwice u16)
 
-abbrev pub variableBy : Form ℕ → ℕ → Form Variable
+abbrev pub variableBy : BlockFormat ℕ → ℕ → BlockFormat Variable
 variableBy hidden v = into variableShape
     (prefixed 2  -- key
     ▹ prefixed 4  -- value
     ▹ only (since 28 v) 0 hidden)  -- private
 
-unfoldable pub variable : ℕ → Form Variable
+unfoldable pub variable : ℕ → BlockFormat Variable
 variable v = variableBy (refine (λ b. leb b 1) fault.PrivateByte u8) v
 
-abbrev pub metadataRowBy : Form ℕ → Form Variable → ℕ → Form MetadataRow
+abbrev pub metadataRowBy : BlockFormat ℕ → BlockFormat Variable → ℕ → BlockFormat MetadataRow
 metadataRowBy at variable v = into metadataShape
     (at
     ▹ only (before 23 v) 0 u16  -- type
@@ -65,26 +65,26 @@ metadataRowBy at variable v = into metadataShape
     ▹ only (since 23 v) [] (listed 4 λ _. variable)
     ▹ only (since 23 v) [] inventory)
 
-unfoldable pub metadataRow : ℕ → List MetadataRow → Form MetadataRow
+unfoldable pub metadataRow : ℕ → List MetadataRow → BlockFormat MetadataRow
 metadataRow v seen = metadataRowBy (newPosition (λ (r : MetadataRow). r .position) seen) (variable v) v
 
-unfoldable pub objectRow : Form ObjectRow
+unfoldable pub objectRow : BlockFormat ObjectRow
 objectRow = into objectShape
     (u8  -- type
     ▹ s32 ▹ s32 ▹ s32  -- x, y, z
     ▹ prefixed 2)  -- content
 
-abbrev pub timerRowBy : Form ℕ → Form TimerRow
+abbrev pub timerRowBy : BlockFormat ℕ → BlockFormat TimerRow
 timerRowBy at = into timerShape
     (at
     ▹ s32 ▹ s32)  -- timeout, elapsed
 
-unfoldable pub timerRow : List TimerRow → Form TimerRow
+unfoldable pub timerRow : List TimerRow → BlockFormat TimerRow
 timerRow seen = timerRowBy (newPosition (λ (r : TimerRow). r .position) seen)
 
 -- ---- lists
 -- timestamp and names
-unfoldable pub nameMapping : (ℕ → Bool) → Form NameMapping
+unfoldable pub nameMapping : (ℕ → Bool) → BlockFormat NameMapping
 nameMapping free = into nameMappingShape
     (u32  -- timestamp
     ▹ fixed 1 0 fault.MappingVersion (listed 2 (nameRow free)))
@@ -92,13 +92,13 @@ nameMapping free = into nameMappingShape
 abbrev pub width : ℕ → ℕ
 width v = cond (since 24 v) 2 1
 
-unfoldable pub params : ℕ → Form Nodes
+unfoldable pub params : ℕ → BlockFormat Nodes
 params v = into nodeShape
     (times 4096 (number (width v))  -- param0
     ▹ times 4096 u8  -- param1
     ▹ times 4096 u8)  -- param2
 
-unfoldable pub nodes : ℕ → Form Nodes
+unfoldable pub nodes : ℕ → BlockFormat Nodes
 nodes v = fixed 1 (width v) fault.ContentWidth (fixed 1 2 fault.ParamsWidth (params v))
 
 -- the bytes of the metadata's list version, and its value
@@ -108,41 +108,41 @@ listVersionBytes v = cond (since 23 v) 1 2
 abbrev pub listVersion : ℕ → ℕ
 listVersion v = cond (since 28 v) 2 1
 
-unfoldable pub metadata : ℕ → Form (List MetadataRow)
+unfoldable pub metadata : ℕ → BlockFormat (List MetadataRow)
 metadata v = fixed (listVersionBytes v) (listVersion v) fault.MetadataVersion (listed 2 (metadataRow v))
 
-unfoldable pub objects : Form (List ObjectRow)
+unfoldable pub objects : BlockFormat (List ObjectRow)
 objects = fixed 1 0 fault.ObjectVersion (listed 2 λ _. objectRow)
 
 -- behind the metadata: version 24's timer byte and rows, version 23's 0, else nothing
-unfoldable pub earlyTimers : ℕ → Form Timers
+unfoldable pub earlyTimers : ℕ → BlockFormat Timers
 earlyTimers v = only (before 25 v) noTimers
     (cond (since 24 v) (into timersShape (refine (λ t. leb t 1) fault.TimerByte u8 ⨾ λ t. only (eqb t 1) [] (listed 2 timerRow)))
     (cond (since 23 v) (fixed 1 0 fault.ByteOf23 (nothing noTimers))
     (nothing noTimers)))
 
 -- at the end, from version 25
-unfoldable pub lateTimers : ℕ → Form Timers
+unfoldable pub lateTimers : ℕ → BlockFormat Timers
 lateTimers v = only (since 25 v) noTimers (into timersShape (nothing 0 ▹ fixed 1 10 fault.TimerRowLength (listed 2 timerRow)))
 
 -- ---- the eight steps
 abbrev pub isVersion : ℕ → Bool
 isVersion v = leb 22 v && leb v 29
 
-unfoldable pub opening : Form Opening
+unfoldable pub opening : BlockFormat Opening
 opening = into openingShape
     (refine isVersion fault.Version u8 ⨾ λ v.  -- 1. version
     u8  --    flags
     ▹ only (since 27 v) 65535 u16)  --    lighting
 
-unfoldable pub front : (ℕ → Bool) → Form Front
+unfoldable pub front : (ℕ → Bool) → BlockFormat Front
 front free = into frontShape
     (opening ⨾ λ o.
     let v = o .version in
     only (since 29 v) noMapping (nameMapping free)  -- 2. timestamp and names
     ▹ nodes v)  -- 3. 4. widths, params
 
-unfoldable pub rest : (ℕ → Bool) → ℕ → Form Rest
+unfoldable pub rest : (ℕ → Bool) → ℕ → BlockFormat Rest
 rest free v = into restShape
     (metadata v  -- 5. metadata
     ▹ earlyTimers v  --    and what follows it
@@ -150,5 +150,5 @@ rest free v = into restShape
     ▹ only (before 29 v) noMapping (nameMapping free)  -- 7. timestamp and names
     ▹ lateTimers v)  -- 8. timers
 
-unfoldable pub steps : (ℕ → Bool) → Form Steps
+unfoldable pub steps : (ℕ → Bool) → BlockFormat Steps
 steps free = into stepsShape (front free ⨾ λ f. rest free (f .opening .version))

@@ -3,7 +3,7 @@ use Prim.Native.Nat.{ℕ}
 use mathlib.Core.Path.{_≡_}
 use mathlib.Core.List.{List, _∷_}
 use Rattle.wire.specs.Read.{done}
-use Rattle.mapblock.specs.Inventory.{Form}
+use Rattle.mapblock.specs.Inventory.{BlockFormat}
 use Rattle.mapblock.specs.Data.{MetadataRow, ObjectRow, TimerRow}
 use Rattle.mapblock.specs.Layout.{all, unused, metadataRow, objectRow, timerRow}
 use Rattle.mapblock.specs.Table.{Tabled}
@@ -18,7 +18,7 @@ RowOf kind.Objects = ObjectRow
 RowOf kind.Timers = TimerRow
 
 -- a row of a kind, told those before it
-abbrev pub rowAfter : (k : ListKind) → ℕ → List (RowOf k) → Form (RowOf k)
+abbrev pub rowAfter : (k : ListKind) → ℕ → List (RowOf k) → BlockFormat (RowOf k)
 rowAfter kind.Metadata v seen = metadataRow v seen
 rowAfter kind.Objects v seen = objectRow
 rowAfter kind.Timers v seen = timerRow seen

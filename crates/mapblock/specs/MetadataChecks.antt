@@ -3,15 +3,15 @@
 use Prim.Native.Nat.{ℕ}
 use mathlib.Core.Bool.{Bool, cond}
 use Rattle.wire.specs.Formats.{u8, u16}
-use Rattle.mapblock.specs.Inventory.{Form}
+use Rattle.mapblock.specs.Inventory.{BlockFormat}
 use Rattle.mapblock.specs.Data.{Variable, MetadataRow}
 use Rattle.mapblock.specs.Layout.{position, variableBy, variable, metadataRowBy}
 
-abbrev pub positionFor : Bool → Form ℕ
+abbrev pub positionFor : Bool → BlockFormat ℕ
 positionFor values = cond values position u16
 
-unfoldable pub variableFor : Bool → ℕ → Form Variable
+unfoldable pub variableFor : Bool → ℕ → BlockFormat Variable
 variableFor values v = cond values (variable v) (variableBy u8 v)
 
-unfoldable pub metadataRowFor : Bool → ℕ → Form MetadataRow
+unfoldable pub metadataRowFor : Bool → ℕ → BlockFormat MetadataRow
 metadataRowFor values v = metadataRowBy (positionFor values) (variableFor values v) v

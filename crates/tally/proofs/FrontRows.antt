@@ -20,7 +20,7 @@ use Rattle.wire.specs.declared.fields.U64.the-variants as u64s
 use Rattle.wire.proofs.Steps.{number-told, prefixed-told}
 use Rattle.wire.proofs.Joints.{then-refused, then-done}
 use Rattle.tally.specs.Rows.{Row, isName}
-use Rattle.tally.specs.Tally.{Malformed, malformed, Form, TallyKind, TallyRow, TallyRows, fields, mayStand, row, one}
+use Rattle.tally.specs.Tally.{Malformed, malformed, TallyFormat, TallyKind, TallyRow, TallyRows, fields, mayStand, row, one}
 use Rattle.tally.specs.Operations.{frontOf}
 use Rattle.tally.specs.Told.{toldRow}
 use Rattle.tally.proofs.Held.{row-inside}
@@ -49,7 +49,7 @@ module _ (k : TallyKind) (seen : TallyRows k) (s : List ℕ) where
     row-bad j = rw (h, j)
 
 -- a name behind its length
-abbrev pub text : Form (List ℕ)
+abbrev pub text : TallyFormat (List ℕ)
 text = prefixed 2
 
 module _ (k : TallyKind) (s : List ℕ) where

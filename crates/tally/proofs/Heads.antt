@@ -17,10 +17,10 @@ use Rattle.wire.specs.Store.{stored}
 use Rattle.wire.specs.Told.{short}
 use Rattle.wire.proofs.Joints.{listed-refused, listed-done}
 use Rattle.wire.proofs.Headed.{behindHead, headed-misread, headed-done}
-use Rattle.tally.specs.Tally.{Malformed, malformed, Form, tallyMark, tallyHead, headBytes, whole, row, tally, rowsOf, one}
+use Rattle.tally.specs.Tally.{Malformed, malformed, TallyFormat, tallyMark, tallyHead, headBytes, whole, row, tally, rowsOf, one}
 
 -- ---- items behind a head that states how many they are, to the end of the bytes
-module _ {A : Type 0} (m : List ℕ) (three : length m ≡ 3) (item : List A → Form A) (t : List ℕ) where
+module _ {A : Type 0} (m : List ℕ) (three : length m ≡ 3) (item : List A → TallyFormat A) (t : List ℕ) where
   -- items told from the head's first byte
   outward : headLength ≤ length t → (r : Read Malformed (List A)) → whole t (behindHead (shift 4 (λ a. a) r)) ≡ whole (drop headLength t) r
   outward long (done l i) = ap (λ (b : Bool). cond b (some l) none) (same-test (eqb (3 + (2 + (4 + i))) (length t)) yes no)

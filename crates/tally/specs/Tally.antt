@@ -20,15 +20,15 @@ use Rattle.tally.specs.Rows.{Counts, Row, Rows, isName}
 pub data Malformed : Type 0 where
   malformed : Malformed
 
-abbrev pub Form : Type 0 → Type 1
-Form A = Format Malformed malformed A
+abbrev pub TallyFormat : Type 0 → Type 1
+TallyFormat A = Format Malformed malformed A
 
 -- A kind of tally: the version that names it, what its counts are, their bytes, and the limit up to which a count has bytes.
 pub record TallyKind : Type 1 where
   pub counts : Counts
   pub version : ℕ
   pub version-fits : version < 65536
-  pub count : Form (counts .C)
+  pub count : TallyFormat (counts .C)
   pub width : ℕ
   pub count-length : (c : counts .C) → length (count .encode c) ≡ width
   pub limit : counts .C → Bool
@@ -40,7 +40,7 @@ abbrev pub tallyMark : List ℕ  -- TLY
 tallyMark = 84 ∷ 76 ∷ 89 ∷ []
 
 -- the head of version 1, which tells the number of rows
-abbrev pub tallyHead : Form ℕ
+abbrev pub tallyHead : TallyFormat ℕ
 tallyHead = head tallyMark
 
 abbrev pub maxRows : ℕ  -- 2^32-1
@@ -72,7 +72,7 @@ module _ (k : TallyKind) where
   TallyRows = Rows (k .counts)
 
   -- a row's fields, a u16 length with the name and the count, not judged
-  unfoldable pub fields : Form TallyRow
+  unfoldable pub fields : TallyFormat TallyRow
   fields = into rowShape
       (prefixed 2  -- name
       ▹ k .count)
@@ -81,11 +81,11 @@ module _ (k : TallyKind) where
   abbrev pub mayStand : TallyRows → TallyRow → Bool
   mayStand seen r = rises seen (r .name) && (isName (r .name) && k .counts .stands (r .count))
 
-  unfoldable pub row : TallyRows → Form TallyRow
+  unfoldable pub row : TallyRows → TallyFormat TallyRow
   row seen = refine (mayStand seen) malformed fields
 
   -- document 01's tally: the mark, the u16 version, the u32 number of rows, and the rows
-  unfoldable pub tally : Form TallyRows
+  unfoldable pub tally : TallyFormat TallyRows
   tally = headed tallyMark (k .version) malformed (listed 4 row)
 
   -- what stands before n rows

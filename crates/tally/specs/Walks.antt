@@ -7,7 +7,7 @@ use mathlib.Core.Option.{Option, some, none}
 use Rattle.wire.specs.Order.{order, isBefore}
 use Rattle.wire.specs.Store.{stored}
 use Rattle.tally.specs.Rows.{Row, Canonical, isName}
-use Rattle.tally.specs.Tally.{Form, TallyKind, TallyRows, whole, fields, limited, one}
+use Rattle.tally.specs.Tally.{TallyFormat, TallyKind, TallyRows, whole, fields, limited, one}
 
 -- a name after the last one, unless it is the first
 abbrev pub mayFollow : Bool → List ℕ → List ℕ → Bool
@@ -18,7 +18,7 @@ abbrev pub isSome : {A : Type 0} → Option A → Bool
 isSome (some a) = true
 isSome none = false
 
-abbrev pub takes : {A : Type 0} → Form A → List ℕ → Bool
+abbrev pub takes : {A : Type 0} → TallyFormat A → List ℕ → Bool
 takes f s = isSome (whole s (f .read s))
 
 module _ (k : TallyKind) where
