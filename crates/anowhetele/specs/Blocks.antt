@@ -18,7 +18,7 @@ use Rattle.anowhetele.specs.declared.blocks.AnowNode.{AnowNode}
 abbrev pub noBlock : AnowAnswer → AnowBlock
 noBlock a = record {
   answer = a;
-  head = record { version = 0; flags = 0; lighting = 0; timestamp = 0; timer = 0 };
+  head = record { version = 0; flags = 0; lighting = 0; timestamp = 0; timer = 0; form = 0 };
   sections = record { names = noRange; metadata = noRange; objects = noRange; timers = noRange };
 }
 

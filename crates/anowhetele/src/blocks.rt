@@ -12,6 +12,7 @@ use block_reader::read::SectionsAnswer;
 use block_reader::read::read;
 use block_reader::read::sections;
 use mapblock::head::Head;
+use mapblock::head::NO_HEAD;
 use mapblock::head::NO_SECTIONS;
 use mapblock::head::Sections;
 use wire::ranges::NO_RANGE;
@@ -34,13 +35,7 @@ fn no_block(answer: AnowAnswer) -> AnowBlock
 {
     AnowBlock {
         answer,
-        head: Head {
-            version: 0,
-            flags: 0,
-            lighting: 0,
-            timestamp: 0,
-            timer: 0,
-        },
+        head: NO_HEAD,
         sections: NO_SECTIONS,
     }
 }

@@ -15,18 +15,18 @@ use Rattle.wire.specs.Answer.{refusal}
 use Rattle.wire.specs.Choice.{no-true}
 use Rattle.wire.proofs.Tests.{and-yes}
 use Rattle.wire.proofs.Answers.{no-good}
-use Rattle.wire.specs.Formats.{constant, _▹_, into, listed, behind, fixed, u8, u16, u32, prefixed, only}
+use Rattle.wire.specs.Formats.{_▹_, into, listed, behind, fixed, u8, u16, u32, prefixed, only, tagged}
 use Rattle.mapblock.specs.Inventory.{BlockFormat, inventory}
-use Rattle.mapblock.specs.Data.{Variable, MetadataRow, ObjectRow, Timers, Front, Rest, Block, noMapping, noTimers, metadataShape, timersShape, stepsShape}
-use Rattle.mapblock.specs.Layout.{since, before, all, newPosition, variable, metadataRow, width, unmapped, nodes, nameMapping, listVersionBytes, listVersion, metadata, earlyTimers, objects, lateTimers, timerRow, front, rest, steps}
+use Rattle.mapblock.specs.Data.{Variable, MetadataRow, MetadataList, ObjectRow, Timers, Front, Rest, Block, noMapping, noTimers, metadataShape, timersShape, stepsShape}
+use Rattle.mapblock.specs.Layout.{since, before, all, newPosition, variable, metadataRow, width, unmapped, nodes, nameMapping, listVersionBytes, isListVersion, isCounted, listForm, metadata, earlyTimers, objects, lateTimers, timerRow, front, rest, steps}
 use Rattle.mapblock.specs.Block.{judgedWhole, blockFrom, block, firstUnmapped, judged, verdict}
 use Rattle.mapblock.specs.Numbers.{refusalNumber}
 use Rattle.block_reader.specs.FixedFields.{FixedField, Differs, ExactlyWhere, frontVersion, contentWidth, paramsWidth, metadataVersion, privateByte, timerByte, objectVersion, mappingVersionInFront, mappingVersionBehind, timerRowLength, GivenExactlyWhere}
 use Rattle.block_reader.specs.Questions.{blockAnswer, blockOf}
 use Rattle.mapblock.specs.declared.fault.Fault.{Fault}
 use Rattle.mapblock.specs.declared.fault.Fault.the-variants as fault
-use Rattle.block_reader.proofs.GivenFaults.{gives-constant, gives-number, gives-fixed, gives-only, gives-opening, gives-mapping, gives-params, gives-nodes, gives-metadata, gives-early, gives-objects, gives-late, gives-front, gives-nothing, gives-listed, gives-metadata-rows, gives-names, gives-object-row, gives-timers, gives-prefixed, gives-new-position, gives-ending, gives-behind-metadata, gives-rest, gives-inventory, gives-iso, _then_}
-use Rattle.block_reader.proofs.Stops.{Stops, Other, Behind, then-stops, stops-first, stops-behind, differs-behind, behind-differs, Here, StopsExactly, here-refine, here-iso, here-first, here-fixed, here-absent, here-nothing, here-only, exact-iso, exact-absent, exact-then-here, exact-first, exact-behind, exact-nothing, exact-items, fieldBehind, rowField}
+use Rattle.block_reader.proofs.GivenFaults.{gives-constant, gives-list-form, gives-number, gives-fixed, gives-only, gives-opening, gives-mapping, gives-params, gives-nodes, gives-metadata, gives-early, gives-objects, gives-late, gives-front, gives-nothing, gives-listed, gives-metadata-rows, gives-names, gives-object-row, gives-timers, gives-prefixed, gives-new-position, gives-ending, gives-behind-metadata, gives-rest, gives-inventory, gives-iso, _then_}
+use Rattle.block_reader.proofs.Stops.{Stops, Other, Behind, then-stops, stops-first, stops-behind, differs-behind, behind-differs, Here, StopsExactly, here-refine, here-iso, here-first, here-fixed, here-absent, here-nothing, here-only, exact-iso, exact-absent, exact-then-here, exact-first, exact-behind, exact-only, exact-nothing, exact-items, fieldBehind, fieldWhere, rowField}
 
 -- the eight steps, but for their record
 abbrev frontAndRest : BlockFormat (Front × Rest)
@@ -57,13 +57,18 @@ params-width =
     (λ f. gives-rest refl all (frontVersion f) refl refl refl refl refl refl refl refl refl refl)
 
 -- ---- 33: metadata list version
+form-here : (v : ℕ) → Here 33 (listForm v) true (listVersionBytes v) (isListVersion v)
+unfolding listForm
+form-here v = here-iso _ _ _ _ _ _ (here-refine (listVersionBytes v) (isListVersion v) fault.MetadataVersion refl refl)
+
 metadata-version : StopsExactly 33 frontAndRest (λ (_ : Unit {0}). metadataVersion)
 unfolding rest metadata
 metadata-version =
     exact-then-here (gives-front refl all refl refl refl refl refl) λ f.
     let v = frontVersion f in
     here-iso _ _ _ _ _ _
-    (here-first (here-fixed (listVersionBytes v) (listVersion v) fault.MetadataVersion refl refl (gives-listed refl 2 (gives-metadata-rows refl refl refl v refl))) λ _.
+    (here-first
+    (here-iso _ _ _ _ _ _ (here-first (form-here v) λ form. gives-only (isCounted form) [] (gives-listed refl 2 (gives-metadata-rows refl refl refl v refl)))) λ _.
     gives-behind-metadata refl all v refl refl refl refl refl refl refl refl)
 
 -- ---- 34: the private byte of a variable
@@ -108,14 +113,15 @@ private-in-row v seen = go (since 23 v) refl
         (λ i a k. let z = leb-true 28 v (and-yes (ltb (i .0) (a .1 .0)) (since 28 v) k .1) in omega (arith, leb-false 23 v h))
 
 private-in-metadata : (v : ℕ) → StopsExactly 34 (metadata v) (λ (x : ℕ × (ℕ × Unit {0})).
-    fieldBehind (constant (listVersionBytes v) (listVersion v) fault.MetadataVersion) λ _.
-    fieldBehind u16 λ count. rowField (metadataRow v) (privateInRow v) count x)
-unfolding metadata behind listed
+    fieldBehind (listForm v) λ form.
+    fieldWhere (isCounted form) (fieldBehind u16 λ count. rowField (metadataRow v) (privateInRow v) count x))
+unfolding metadata listed
 private-in-metadata v =
     exact-iso _ _ _ _ _ _
-    (exact-behind (gives-constant refl (listVersionBytes v) (listVersion v) fault.MetadataVersion refl) λ _.
-    exact-iso _ _ _ _ _ _
-    (exact-behind (gives-number refl 2) λ count. exact-items (private-in-row v) count))
+    (exact-behind (gives-list-form refl v refl) λ form.
+    exact-only (isCounted form) []
+    (exact-iso _ _ _ _ _ _
+    (exact-behind (gives-number refl 2) λ count. exact-items (private-in-row v) count)))
 
 private-byte : StopsExactly 34 frontAndRest (λ (x : ℕ × (ℕ × Unit {0})). privateByte (x .0) (x .1 .0))
 unfolding rest
@@ -134,7 +140,7 @@ early-here v = go (before 25 v) (since 24 v) (since 23 v) (λ h. le-leb 23 v (om
     go : (b c d : Bool) → (c ≡ true → d ≡ true)
         → Here 35
         (only b noTimers
-        (cond c (into timersShape (refine (λ t. leb t 1) fault.TimerByte u8 ⨾ λ t. only (eqb t 1) [] (listed 2 timerRow)))
+        (cond c (into timersShape (tagged (refine (λ t. leb t 1) fault.TimerByte u8) (λ t. eqb t 1) [] (listed 2 timerRow)))
         (cond d (fixed 1 0 fault.ByteOf23 (nothing noTimers))
         (nothing noTimers))))
         (d && b) 1 (λ t. cond c (leb t 1) (eqb t 0))
@@ -186,7 +192,7 @@ mapping-version-in-front =
     gives-nodes refl (o .version) refl refl)
 
 -- behind the node data
-abbrev mappingInRest : ℕ → FixedField (List MetadataRow × (Timers × (List ObjectRow × ℕ)))
+abbrev mappingInRest : ℕ → FixedField (MetadataList × (Timers × (List ObjectRow × ℕ)))
 mappingInRest v = record { before = metadata v ▹ earlyTimers v ▹ objects ▹ u32; present = λ x. before 29 v; bytes = λ x. 1; allowed = λ x n. eqb n 0 }
 
 mapping-version-in-rest : (v : ℕ) → StopsExactly 37 (rest all v) (λ (_ : Unit {0}). mappingInRest v)

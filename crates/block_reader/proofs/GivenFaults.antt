@@ -8,10 +8,10 @@ use lib.Dec.{leb, eqb}
 use lib.ListN.{length, take, drop}
 use Rattle.wire.specs.Read.{Read, done, refused, bind, mapRead, shift}
 use Rattle.wire.specs.Format.{tested, run, nothing, refine, _⨾_, next, pair, iso, items, readItems}
-use Rattle.wire.specs.Formats.{constant, _▹_, number, signed, s32, prefixed, listed, behind, fixed, only}
+use Rattle.wire.specs.Formats.{constant, _▹_, number, signed, s32, prefixed, listed, behind, fixed, only, tagged}
 use Rattle.mapblock.specs.Inventory.{BlockFormat, through, sized, inventory}
 use Rattle.mapblock.specs.Data.{NameRow, MetadataRow, TimerRow, noMapping, noTimers}
-use Rattle.mapblock.specs.Layout.{since, before, all, unused, unmapped, position, newPosition, nameRowBy, nameRow, variable, metadataRowBy, metadataRow, objectRow, timerRowBy, timerRow, nameMapping, width, params, nodes, listVersionBytes, listVersion, metadata, objects, earlyTimers, lateTimers, isVersion, opening, front, rest}
+use Rattle.mapblock.specs.Layout.{since, before, all, unused, unmapped, position, newPosition, nameRowBy, nameRow, variable, metadataRowBy, metadataRow, objectRow, timerRowBy, timerRow, nameMapping, width, params, nodes, listVersionBytes, isListVersion, isCounted, listForm, metadata, objects, earlyTimers, lateTimers, isVersion, opening, front, rest}
 use Rattle.mapblock.specs.declared.fault.Fault.{Fault}
 use Rattle.mapblock.specs.declared.fault.Fault.the-variants as fault
 
@@ -114,6 +114,11 @@ module _ {P : Fault → Type 0} where
     unfolding listed
     gives-listed k h = gives-iso _ _ _ _ _ _ (gives-number k then gives-items h)
 
+    -- a list behind a tag
+    pub gives-tagged : {A : Type 0} {tag : BlockFormat ℕ} (test : ℕ → Bool) {item : List A → BlockFormat A} → FormatRefusedWith P tag → ((seen : List A) → FormatRefusedWith P (item seen))
+        → FormatRefusedWith P (tagged tag test [] (listed 2 item))
+    gives-tagged test h k = h then λ t. gives-only (test t) [] (gives-listed 2 k)
+
     pub gives-inventory : FormatRefusedWith P inventory
     unfolding inventory
     gives-inventory = record { reads = λ s. go s (through true s) }
@@ -185,6 +190,10 @@ module _ {P : Fault → Type 0} where
     unfolding nodes
     gives-nodes v content widths = gives-fixed 1 (width v) fault.ContentWidth content (gives-fixed 1 2 fault.ParamsWidth widths (gives-params v))
 
+    pub gives-list-form : (v : ℕ) → P fault.MetadataVersion → FormatRefusedWith P (listForm v)
+    unfolding listForm
+    gives-list-form v version = gives-iso _ _ _ _ _ _ (gives-refine (isListVersion v) fault.MetadataVersion version (gives-number (listVersionBytes v)))
+
     module _ (above : P fault.PositionAbove) (twice : P fault.PositionTwice) where
       pub gives-metadata-rows : (v : ℕ) → P fault.PrivateByte → (seen : List MetadataRow) → FormatRefusedWith P (metadataRow v seen)
       unfolding metadataRow
@@ -192,7 +201,7 @@ module _ {P : Fault → Type 0} where
 
       pub gives-metadata : (v : ℕ) → P fault.MetadataVersion → P fault.PrivateByte → FormatRefusedWith P (metadata v)
       unfolding metadata
-      gives-metadata v version own = gives-fixed (listVersionBytes v) (listVersion v) fault.MetadataVersion version (gives-listed 2 (gives-metadata-rows v own))
+      gives-metadata v version own = gives-iso _ _ _ _ _ _ (gives-tagged isCounted (gives-list-form v version) (gives-metadata-rows v own))
 
       pub gives-timers : (seen : List TimerRow) → FormatRefusedWith P (timerRow seen)
       unfolding timerRow
@@ -203,7 +212,7 @@ module _ {P : Fault → Type 0} where
       gives-early v byte other =
           gives-only (before 25 v) noTimers
           (gives-cond (since 24 v)
-          (gives-iso _ _ _ _ _ _ (gives-refine (λ t. leb t 1) fault.TimerByte byte (gives-number 1) then λ t. gives-only (eqb t 1) [] (gives-listed 2 gives-timers)))
+          (gives-iso _ _ _ _ _ _ (gives-tagged (λ t. eqb t 1) (gives-refine (λ t. leb t 1) fault.TimerByte byte (gives-number 1)) gives-timers))
           (gives-cond (since 23 v) (gives-fixed 1 0 fault.ByteOf23 other (gives-nothing noTimers)) (gives-nothing noTimers)))
 
       pub gives-late : (v : ℕ) → P fault.TimerRowLength → FormatRefusedWith P (lateTimers v)

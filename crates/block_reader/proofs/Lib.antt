@@ -15,6 +15,7 @@ pub mod Taken
 -- Sections, rows and names.
 pub mod NameWalks
 pub mod SectionsThere
+pub mod BothForms
 pub mod RunsThere
 pub mod Walk
 pub mod GivenFaults

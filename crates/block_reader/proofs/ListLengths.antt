@@ -11,11 +11,11 @@ use borrow.Author.Tests.{le-leb}
 use Rattle.wire.specs.Bytes.{Bytes, fromBE, toBE-length}
 use Rattle.wire.specs.Read.{Read, done, refused, mapRead, shift, not-done, map-done, bind-done, shift-done}
 use Rattle.wire.specs.Format.{run, nothing, refine, _⨾_, iso, items, encodeItems, readItems, pair, next}
-use Rattle.wire.specs.Formats.{number, behind, fixed, listed, only, into}
+use Rattle.wire.specs.Formats.{number, behind, fixed, listed, only, tagged, into}
 use Rattle.mapblock.specs.Inventory.{BlockFormat}
 use Rattle.wire.specs.Walk.{rowsRead}
-use Rattle.mapblock.specs.Data.{NameRow, MetadataRow, ObjectRow, TimerRow, NameMapping, Timers, noTimers, nameMappingShape, timersShape}
-use Rattle.mapblock.specs.Layout.{since, before, all, nameRow, metadataRow, objectRow, timerRow, nameMapping, listVersionBytes, listVersion, metadata, objects, earlyTimers, lateTimers}
+use Rattle.mapblock.specs.Data.{NameRow, MetadataList, ObjectRow, TimerRow, NameMapping, Timers, noTimers, nameMappingShape, timersShape}
+use Rattle.mapblock.specs.Layout.{since, before, all, nameRow, metadataRow, objectRow, timerRow, nameMapping, listVersionBytes, isCounted, listForm, metadata, objects, earlyTimers, lateTimers}
 use Rattle.mapblock.specs.Table.{freeIn, unmarked, frontRows, NamesMarked}
 use Rattle.block_reader.specs.Scan.{metadataHead}
 use Rattle.mapblock.specs.declared.fault.Fault.{Fault}
@@ -57,6 +57,16 @@ module _ {A : Type 0} (k : ℕ) (item : List A → BlockFormat A) where
   fixed-length : (j v : ℕ) (e : Fault) (l : List A) → length (fixed j v e (listed k item) .encode l) ≡ j + (k + length (encodeItems item [] l))
   unfolding behind iso _⨾_ refine
   fixed-length j v e l = rw (length-append, num-length j v, listed-length l)
+
+  -- behind a tag, where the list is written or has no items
+  tagged-length : (tag : BlockFormat ℕ) (test : ℕ → Bool) (t : ℕ) (l : List A) → only (test t) [] (listed k item) .Ok l
+      → length (tagged tag test [] (listed k item) .encode (t, l)) ≡ length (tag .encode t) + (cond (test t) k 0 + length (encodeItems item [] l))
+  unfolding _⨾_ nothing
+  tagged-length tag test t l h = length-append (tag .encode t) (only (test t) [] (listed k item) .encode l) ∙ ap (λ (n : ℕ). length (tag .encode t) + n) (go (test t) h)
+    where
+      go : (b : Bool) → only b [] (listed k item) .Ok l → length (only b [] (listed k item) .encode l) ≡ cond b k 0 + length (encodeItems item [] l)
+      go true o = listed-length l
+      go false o = rw o
 
   -- as many items as are told, behind the count
   listed-rows : (s : List ℕ) {l : List A} {n : ℕ} → listed k item .read s ≡ done l n → (m : ℕ) × (items item (length l) .read (drop k s) ≡ done l m) × (k + m ≡ n)
@@ -105,15 +115,15 @@ unfolding nameMapping iso _⨾_
 name-mapping-rows-length sv = rw (length-append, num-length 4 (sv .timestamp), fixed-length 2 (nameRow all) 1 0 fault.MappingVersion (sv .names)) (omega arith)
 
 -- ---- metadata and objects
-pub metadata-rows-length : (v : ℕ) (l : List MetadataRow) → length (metadata v .encode l) ≡ metadataHead v + length (encodeItems (metadataRow v) [] l)
-unfolding metadata
-metadata-rows-length v l =
-    fixed-length 2 (metadataRow v) (listVersionBytes v) (listVersion v) fault.MetadataVersion l
-    ∙ go (since 23 v) (length (encodeItems (metadataRow v) [] l))
-  where
-    go : (b : Bool) (n : ℕ) → cond b 1 2 + (2 + n) ≡ cond b 3 4 + n
-    go true n = omega arith
-    go false n = omega arith
+pub form-length : (v form : ℕ) → length (listForm v .encode form) ≡ listVersionBytes v
+unfolding listForm iso refine
+form-length v form = num-length (listVersionBytes v) _
+
+pub metadata-rows-length : (v : ℕ) (x : MetadataList) → metadata v .Ok x → length (metadata v .encode x) ≡ metadataHead v (x .form) + length (encodeItems (metadataRow v) [] (x .rows))
+unfolding metadata iso _⨾_
+metadata-rows-length v x h =
+    tagged-length 2 (metadataRow v) (listForm v) isCounted (x .form) (x .rows) (h .1)
+    ∙ rw (form-length v (x .form)) (omega arith)
 
 pub objects-rows-length : (l : List ObjectRow) → length (objects .encode l) ≡ 3 + length (encodeItems (λ _. objectRow) [] l)
 unfolding objects
@@ -125,7 +135,7 @@ abbrev pub AtEnd : Timers → ℕ → Type 0
 AtEnd k n = (length (encodeItems timerRow [] (k .rows)) ≡ n - cond (eqb (k .byte) 1) 3 n) × (cond (eqb (k .byte) 1) 3 n ≤ n)
 
 abbrev pub timersOf24 : BlockFormat Timers
-timersOf24 = into timersShape (refine (λ t. leb t 1) fault.TimerByte (number 1) ⨾ λ t. only (eqb t 1) [] (listed 2 timerRow))
+timersOf24 = into timersShape (tagged (refine (λ t. leb t 1) fault.TimerByte (number 1)) (λ t. eqb t 1) [] (listed 2 timerRow))
 
 abbrev pub earlyBy : Bool → Bool → Bool → BlockFormat Timers
 earlyBy a b c = only a noTimers (cond b timersOf24 (cond c (fixed 1 0 fault.ByteOf23 (nothing noTimers)) (nothing noTimers)))
@@ -135,11 +145,13 @@ rows-none k n h = subst⁻¹ (λ (x : Timers). AtEnd x n) h (omega arith, omega 
 
 rows-of-24 : (k : Timers) → timersOf24 .Ok k → AtEnd k (length (timersOf24 .encode k))
 unfolding iso _⨾_ refine nothing
-rows-of-24 k h = rw (length-append, num-length 1 (k .byte)) (go (eqb (k .byte) 1) (h .1))
+rows-of-24 k h =
+    let size = tagged-length 2 timerRow (refine (λ t. leb t 1) fault.TimerByte (number 1)) (λ t. eqb t 1) (k .byte) (k .rows) (h .1) in
+    subst⁻¹ (AtEnd k) (size ∙ rw (num-length 1 (k .byte))) (go (eqb (k .byte) 1) (h .1))
   where
-    go : (b : Bool) → only b [] (listed 2 timerRow) .Ok (k .rows) → let n = 1 + length (only b [] (listed 2 timerRow) .encode (k .rows)) in
-        (length (encodeItems timerRow [] (k .rows)) ≡ n - cond b 3 n) × (cond b 3 n ≤ n)
-    go true o = rw (listed-length 2 timerRow (k .rows)) (omega arith, omega arith)
+    go : (b : Bool) → only b [] (listed 2 timerRow) .Ok (k .rows) → let r = length (encodeItems timerRow [] (k .rows)) in let n = 1 + (cond b 2 0 + r) in
+        (r ≡ n - cond b 3 n) × (cond b 3 n ≤ n)
+    go true o = (omega arith, omega arith)
     go false o = rw o (omega arith, omega arith)
 
 rows-by : (a b c : Bool) (k : Timers) → earlyBy a b c .Ok k → AtEnd k (length (earlyBy a b c .encode k))

@@ -19,9 +19,9 @@ use Rattle.mapblock.specs.Told.{shownMapping}
 use Rattle.mapblock.specs.declared.fault.Fault.{Fault}
 use Rattle.block_reader.specs.declared.scan.FrontFields.{FrontFields}
 use Rattle.block_reader.specs.declared.scan.MiddleFields.{MiddleFields}
-use Rattle.block_reader.proofs.ListLengths.{name-mapping-rows, restored, metadata-rows-length, objects-rows-length}
+use Rattle.block_reader.proofs.ListLengths.{name-mapping-rows, restored, objects-rows-length}
 use Rattle.block_reader.proofs.ReadUpTo.{block-no-middle, block-no-names}
-use Rattle.block_reader.proofs.WithoutLateTimers.{front-read, middle-inside, early-fits, same-table, upto-old}
+use Rattle.block_reader.proofs.WithoutLateTimers.{front-read, middle-inside, metadata-takes, early-fits, same-table, upto-old}
 use Rattle.block_reader.proofs.Verdicts.{verdict-refused}
 
 module _ (t u s : List ℕ) (w : FrontFields) (F : FrontIs t u s w) where
@@ -42,7 +42,7 @@ module _ (t u s : List ℕ) (w : FrontFields) (F : FrontIs t u s w) where
 
     pub sized : InReach (length s) → Sized w m
     sized l = record {
-      metadata = omega (arith, M .first, metadata-rows-length (w .version) (M .x .metadata));
+      metadata = omega (arith, metadata-takes t u s w F m M b);
       early = early-fits t u s w F m M b;
       objects = omega (arith, M .third, objects-rows-length (M .x .objects));
       fits = omega (arith, middle-inside t u s w F m M b);

@@ -5,17 +5,17 @@ use mathlib.Core.List.{List, [], _++_, append-assoc, append-nil}
 use mathlib.Core.Bool.{Bool, true, false, cond, not}
 use native.Mathlib.Nat.{suc-mul, mul-comm, mul-le-mul-right}
 use native.Mathlib.Omega.{arith}
-use lib.Dec.{eqb}
+use lib.Dec.{leb, eqb}
 use lib.ListN.{length, getD, take, drop, length-append, length-drop}
 use lib.Seq.{drop-at, take-append-seam, drop-drop}
 use Rattle.wire.specs.Bytes.{Bytes, fromBE}
 use Rattle.wire.specs.Read.{done}
 use Rattle.wire.specs.Format.{Parsed, nothing, refine, _⨾_, iso, items, encodeItems}
-use Rattle.wire.specs.Formats.{behind, fixed, listed, only}
+use Rattle.wire.specs.Formats.{behind, fixed, listed, only, tagged, u8}
 use Rattle.mapblock.specs.Inventory.{BlockFormat}
-use Rattle.mapblock.specs.Data.{Block, NameMapping, Timers, Nodes, MetadataRow, ObjectRow, noMapping, noTimers}
-use Rattle.mapblock.specs.Layout.{since, before, all, width, nameRow, metadataRow, objectRow, timerRow, opening, nameMapping, nodes, metadata, earlyTimers, objects, lateTimers, front, rest, steps}
-use Rattle.mapblock.specs.Block.{block, openingOf, nameMappingOf, timersOf, listsAt, frontNamesEnd, param0At, verdict}
+use Rattle.mapblock.specs.Data.{Block, NameMapping, Timers, Nodes, MetadataList, ObjectRow, noMapping, noTimers}
+use Rattle.mapblock.specs.Layout.{since, before, all, width, nameRow, metadataRow, objectRow, timerRow, opening, nameMapping, nodes, isCounted, listForm, metadata, earlyTimers, objects, lateTimers, front, rest, steps}
+use Rattle.mapblock.specs.Block.{block, openingOf, nameMappingOf, metadataOf, timersOf, listsAt, frontNamesEnd, param0At, verdict}
 use Rattle.mapblock.specs.Params.{listsOf}
 use Rattle.wire.specs.Ranges.{rangeAt}
 use Rattle.block_reader.specs.Sections.{rangeTo, sections}
@@ -59,15 +59,27 @@ module _ {A : Type 0} (k : ℕ) (item : List A → BlockFormat A) where
       let x = listed-ending l in
       (num j .encode v ++ x .0, rw (x .1) (sym (append-assoc (num j .encode v) (x .0) (encodeItems item [] l))))
 
+  -- behind a tag, where the list is written or has no items
+  tagged-ending : (tag : BlockFormat ℕ) (test : ℕ → Bool) (t : ℕ) (l : List A) → only (test t) [] (listed k item) .Ok l
+      → Ending (tagged tag test [] (listed k item) .encode (t, l)) (encodeItems item [] l)
+  unfolding _⨾_ nothing
+  tagged-ending tag test t l h = go (test t) h
+    where
+      go : (b : Bool) → only b [] (listed k item) .Ok l → Ending (tag .encode t ++ only b [] (listed k item) .encode l) (encodeItems item [] l)
+      go true o =
+          let x = listed-ending l in
+          (tag .encode t ++ x .0, rw (x .1) (sym (append-assoc (tag .encode t) (x .0) (encodeItems item [] l))))
+      go false o = rw o (tag .encode t, refl)
+
 names-ending : (sv : NameMapping) → Ending (nameMapping all .encode sv) (encodeItems (nameRow all) [] (sv .names))
 unfolding nameMapping iso _⨾_
 names-ending sv =
     let x = fixed-ending 2 (nameRow all) 1 0 fault.MappingVersion (sv .names) in
     (num 4 .encode (sv .timestamp) ++ x .0, rw (x .1) (sym (append-assoc (num 4 .encode (sv .timestamp)) (x .0) (encodeItems (nameRow all) [] (sv .names)))))
 
-metadata-ending : (v : ℕ) (l : List MetadataRow) → Ending (metadata v .encode l) (encodeItems (metadataRow v) [] l)
-unfolding metadata
-metadata-ending v l = fixed-ending 2 (metadataRow v) _ _ fault.MetadataVersion l
+metadata-ending : (v : ℕ) (x : MetadataList) → metadata v .Ok x → Ending (metadata v .encode x) (encodeItems (metadataRow v) [] (x .rows))
+unfolding metadata iso _⨾_
+metadata-ending v x h = tagged-ending 2 (metadataRow v) (listForm v) isCounted (x .form) (x .rows) (h .1)
 
 objects-ending : (l : List ObjectRow) → Ending (objects .encode l) (encodeItems (λ _. objectRow) [] l)
 unfolding objects
@@ -78,14 +90,8 @@ none-ending : (x : List ℕ) (k : Timers) → k ≡ noTimers → Ending x (encod
 none-ending x k h = subst⁻¹ (λ (y : Timers). Ending x (encodeItems timerRow [] (y .rows))) h (x, sym (append-nil x))
 
 ending-of-24 : (k : Timers) → timersOf24 .Ok k → Ending (timersOf24 .encode k) (encodeItems timerRow [] (k .rows))
-unfolding iso _⨾_ refine nothing
-ending-of-24 k h = go (eqb (k .byte) 1) (h .1)
-  where
-    go : (b : Bool) → only b [] (listed 2 timerRow) .Ok (k .rows) → Ending (num 1 .encode (k .byte) ++ only b [] (listed 2 timerRow) .encode (k .rows)) (encodeItems timerRow [] (k .rows))
-    go true o =
-        let x = listed-ending 2 timerRow (k .rows) in
-        (num 1 .encode (k .byte) ++ x .0, rw (x .1) (sym (append-assoc (num 1 .encode (k .byte)) (x .0) (encodeItems timerRow [] (k .rows)))))
-    go false o = rw o (num 1 .encode (k .byte), refl)
+unfolding iso _⨾_
+ending-of-24 k h = tagged-ending 2 timerRow (refine (λ t. leb t 1) fault.TimerByte u8) (λ t. eqb t 1) (k .byte) (k .rows) (h .1)
 
 ending-by : (a b c : Bool) (k : Timers) → earlyBy a b c .Ok k → Ending (earlyBy a b c .encode k) (encodeItems timerRow [] (k .rows))
 unfolding nothing behind iso _⨾_
@@ -103,7 +109,7 @@ unfolding lateTimers iso _⨾_ nothing
 late-ending v k h = rw h (fixed-ending 2 timerRow 1 10 fault.TimerRowLength (k .rows))
 
 -- ---- the pieces of a block's bytes; inFront: the names stand in front, atEnd: the timers stand at the end
-record Pieces : Type 0 where
+pub record Pieces : Type 0 where
   inFront : Bool
   atEnd : Bool
   opening : List ℕ
@@ -137,13 +143,13 @@ module _ (x : Pieces) where
   timers₂ = cond (x .atEnd) (x .late) []
 
   -- the bytes up to the node data, and behind the metadata
-  abbrev toNodes : List ℕ
+  abbrev pub toNodes : List ℕ
   toNodes = x .opening ++ (names₁ ++ x .nodes)
 
-  abbrev behindMetadata : List ℕ
+  abbrev pub behindMetadata : List ℕ
   behindMetadata = timers₁ ++ (x .objects ++ (names₂ ++ timers₂))
 
-  abbrev whole : List ℕ
+  abbrev pub whole : List ℕ
   whole = toNodes ++ (x .metadata ++ behindMetadata)
 
   abbrev frontEnd : ℕ
@@ -241,26 +247,30 @@ module _ (b : Block) where
   abbrev v : ℕ
   v = b .head .version
 
-  abbrev pieces : Pieces
+  abbrev pub pieces : Pieces
   pieces = record {
     inFront = since 29 v;
     atEnd = since 25 v;
     opening = opening .encode (openingOf b);
     nameMapping = nameMapping all .encode (nameMappingOf b);
     nodes = nodes v .encode (b .nodes);
-    metadata = metadata v .encode (b .metadata);
+    metadata = metadata v .encode (metadataOf b);
     early = earlyTimers v .encode (timersOf b);
     objects = objects .encode (b .objects);
     late = lateTimers v .encode (timersOf b);
   }
 
-  block-overwrite : block all .encode b ≡ whole pieces
+  pub block-overwrite : block all .encode b ≡ whole pieces
   unfolding block iso steps front rest _⨾_
   block-overwrite = rw (slot-first (since 29 v) (nameMapping all) (nameMappingOf b) noMapping, slot-second (since 29 v) (nameMapping all) (nameMappingOf b) noMapping, early-slot v (timersOf b), late-slot v (timersOf b))
 
   nodes-ok : block all .Ok b → nodes v .Ok (b .nodes)
   unfolding block iso steps front _⨾_
   nodes-ok h = h .0 .1 .1
+
+  pub metadata-ok : block all .Ok b → metadata v .Ok (metadataOf b)
+  unfolding block iso steps rest _⨾_
+  metadata-ok h = h .1 .0
 
   early-ok : block all .Ok b → since 25 v ≡ false → earlyTimers v .Ok (timersOf b)
   unfolding block iso steps rest _⨾_
@@ -276,7 +286,7 @@ module _ (s : List ℕ) (b : Block) (n : ℕ) (w : Bytes s) (h : block all .read
 
   nodes-read : nodes version .read (drop (frontNamesEnd b) s) ≡ done (b .nodes) (length (nodes version .encode (b .nodes)))
   nodes-read =
-      let behind = metadata version .encode (b .metadata) ++ behindMetadata (pieces b) in
+      let behind = metadata version .encode (metadataOf b) ++ behindMetadata (pieces b) in
       ap (λ (x : List ℕ). nodes version .read (drop (frontNamesEnd b) x)) (took .front ∙ ap (λ (x : List ℕ). x ++ drop n s) (block-overwrite b))
       ∙ ap (nodes version .read) (nodes-lie (pieces b) (drop n s))
       ∙ nodes version .forward (b .nodes) (nodes-ok b (took .ok)) (behind ++ drop n s)
@@ -313,7 +323,7 @@ module _ (s : List ℕ) (b : Block) (n : ℕ) (w : Bytes s) (h : verdict all s �
   rows-in =
       let v = b .head .version in record {
         names = names-hold (pieces b) (names-ending (nameMappingOf b));
-        metadata = metadata-holds (pieces b) (metadata-ending v (b .metadata));
+        metadata = metadata-holds (pieces b) (metadata-ending v (metadataOf b) (metadata-ok b ok));
         objects = objects-hold (pieces b) (objects-ending (b .objects));
         timers = timers-hold (pieces b) (λ z. early-ending v (timersOf b) (early-ok b ok z)) (late-ending v (timersOf b));
       }

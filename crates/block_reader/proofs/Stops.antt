@@ -114,6 +114,10 @@ fieldBehind f field = record {
   allowed = λ x. field (x .0) .allowed (x .1);
 }
 
+-- a field of what may be left out
+abbrev pub fieldWhere : {A : Type 0} → Bool → FixedField A → FixedField A
+fieldWhere b field = record { before = field .before; present = λ a. b && field .present a; bytes = field .bytes; allowed = field .allowed }
+
 -- ---- a field of the second of two
 -- what a difference says beside what was read
 abbrev OtherBehind : {A : Type 0} → FixedField A → List ℕ → A → Type 0
@@ -265,6 +269,14 @@ module _ {n : ℕ} where
       go s p (inr z) =
           let x = behind (z .a) .found (drop (z .m) s) (z .q) (z .stops) in
           (x .0, differs-behind n f g (λ a. fields a (x .0)) s p z (x .1))
+
+  -- fields of a format that may be left out
+  pub exact-only : {I A B : Type 0} {fields : I → FixedField B} (b : Bool) (a : A) {f : BlockFormat A} → StopsExactly n f fields → StopsExactly n (only b a f) (λ i. fieldWhere b (fields i))
+  exact-only true a h = record {
+    found = λ s p z. let x = h .found s p z in (x .0, record { earlier = x .1 .earlier; reads = x .1 .reads; present = x .1 .present; other = x .1 .other });
+    given = λ s p i z. h .given s p i record { earlier = z .earlier; reads = z .reads; present = z .present; other = z .other };
+  }
+  exact-only false a h = exact-absent (gives-nothing a) (λ i x z. no-true z)
 
   -- behind no bytes
   pub exact-nothing : {I A B C : Type 0} {fields : I → FixedField C} (a : A) {f : BlockFormat B} → StopsExactly n f fields → StopsExactly n (nothing a ▹ f) fields

@@ -54,11 +54,11 @@ taken-read s b n w h =
 pub writes-back : WritesBack
 writes-back s b n w h = sym (taken s b n w .0 h .1)
 
-valid-bytes : (b : Block) → Valid b → Bytes (block all .encode b)
+pub valid-bytes : (b : Block) → Valid b → Bytes (block all .encode b)
 valid-bytes b g = block all .bytes b (valid-is-ok b .0 g .0)
 
 -- by any reader of whom the same holds
-read-back : (r : Reader) → TakenBy r → (b : Block) → Valid b → r (block all .encode b) ≡ done b (length (block all .encode b))
+pub read-back : (r : Reader) → TakenBy r → (b : Block) → Valid b → r (block all .encode b) ≡ done b (length (block all .encode b))
 read-back r t b g = t (block all .encode b) b (length (block all .encode b)) (valid-bytes b g) .1 (g, refl, refl)
 
 pub reads-back : ReadsBack
@@ -84,7 +84,7 @@ air-bytes = bytes-cons 97 (105 ∷ 114 ∷ []) (lit< tt) (bytes-cons 105 (114 �
 -- of a version, saved at a second
 abbrev pub airAt : ℕ → ℕ → Block
 airAt v t = record {
-  head = record { version = v; flags = 0; lighting = 65535; timestamp = t; timer = 0 };
+  head = record { version = v; flags = 0; lighting = 65535; timestamp = t; timer = 0; form = 0 };
   names = record { id = 0; name = air } ∷ [];
   nodes = record { param0 = zeros; param1 = zeros; param2 = zeros };
   metadata = [];
@@ -109,6 +109,8 @@ air-valid v t h k l = record {
     timestamp = l;
     timer = omega arith;
     timer-except-24 = λ _. refl;
+    form = omega arith;
+    form-in-22 = λ _. refl;
   };
   nodes = record {
     param0-to-23 = λ _. zeros-below 256 (lit< tt);
@@ -120,6 +122,7 @@ air-valid v t h k l = record {
   metadata = record { count = lit< tt; each = tt };
   objects = record { count = lit< tt; each = tt };
   timers = record { count = lit< tt; each = tt };
+  metadata-of-zero = λ _. refl;
   timers-before-24 = λ _. refl;
   timers-of-24 = λ _ _. refl;
   metadata-distinct = tt;

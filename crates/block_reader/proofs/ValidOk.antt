@@ -4,21 +4,23 @@ use mathlib.Core.Path.{_≡_, refl, ap, ap₂, subst, subst⁻¹}
 use mathlib.Core.Logic.{_↔_}
 use mathlib.Core.Option.{none}
 use mathlib.Core.List.{List, [], _∷_}
-use mathlib.Core.Bool.{Bool, true, false, cond, not}
+use mathlib.Core.Bool.{Bool, true, false, cond, not, or-true}
 use native.Mathlib.Omega.{arith}
 use lib.Dec.{leb, eqb, lit<}
 use lib.ListN.{length, getD}
-use borrow.Author.Tests.{le-leb, lt-leb, leb-true, eqb-true, eqb-false}
+use borrow.Author.Tests.{le-leb, lt-leb, leb-true, eq-eqb, ne-eqb, eqb-true, eqb-false}
+use Rattle.wire.specs.Choice.{no-true}
 use Rattle.wire.proofs.Tests.{and-yes, yes-and}
 use Rattle.wire.specs.Format.{nothing, refine, _⨾_, iso, items, OkItems, items-length}
 use Rattle.wire.specs.Formats.{number, u16, fixed, listed, times, only}
 use Rattle.mapblock.specs.Inventory.{BlockFormat}
-use Rattle.mapblock.specs.Data.{NameRow, MetadataRow, ObjectRow, TimerRow, Nodes, Opening, NameMapping, Timers, Block, noMapping, noTimers}
-use Rattle.mapblock.specs.Layout.{since, all, unmapped, nameRow, metadataRow, objectRow, timerRow, nameMapping, width, params, nodes, listVersionBytes, listVersion, metadata, objects, earlyTimers, lateTimers, opening, front, rest, steps}
-use Rattle.mapblock.specs.Block.{openingOf, nameMappingOf, timersOf, block, idAt, firstUnmapped}
+use Rattle.mapblock.specs.Data.{NameRow, MetadataRow, MetadataList, ObjectRow, TimerRow, Nodes, Opening, NameMapping, Timers, Block, noMapping, noTimers}
+use Rattle.mapblock.specs.Layout.{since, all, unmapped, nameRow, metadataRow, objectRow, timerRow, nameMapping, width, params, nodes, listVersion, isCounted, listForm, metadata, objects, earlyTimers, lateTimers, opening, front, rest, steps}
+use Rattle.mapblock.specs.Block.{openingOf, nameMappingOf, metadataOf, timersOf, block, idAt, firstUnmapped}
 use Rattle.mapblock.specs.Valid.{Has, Distinct, U8, U16, U32, NameGood, MetadataGood, ObjectGood, TimerGood, Rows, Entries, NodesGood, Valid}
 use Rattle.block_reader.specs.Theorems.{ValidIsOk}
 use Rattle.mapblock.specs.declared.fault.Fault.the-variants as fault
+use Rattle.mapblock.proofs.TaggedLists.{counted-is}
 use Rattle.mapblock.proofs.Firsts.{first-none, none-fails}
 use Rattle.mapblock.proofs.Entries.{width-old, width-new, width-range}
 use Rattle.mapblock.proofs.Keyed.{has-used, used-has, each-ok, rows-ok}
@@ -200,18 +202,59 @@ objects-ok l =
     let rows = each-ok ObjectGood objectRow object-ok 2 l in
     ((λ h. let x = rows .0 (list .0 h) in record { count = x .0; each = x .1 }), λ g. list .1 (rows .1 (g .count, g .each)))
 
-pub list-version : (c d : Bool) → cond c 2 1 < 256 ^ cond d 1 2
+-- ---- metadata
+list-version : (c d : Bool) → cond c 2 1 < 256 ^ cond d 1 2
 list-version true true = lit< tt
 list-version true false = lit< tt
 list-version false true = lit< tt
 list-version false false = lit< tt
 
-metadata-ok : (v : ℕ) (l : List MetadataRow) → metadata v .Ok l ↔ (Rows (MetadataGood v) l × Distinct (λ (r : MetadataRow). r .position) l)
-unfolding metadata
-metadata-ok v l =
-    let list = fixed-ok (listVersionBytes v) (listVersion v) fault.MetadataVersion (listed 2 (metadataRow v)) l (list-version (since 28 v) (since 23 v)) in
-    let rows = rows-ok (λ (r : MetadataRow). r .position) (MetadataGood v) (metadataRow v) (metadata-row-ok v) l in
-    ((λ h. rows .0 (list .0 h)), λ h. list .1 (rows .1 h))
+list-version-not-0 : (c : Bool) → eqb 0 (cond c 2 1) ≡ false
+list-version-not-0 true = refl
+list-version-not-0 false = refl
+
+zero-is : (d : Bool) → 0 < 256 ^ cond d 1 2
+zero-is true = lit< tt
+zero-is false = lit< tt
+
+-- the forms that a version has
+pub form-ok : (v form : ℕ) → listForm v .Ok form ↔ ((form ≤ 1) × (v < 23 → form ≡ 0))
+unfolding listForm iso refine number
+form-ok v form = (there form, back form)
+  where
+    there : (f : ℕ) → listForm v .Ok f → (f ≤ 1) × (v < 23 → f ≡ 0)
+    there zero h = (omega arith, λ _. refl)
+    there (suc zero) h = (omega arith, λ k. no-true (rw (list-version-not-0 (since 28 v), lt-leb 23 v k) at (h .0 .1)))
+    there (suc (suc f)) h = let e : 1 ≡ suc (suc f) = rw (ne-eqb (suc (suc f)) 0 (λ e. omega arith)) at (h .1) in absurd (omega arith)
+
+    back : (f : ℕ) → (f ≤ 1) × (v < 23 → f ≡ 0) → listForm v .Ok f
+    back zero h = ((list-version (since 28 v) (since 23 v), rw (eq-eqb (listVersion v) (listVersion v) refl)), counted-is (since 28 v))
+    back (suc zero) h = ((zero-is (since 23 v), either 23 v (λ k. rw (le-leb 23 v k) (or-true (eqb 0 (listVersion v)))) (λ k. absurd (let e = h .1 k in omega arith))), refl)
+    back (suc (suc f)) h = absurd (let e = h .0 in omega arith)
+
+-- of a version
+record MetadataListGood (v : ℕ) (x : MetadataList) : Type 0 where
+  form : x .form ≤ 1
+  in-22 : v < 23 → x .form ≡ 0
+  of-zero : x .form ≡ 1 → x .rows ≡ []
+  rows : Rows (MetadataGood v) (x .rows) × Distinct (λ (r : MetadataRow). r .position) (x .rows)
+
+metadata-ok : (v : ℕ) (x : MetadataList) → metadata v .Ok x ↔ MetadataListGood v x
+unfolding metadata iso _⨾_ nothing
+metadata-ok v x = ((λ h. there (isCounted (x .form)) refl (form-ok v (x .form) .0 (h .0)) (h .1)), λ g. (form-ok v (x .form) .1 (g .form, g .in-22), back g (isCounted (x .form)) refl))
+  where
+    keyed : listed 2 (metadataRow v) .Ok (x .rows) ↔ (Rows (MetadataGood v) (x .rows) × Distinct (λ (r : MetadataRow). r .position) (x .rows))
+    keyed = rows-ok (λ (r : MetadataRow). r .position) (MetadataGood v) (metadataRow v) (metadata-row-ok v) (x .rows)
+
+    there : (c : Bool) → isCounted (x .form) ≡ c → (x .form ≤ 1) × (v < 23 → x .form ≡ 0) → only c [] (listed 2 (metadataRow v)) .Ok (x .rows) → MetadataListGood v x
+    there true e f h = record { form = f .0; in-22 = f .1; of-zero = λ z. absurd (omega (arith, eqb-true (x .form) 0 e)); rows = keyed .0 h }
+    there false e f h = record { form = f .0; in-22 = f .1; of-zero = λ _. h; rows = rw h (record { count = omega arith; each = tt }, tt) }
+
+    back : MetadataListGood v x → (c : Bool) → isCounted (x .form) ≡ c → only c [] (listed 2 (metadataRow v)) .Ok (x .rows)
+    back g true e = keyed .1 (g .rows)
+    back g false e = g .of-zero (let n = eqb-false (x .form) 0 e in omega (arith, g .form))
+
+-- ---- the opening
 
 record OpeningGood (o : Opening) : Type 0 where
   version : (22 ≤ o .version) × (o .version ≤ 29)
@@ -259,10 +302,16 @@ valid-is-ok b = (there, back)
           before-24 = g .timers-before-24;
           of-24 = g .timers-of-24;
         } in
+        let m = metadata-ok v (metadataOf b) .1 record {
+          form = h .form;
+          in-22 = h .form-in-22;
+          of-zero = g .metadata-of-zero;
+          rows = (g .metadata, g .metadata-distinct);
+        } in
         let o = opening-ok (openingOf b) .1 record { version = h .version; flags = h .flags; lighting = h .lighting; before-27 = h .lighting-before-27 } in (
           (
             (o, (names .0, nodes-ok v (b .nodes) .1 (g .nodes))),
-            (metadata-ok v (b .metadata) .1 (g .metadata, g .metadata-distinct), (k .0, (objects-ok (b .objects) .1 (g .objects), (names .1, k .1)))),
+            (m, (k .0, (objects-ok (b .objects) .1 (g .objects), (names .1, k .1)))),
           ),
           mapped-back b (g .ids-mapped),
         )
@@ -271,7 +320,7 @@ valid-is-ok b = (there, back)
     back (h, m) =
         let o = opening-ok (openingOf b) .0 (h .0 .0) in
         let names = name-mapping-ok (nameMappingOf b) .0 (slot-ok (nameMapping all) noMapping (nameMappingOf b) (since 29 v) .0 (h .0 .1 .0, h .1 .1 .1 .1 .0)) in
-        let d = metadata-ok v (b .metadata) .0 (h .1 .0) in
+        let d = metadata-ok v (metadataOf b) .0 (h .1 .0) in
         let k = timers-there v (timersOf b) (h .1 .1 .0) (h .1 .1 .1 .1 .1) in
         record {
           head = record {
@@ -282,15 +331,18 @@ valid-is-ok b = (there, back)
             timestamp = names .0;
             timer = k .byte;
             timer-except-24 = k .except-24;
+            form = d .form;
+            form-in-22 = d .in-22;
           };
           nodes = nodes-ok v (b .nodes) .0 (h .0 .1 .1);
           names = names .1 .0;
-          metadata = d .0;
+          metadata = d .rows .0;
           objects = objects-ok (b .objects) .0 (h .1 .1 .1 .0);
           timers = k .timed .0;
+          metadata-of-zero = d .of-zero;
           timers-before-24 = k .before-24;
           timers-of-24 = k .of-24;
-          metadata-distinct = d .1;
+          metadata-distinct = d .rows .1;
           timers-distinct = k .timed .1;
           ids-distinct = names .1 .1;
           ids-mapped = mapped-there b m;

@@ -36,11 +36,11 @@ made h l a b c d = record { head = h; lists = l; sections = record { names = a; 
 made-is : (h k : Head) (l m : ℕ) (a e b f c g d i : Range) → h ≡ k → l ≡ m → a ≡ e → b ≡ f → c ≡ g → d ≡ i → made h l a b c d ≡ made k m e f g i
 made-is h k l m a e b f c g d i p q r s t u = rw (p, q, r, s, t, u)
 
-abbrev headOf : FrontFields → ℕ → ℕ → Head
-headOf w time timer = record { version = w .version; flags = w .flags; lighting = w .lighting; timestamp = time; timer = timer }
+abbrev headOf : FrontFields → ℕ → ℕ → ℕ → Head
+headOf w time timer form = record { version = w .version; flags = w .flags; lighting = w .lighting; timestamp = time; timer = timer; form = form }
 
-head-is : (w : FrontFields) (a b c d : ℕ) → a ≡ b → c ≡ d → headOf w a c ≡ headOf w b d
-head-is w a b c d p q = rw (p, q)
+head-is : (w : FrontFields) (a b c d e f : ℕ) → a ≡ b → c ≡ d → e ≡ f → headOf w a c e ≡ headOf w b d f
+head-is w a b c d e f p q r = rw (p, q, r)
 
 -- ---- short lists
 early-empty : (v : ℕ) (k : Timers) → 25 ≤ v → length (earlyTimers v .encode k) ≡ 0
@@ -93,19 +93,19 @@ module _ (t u s : List ℕ) (w : FrontFields) (F : FrontIs t u s w) where
     unfolding front iso _⨾_
     front-takes = front (freeIn t) .backward s x (w .end) b front-read .ends ∙ rw (length-append, length-append, only-same (since 29 v))
 
-    -- the early timers that were read
-    early-parts : (i : ℕ) × (j : ℕ) × (earlyTimers v .read (drop i (drop (w .end) s)) ≡ done (y .early) j)
+    -- the metadata and the early timers that were read
+    middle-parts : (i : ℕ) × (j : ℕ) × (earlyTimers v .read (drop i (drop (w .end) s)) ≡ done (y .early) j) × (metadata v .read (drop (w .end) s) ≡ done (y .metadata) i)
     unfolding iso
-    early-parts =
+    middle-parts =
         let l = drop (w .end) s in
         let r = map-done (middleShape .make) ((metadata v ▹ earlyTimers v ▹ objects) .read l) y _ (M .reads) in
         let p = then-parts (metadata v) (λ _. earlyTimers v ▹ objects) l (r .1) in
         let q = then-parts (earlyTimers v) (λ _. objects) (drop (p .0) l) (p .3) in
-        (p .0, q .0, q .2 ∙ ap (λ (z : MiddleRows). done (z .early) (q .0)) (r .2))
+        (p .0, q .0, q .2 ∙ ap (λ (z : MiddleRows). done (z .early) (q .0)) (r .2), p .2 ∙ ap (λ (z : MiddleRows). done (z .metadata) (p .0)) (r .2))
 
     timer-none : 25 ≤ v → m .timer ≡ 0
     timer-none h =
-        let p = early-parts in
+        let p = middle-parts in
         let z : done noTimers 0 ≡ done (y .early) (p .1) = sym (early-none v _ h) ∙ p .2 in
         let e : noTimers ≡ y .early = cc in
         sym (M .timer) ∙ ap (λ (k : Timers). k .byte) (sym e)
@@ -113,7 +113,7 @@ module _ (t u s : List ℕ) (w : FrontFields) (F : FrontIs t u s w) where
     -- version 24's rows stand at the end of what follows the metadata
     early-at-end : (length (encodeItems timerRow [] (y .early .rows)) ≡ m .early - earlyHead m) × (earlyHead m ≤ m .early)
     early-at-end =
-        let p = early-parts in
+        let p = middle-parts in
         let l = drop (p .0) (drop (w .end) s) in
         let c : Bytes l = bytes-drop (p .0) (drop (w .end) s) (bytes-drop (w .end) s b) in
         let j : p .1 ≡ m .early = early-length v l (p .2) c ∙ sym (M .second) in
@@ -123,11 +123,15 @@ module _ (t u s : List ℕ) (w : FrontFields) (F : FrontIs t u s w) where
     pub early-fits : earlyHead m ≤ m .early
     early-fits = early-at-end .1
 
-    metadata-part : (at n : ℕ) → at ≡ w .end → n ≡ length (encodeItems (metadataRow v) [] (y .metadata))
-        → rangeAt (at + length (metadata v .encode (y .metadata)) - n) n ≡ rangeAt (w .end + metadataHead v) (m .metadata - metadataHead v)
-    metadata-part at n p q =
-        let l = metadata-rows-length v (y .metadata) in
-        part-is _ _ _ _ (omega (arith, M .first)) (omega (arith, M .first))
+    pub metadata-takes : m .metadata ≡ metadataHead v (m .form) + length (encodeItems (metadataRow v) [] (y .metadata .rows))
+    metadata-takes =
+        let p = middle-parts in
+        let ok = metadata v .backward (drop (w .end) s) (y .metadata) (p .0) (bytes-drop (w .end) s b) (p .3) .ok in
+        M .first ∙ metadata-rows-length v (y .metadata) ok ∙ ap (λ (f : ℕ). metadataHead v f + length (encodeItems (metadataRow v) [] (y .metadata .rows))) (M .form)
+
+    metadata-part : (at n : ℕ) → at ≡ w .end → n ≡ length (encodeItems (metadataRow v) [] (y .metadata .rows))
+        → rangeAt (at + length (metadata v .encode (y .metadata)) - n) n ≡ rangeAt (w .end + metadataHead v (m .form)) (m .metadata - metadataHead v (m .form))
+    metadata-part at n p q = part-is _ _ _ _ (omega (arith, M .first, metadata-takes)) (omega (arith, metadata-takes))
 
     objects-part : (at n : ℕ) → at ≡ w .end + m .metadata + m .early → n ≡ length (encodeItems (λ _. objectRow) [] (y .objects))
         → rangeAt (at + length (objects .encode (y .objects)) - n) n ≡ rangeAt (w .end + m .metadata + m .early + 3) (m .objects - 3)
@@ -168,7 +172,7 @@ module _ (t u s : List ℕ) (w : FrontFields) (F : FrontIs t u s w) where
           let none = early-empty v (y .early) h25 in
           rw (le-leb 29 v h, le-leb 25 v h25)
           (made-is _ _ _ _ _ _ _ _ _ _ _ _
-          (head-is w _ _ _ _ (F .time) (late-byte v (drop middleEnd s) h25 r ∙ sym (timer-none h25)))
+          (head-is w _ _ _ _ _ _ (F .time) (late-byte v (drop middleEnd s) h25 r ∙ sym (timer-none h25)) (M .form))
           (sym lists-new)
           (part-is _ _ _ _ (omega (arith, lists-new, opens-four)) (omega (arith, lists-new, opens-four)))
           (metadata-part _ _ (omega (arith, end-new)) refl)
@@ -237,7 +241,7 @@ module _ (t u s : List ℕ) (w : FrontFields) (F : FrontIs t u s w) where
             let none = early-empty v (y .early) h25 in
             rw (lt-leb 29 v h, le-leb 25 v h25)
             (made-is _ _ _ _ _ _ _ _ _ _ _ _
-            (head-is w _ _ _ _ refl (late-byte v (drop oldEnd s) h25 q ∙ sym (timer-none h25)))
+            (head-is w _ _ _ _ _ _ refl (late-byte v (drop oldEnd s) h25 q ∙ sym (timer-none h25)) (M .form))
             (sym lists-old)
             (part-is _ _ _ _ (omega (arith, end-old, M .first, M .second, M .third, takes, name-mapping-takes)) (omega (arith, takes)))
             (metadata-part _ _ (omega (arith, end-old)) refl)
@@ -250,7 +254,7 @@ module _ (t u s : List ℕ) (w : FrontFields) (F : FrontIs t u s w) where
         shows-early l k i q =
             rw (lt-leb 29 v h, lt-leb 25 v l)
             (made-is _ _ _ _ _ _ _ _ _ _ _ _
-            (head-is w _ _ _ _ refl (M .timer))
+            (head-is w _ _ _ _ _ _ refl (M .timer) (M .form))
             (sym lists-old)
             (part-is _ _ _ _ (omega (arith, end-old, M .first, M .second, M .third, takes, name-mapping-takes)) (omega (arith, takes)))
             (metadata-part _ _ (omega (arith, end-old)) refl)

@@ -12,8 +12,8 @@ use Rattle.wire.specs.Format.{_⨾_, items}
 use Rattle.wire.specs.Formats.{_▹_, constant, number, u16, u32, prefixed, only}
 use Rattle.wire.specs.Answer.{refusal, contentWidthDiffers, paramsWidthDiffers, metadataVersionDiffers, privateByteDiffers, timerByteDiffers, objectVersionDiffers, mappingVersionDiffers, timerRowLengthDiffers}
 use Rattle.mapblock.specs.Inventory.{BlockFormat}
-use Rattle.mapblock.specs.Data.{Variable, MetadataRow, ObjectRow, Opening, NameMapping, Timers, Front, noMapping}
-use Rattle.mapblock.specs.Layout.{since, before, all, newPosition, variable, metadataRow, width, nameMapping, listVersionBytes, listVersion, metadata, earlyTimers, objects, opening, front}
+use Rattle.mapblock.specs.Data.{Variable, MetadataRow, MetadataList, ObjectRow, Opening, NameMapping, Timers, Front, noMapping}
+use Rattle.mapblock.specs.Layout.{since, before, all, newPosition, variable, metadataRow, width, nameMapping, listVersionBytes, isListVersion, isCounted, listForm, metadata, earlyTimers, objects, opening, front}
 use Rattle.block_reader.specs.Questions.{blockOf}
 use Rattle.mapblock.specs.declared.fault.Fault.the-variants as fault
 
@@ -62,35 +62,36 @@ contentWidth = record {
 abbrev pub paramsWidth : FixedField (Opening × (NameMapping × ℕ))
 paramsWidth = byte (opening ⨾ λ o. frontMapping (o .version) ▹ constant 1 (width (o .version)) fault.ContentWidth) (λ x. true) 2
 
--- step 5: the list version
+-- step 5: the list version, in the two forms that document 02's item 3 has
 abbrev pub metadataVersion : FixedField Front
 metadataVersion = record {
   before = front all;
   present = λ f. true;
   bytes = λ f. listVersionBytes (frontVersion f);
-  allowed = λ f n. eqb n (listVersion (frontVersion f));
+  allowed = λ f n. isListVersion (frontVersion f) n;
 }
 
--- step 5: the byte at the end of a variable, behind so many rows of metadata and so many variables of its own row
+-- step 5: the byte at the end of a variable, behind so many rows of metadata and so many variables of its own row, where the list has a count
 abbrev pub privateByte : ℕ → ℕ → FixedField (Front × (ℕ × (ℕ × (List MetadataRow × (ℕ × (ℕ × (List Variable × (List ℕ × List ℕ))))))))
 privateByte rowsBefore variablesBefore = record {
   before =
       front all ⨾ λ f.
       let v = frontVersion f in
-      constant (listVersionBytes v) (listVersion v) fault.MetadataVersion
+      listForm v
       ▹ u16  -- number of rows
       ▹ items (metadataRow v) rowsBefore ⨾ λ rows.
       newPosition (λ (r : MetadataRow). r .position) (reverse rows)
       ▹ u32  -- number of variables
       ▹ items (λ _. variable v) variablesBefore
       ▹ prefixed 2 ▹ prefixed 4;  -- key, value
-  present = λ (f, (_, (rows, (_, (_, (variables, _)))))). ltb rowsBefore rows && (ltb variablesBefore variables && since 28 (frontVersion f));
+  present = λ (f, (form, (rows, (_, (_, (variables, _)))))).
+      isCounted form && (ltb rowsBefore rows && (ltb variablesBefore variables && since 28 (frontVersion f)));
   bytes = λ x. 1;
   allowed = λ x b. leb b 1;
 }
 
 -- step 5: what follows the metadata, in version 23 a 0 and in version 24 a 0 or a 1
-abbrev pub timerByte : FixedField (Front × List MetadataRow)
+abbrev pub timerByte : FixedField (Front × MetadataList)
 timerByte = record {
   before = front all ⨾ λ f. metadata (frontVersion f);
   present = λ x. since 23 (frontVersion (x .0)) && before 25 (frontVersion (x .0));
@@ -99,19 +100,19 @@ timerByte = record {
 }
 
 -- step 6
-abbrev pub objectVersion : FixedField (Front × (List MetadataRow × Timers))
+abbrev pub objectVersion : FixedField (Front × (MetadataList × Timers))
 objectVersion = byte (front all ⨾ λ f. metadata (frontVersion f) ▹ earlyTimers (frontVersion f)) (λ x. true) 0
 
 -- steps 2 and 7, behind the timestamp
 abbrev pub mappingVersionInFront : FixedField (Opening × ℕ)
 mappingVersionInFront = byte (opening ▹ u32) (λ x. since 29 (x .0 .version)) 0
 
-abbrev pub mappingVersionBehind : FixedField (Front × (List MetadataRow × (Timers × (List ObjectRow × ℕ))))
+abbrev pub mappingVersionBehind : FixedField (Front × (MetadataList × (Timers × (List ObjectRow × ℕ))))
 mappingVersionBehind =
     byte (front all ⨾ λ f. metadata (frontVersion f) ▹ earlyTimers (frontVersion f) ▹ objects ▹ u32) (λ x. before 29 (frontVersion (x .0))) 0
 
 -- step 8
-abbrev pub timerRowLength : FixedField (Front × (List MetadataRow × (Timers × (List ObjectRow × NameMapping))))
+abbrev pub timerRowLength : FixedField (Front × (MetadataList × (Timers × (List ObjectRow × NameMapping))))
 timerRowLength =
     byte
     (front all ⨾ λ f.

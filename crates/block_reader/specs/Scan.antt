@@ -8,8 +8,8 @@ use lib.ListN.{length, drop}
 use Rattle.wire.specs.Read.{Read, done, refused, shift}
 use Rattle.wire.specs.Formats.{Shape, into, _▹_}
 use Rattle.mapblock.specs.Inventory.{BlockFormat}
-use Rattle.mapblock.specs.Data.{MetadataRow, ObjectRow, Opening, Timers, Front, Block}
-use Rattle.mapblock.specs.Layout.{since, all, width, unmapped, opening, nameMapping, metadata, earlyTimers, objects, lateTimers, front}
+use Rattle.mapblock.specs.Data.{MetadataList, ObjectRow, Opening, Timers, Front, Block}
+use Rattle.mapblock.specs.Layout.{since, all, width, unmapped, opening, nameMapping, listVersionBytes, isCounted, metadata, earlyTimers, objects, lateTimers, front}
 use Rattle.mapblock.specs.Block.{block}
 use Rattle.mapblock.specs.Params.{listsOf}
 use Rattle.wire.specs.Ranges.{rangeAt, InReach}
@@ -65,11 +65,11 @@ FrontTold t u s (fronts.Refused f p) = (front (freeIn t) .read s ≡ refused f p
 
 -- ---- metadata, what follows it, static objects
 pub record MiddleRows : Type 0 where
-  pub metadata : List MetadataRow
+  pub metadata : MetadataList
   pub early : Timers
   pub objects : List ObjectRow
 
-abbrev pub middleShape : Shape (List MetadataRow × (Timers × List ObjectRow)) MiddleRows
+abbrev pub middleShape : Shape (MetadataList × (Timers × List ObjectRow)) MiddleRows
 middleShape = record {
   make = λ (m, (e, o)). record { metadata = m; early = e; objects = o };
   parts = λ r. (r .metadata, (r .early, r .objects));
@@ -86,6 +86,7 @@ pub record MiddleIs (v : ℕ) (s : List ℕ) (w : MiddleFields) : Type 0 where
   pub first : w .metadata ≡ length (metadata v .encode (x .metadata))
   pub second : w .early ≡ length (earlyTimers v .encode (x .early))
   pub third : w .objects ≡ length (objects .encode (x .objects))
+  pub form : x .metadata .form ≡ w .form
   pub timer : x .early .byte ≡ w .timer
 
 abbrev pub MiddleTold : ℕ → List ℕ → MiddleRead → Type 0
@@ -94,19 +95,19 @@ MiddleTold v s (middles.Refused f p) = middle v .read s ≡ refused f p
 
 -- ---- all but the late timers
 -- what stands in a list before its rows
-abbrev pub metadataHead : ℕ → ℕ
-metadataHead v = cond (since 23 v) 3 4
+abbrev pub metadataHead : ℕ → ℕ → ℕ
+metadataHead v form = listVersionBytes v + cond (isCounted form) 2 0
 
 abbrev pub earlyHead : MiddleFields → ℕ
 earlyHead m = cond (eqb (m .timer) 1) 3 (m .early)
 
 abbrev pub withoutLateTimers : FrontFields → MiddleFields → ℕ → Range → Scanned
 withoutLateTimers w m time names = record {
-  head = record { version = w .version; flags = w .flags; lighting = w .lighting; timestamp = time; timer = m .timer };
+  head = record { version = w .version; flags = w .flags; lighting = w .lighting; timestamp = time; timer = m .timer; form = m .form };
   lists = w .lists;
   sections = record {
     names = names;
-    metadata = rangeAt (w .end + metadataHead (w .version)) (m .metadata - metadataHead (w .version));
+    metadata = rangeAt (w .end + metadataHead (w .version) (m .form)) (m .metadata - metadataHead (w .version) (m .form));
     objects = rangeAt (w .end + m .metadata + m .early + 3) (m .objects - 3);
     timers = rangeAt (w .end + m .metadata + earlyHead m) (m .early - earlyHead m);
   };
@@ -114,7 +115,7 @@ withoutLateTimers w m time names = record {
 
 -- the lists hold their heads, and all is in reach
 pub record Sized (w : FrontFields) (m : MiddleFields) : Type 0 where
-  pub metadata : metadataHead (w .version) ≤ m .metadata
+  pub metadata : metadataHead (w .version) (m .form) ≤ m .metadata
   pub early : earlyHead m ≤ m .early
   pub objects : 3 ≤ m .objects
   pub fits : InReach (w .end + m .metadata + m .early + m .objects)

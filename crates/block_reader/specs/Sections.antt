@@ -7,7 +7,7 @@ use lib.ListN.{length}
 use Rattle.wire.specs.Format.{encodeItems}
 use Rattle.mapblock.specs.Data.{Block}
 use Rattle.mapblock.specs.Layout.{since, all, nameRow, metadataRow, objectRow, timerRow, nameMapping, nodes, metadata, earlyTimers, objects, lateTimers}
-use Rattle.mapblock.specs.Block.{nameMappingOf, timersOf, frontNamesEnd, listsAt}
+use Rattle.mapblock.specs.Block.{nameMappingOf, metadataOf, timersOf, frontNamesEnd, listsAt}
 use Rattle.wire.specs.Ranges.{rangeAt}
 use Rattle.wire.specs.declared.ranges.Range.{Range}
 use Rattle.mapblock.specs.declared.head.Sections.{Sections}
@@ -26,7 +26,7 @@ module _ (b : Block) where
   nodesEnd = frontNamesEnd b + length (nodes v .encode (b .nodes))
 
   abbrev pub metadataEnd : ℕ
-  metadataEnd = nodesEnd + length (metadata v .encode (b .metadata))
+  metadataEnd = nodesEnd + length (metadata v .encode (metadataOf b))
 
   abbrev pub earlyEnd : ℕ
   earlyEnd = metadataEnd + cond (since 25 v) 0 (length (earlyTimers v .encode (timersOf b)))

@@ -1,7 +1,7 @@
 -- What the definitions promise together, for document 01's 'Reading, looking, writing' and 'What may not slip through'. Proved in proofs/:
--- `ValidIsOk` in ValidOk.antt, `SectionsAreRows` and `Param0There` in SectionsThere.antt, `VeryBytes` in NodeNames.antt, `RunsAreThere` in
--- RunsThere.antt, `WalkGivesRows` in Walk.antt, `BlockNumbers` and `RowNumbers` in AnswerNumbers.antt, `FirstEndLine` in EndLines.antt, the
--- others in Taken.antt.
+-- `ValidIsOk` in ValidOk.antt, `TwoLess`, `BothForms` and `FormTold` in BothForms.antt, `SectionsAreRows` and `Param0There` in
+-- SectionsThere.antt, `VeryBytes` in NodeNames.antt, `RunsAreThere` in RunsThere.antt, `WalkGivesRows` in Walk.antt, `BlockNumbers` and
+-- `RowNumbers` in AnswerNumbers.antt, `FirstEndLine` in EndLines.antt, the others in Taken.antt.
 use Prim.Native.Nat.{ℕ, zero, suc, _+_, _<_, _≤_}
 use mathlib.Core.Path.{_≡_}
 use mathlib.Core.Logic.{_↔_}
@@ -19,7 +19,7 @@ use Rattle.wire.specs.Answer.{Answer, RefusedWith}
 use Rattle.wire.specs.Walk.{walk, GivesRows, rowsBehind}
 use Rattle.mapblock.specs.Data.{NameRow, MetadataRow, ObjectRow, Block}
 use Rattle.mapblock.specs.Inventory.{BlockFormat, endLine, through}
-use Rattle.mapblock.specs.Layout.{all, width, nameRow, variable, metadataRow, objectRow, timerRow}
+use Rattle.mapblock.specs.Layout.{all, width, listCounted, listZero, nameRow, variable, metadataRow, objectRow, timerRow}
 use Rattle.mapblock.specs.Block.{block, firstUnmapped, param0At, verdict}
 use Rattle.mapblock.specs.Numbers.{blockNumbers}
 use Rattle.mapblock.specs.Valid.{Valid}
@@ -87,6 +87,48 @@ pub record TakesTwo (v : ℕ) (r : Reader) : Type 0 where
 -- A reader that `TakenBy` holds of is neither of the first two; it takes blocks of every version, and not one alone.
 abbrev pub ShutOut : Type 0
 ShutOut = (r : Reader) → TakenBy r → (RefusesAll r → ⊥) × (GivesOne r → ⊥) × ((v : ℕ) → 22 ≤ v → v ≤ 29 → TakesTwo v r)
+
+-- ---- the two forms of a metadata list of none: document 02, item 3
+-- a block with another form
+abbrev pub withForm : ℕ → Block → Block
+withForm form b = record {
+  head = record {
+    version = b .head .version;
+    flags = b .head .flags;
+    lighting = b .head .lighting;
+    timestamp = b .head .timestamp;
+    timer = b .head .timer;
+    form = form;
+  };
+  names = b .names;
+  nodes = b .nodes;
+  metadata = b .metadata;
+  objects = b .objects;
+  timers = b .timers;
+}
+
+-- a valid block that may have either form
+pub record EitherForm (b : Block) : Type 0 where
+  pub valid : Valid b
+  pub from-23 : 23 ≤ b .head .version
+  pub none : b .metadata ≡ []
+
+-- "two bytes less": the single 0 has no count
+abbrev pub TwoLess : Type 0
+TwoLess = (b : Block) → EitherForm b → length (block all .encode (withForm listCounted b)) ≡ 2 + length (block all .encode (withForm listZero b))
+
+-- "A counted list of none stays good": the bytes of both forms are taken, and each with its own form.
+abbrev pub BothForms : Type 0
+BothForms = (r : Reader) → TakenBy r → (b : Block) → EitherForm b → (form : ℕ) → form ≤ 1
+    → r (block all .encode (withForm form b)) ≡ done (withForm form b) (length (block all .encode (withForm form b)))
+
+-- a reader that tells one form for all that it takes
+abbrev pub TellsOneForm : Reader → Type 0
+TellsOneForm r = (form : ℕ) × ((s : List ℕ) (b : Block) (n : ℕ) → Bytes s → r s ≡ done b n → b .head .form ≡ form)
+
+-- No reader that `TakenBy` holds of is such a one.
+abbrev pub FormTold : Type 0
+FormTold = (r : Reader) → TakenBy r → TellsOneForm r → ⊥
 
 -- ---- inventories: document 01, 'Block layout'
 -- "A line starts at the inventory's first byte or after a newline."

@@ -2,14 +2,15 @@
 use mapblock::fault::Fault;
 use mapblock::fault::Reach;
 use mapblock::head::Head;
+use mapblock::head::LIST_COUNTED;
 use mapblock::head::NO_LIGHTING;
 use mapblock::head::Sections;
 use mapblock::head::is_version;
-use mapblock::lists::EarlyRead;
 use mapblock::lists::LIST_HEAD_LENGTH;
-use mapblock::lists::OLD_METADATA_HEAD_LENGTH;
+use mapblock::lists::TaggedRead;
 use mapblock::lists::early_timers;
 use mapblock::lists::late_timers;
+use mapblock::lists::list_version_length;
 use mapblock::lists::metadata_list;
 use mapblock::lists::object_list;
 use mapblock::names::NAMES_HEAD_LENGTH;
@@ -23,6 +24,7 @@ use mapblock::nodes::WIDTHS_LENGTH;
 use mapblock::nodes::first_unmapped;
 use mapblock::nodes::node_data;
 use mapblock::nodes::width;
+use mapblock::rows::COUNT_LENGTH;
 use wire::fields::U8;
 use wire::fields::U16;
 use wire::fields::u8_at;
@@ -216,11 +218,12 @@ fn front(s: &[u8], ids: &mut [u8; IDS]) -> FrontRead
 }
 
 // ---- the rest: metadata, timers, static objects, the names before version 29
-// The lengths of the lists up to the static objects, and the timer byte.
+// The lengths of the lists up to the static objects, the form of the metadata, and the timer byte.
 pub struct MiddleFields {
     pub metadata: usize,
     pub early: usize,
     pub objects: usize,
+    pub form: u8,
     pub timer: u8,
 }
 
@@ -235,14 +238,17 @@ fn middle(version: u8, s: &[u8]) -> MiddleRead
     ensures { λ r. ⌜ MiddleTold version (now (s .entry)) r ⌝ }
 {
     match metadata_list(version, s) {
-        Reach::Refused { fault, offset } => MiddleRead::Refused { fault, offset },
-        Reach::End(metadata) => match early_timers(version, &s[metadata..]) {
-            EarlyRead::Refused { fault, offset } => MiddleRead::Refused {
+        TaggedRead::Refused { fault, offset } => MiddleRead::Refused { fault, offset },
+        TaggedRead::List {
+            tag: form,
+            length: metadata,
+        } => match early_timers(version, &s[metadata..]) {
+            TaggedRead::Refused { fault, offset } => MiddleRead::Refused {
                 fault,
                 offset: metadata + offset,
             },
-            EarlyRead::Timers {
-                byte: timer,
+            TaggedRead::List {
+                tag: timer,
                 length: early,
             } => match object_list(version, &s[metadata + early..]) {
                 Reach::Refused { fault, offset } => MiddleRead::Refused {
@@ -253,6 +259,7 @@ fn middle(version: u8, s: &[u8]) -> MiddleRead
                     metadata,
                     early,
                     objects,
+                    form,
                     timer,
                 }),
             },
@@ -284,14 +291,15 @@ fn rows_of(at: usize, head: usize, size: usize) -> Range
     }
 }
 
-// Gives the length of what stands before the rows of metadata: list version and count.
-pub fn metadata_head(version: u8) -> usize
-    ensures { λ r. ⌜ r ≡ metadataHead version ⌝ }
+// Gives the length of what stands before the rows of metadata: the list version, and the count where there is one.
+pub fn metadata_head(version: u8, form: u8) -> usize
+    ensures { λ r. ⌜ r ≡ metadataHead version form ⌝ }
 {
-    if version < 23 {
-        OLD_METADATA_HEAD_LENGTH
+    let version_length = list_version_length(version);
+    if form == LIST_COUNTED {
+        version_length + COUNT_LENGTH
     } else {
-        LIST_HEAD_LENGTH
+        version_length
     }
 }
 
@@ -324,11 +332,16 @@ fn without_late_timers(
             lighting: front.lighting,
             timestamp,
             timer: middle.timer,
+            form: middle.form,
         },
         lists: front.lists,
         sections: Sections {
             names,
-            metadata: rows_of(front.end, metadata_head(front.version), middle.metadata),
+            metadata: rows_of(
+                front.end,
+                metadata_head(front.version, middle.form),
+                middle.metadata,
+            ),
             objects: rows_of(early + middle.early, LIST_HEAD_LENGTH, middle.objects),
             timers: rows_of(early, early_head(middle), middle.early),
         },

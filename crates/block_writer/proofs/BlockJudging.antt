@@ -16,7 +16,7 @@ use Rattle.wire.specs.Formats.{_▹_, number, listed, only, u16}
 use Rattle.wire.proofs.EveryFormat.{every-format}
 use Rattle.wire.proofs.Looser.{Settled, settled, settled-ok, looser-self}
 use Rattle.mapblock.specs.Inventory.{BlockFormat}
-use Rattle.mapblock.specs.Data.{NameRow, MetadataRow, ObjectRow, TimerRow, NameMapping, Timers, Nodes, Block, noMapping, frontShape, restShape}
+use Rattle.mapblock.specs.Data.{NameRow, MetadataRow, ObjectRow, TimerRow, NameMapping, MetadataList, Timers, Nodes, Block, noMapping, frontShape, restShape}
 use Rattle.mapblock.specs.Layout.{since, all, isVersion, opening, nameMapping, nodes, metadata, earlyTimers, objects, objectRow, lateTimers, front, rest, steps}
 use Rattle.mapblock.specs.Block.{block, piecesOf, firstUnmapped, param0At, verdict}
 use Rattle.block_reader.specs.Sections.{scannedOf}
@@ -29,15 +29,14 @@ use Rattle.mapblock.proofs.Readings.{ended-map, ended-done, ended-refused}
 use Rattle.block_reader.proofs.ListLengths.{num-length, objects-rows-length}
 use Rattle.mapblock.proofs.Entries.{width-range, nodes-done}
 use Rattle.mapblock.proofs.GoodRows.{either, since-ok, fixed-ok}
-use Rattle.block_reader.proofs.ValidOk.{list-version}
 use Rattle.block_reader.proofs.Fronts.{opening-length}
 use Rattle.block_reader.proofs.Verdicts.{verdict-refused, verdict-firstUnmapped, verdict-done}
-use Rattle.block_writer.specs.Frames.{nameFrame, metadataFrame}
+use Rattle.block_writer.specs.Frames.{nameFrame}
 use Rattle.block_writer.specs.BlockParts.{headFits}
 use Rattle.block_writer.specs.Sections.{Rows}
-use Rattle.block_writer.specs.Judging.{verdictOn, openingOn, mappingOn, mappingFront, mappingBehind, timersEarly, timersLate, frontOn, restOn, openingLength, listsLength, MappingJudged, FrontJudged, ending, EndingJudged, RestJudged}
+use Rattle.block_writer.specs.Judging.{verdictOn, openingOn, mappingOn, mappingFront, mappingBehind, metadataOn, timersEarly, timersLate, frontOn, restOn, openingLength, listsLength, MappingJudged, FrontJudged, ending, EndingJudged, RestJudged}
 use Rattle.block_writer.proofs.Fitting.{unlit}
-use Rattle.block_writer.proofs.Framed.{not-ends, name-mapping-looser, metadataListFrame, metadata-list-looser}
+use Rattle.block_writer.proofs.Framed.{not-ends, name-mapping-looser}
 use Rattle.block_writer.proofs.RowsJudging.{rows-ok, rows-bytes, name-mapping-ok}
 use Rattle.block_writer.proofs.PiecesJudging.{shift-none, shift-thrice, verdictOn-ok, verdictOn-into, judged-refused, judged-on}
 
@@ -71,12 +70,6 @@ module _ (h : Head) (l : List NameRow) (k : List TimerRow) where
     }
 
 -- ---- what follows the node data
-pub metadata-ok : (v : ℕ) {s : List ℕ} {count : ℕ} {m : List MetadataRow} → Bytes s → Rows (metadataFrame v) s count m → metadataListFrame v .Ok m
-metadata-ok v {m = m} b w = fixed-ok _ _ fault.MetadataVersion (listed 2 λ _. metadataFrame v) m (list-version (since 28 v) (since 23 v)) .1 (rows-ok (metadataFrame v) b w)
-
-pub metadata-settled : (v : ℕ) {s : List ℕ} {count : ℕ} {m : List MetadataRow} → Bytes s → Rows (metadataFrame v) s count m → Settled (metadata v) m
-metadata-settled v b w = settled (metadata-list-looser v) _ (metadata-ok v b w) not-ends
-
 pub name-mapping-settled : (free : ℕ → Bool) {s : List ℕ} {count : ℕ} (x : NameMapping) → Bytes s → x .timestamp < 4294967296 → Rows nameFrame s count (x .names) → Settled (nameMapping free) x
 name-mapping-settled free x b h w = settled (name-mapping-looser free) x (name-mapping-ok x b h w) not-ends
 
@@ -90,9 +83,12 @@ objects-verdictOn {s} {count} {o} b w =
     let e : length (objects .encode o) ≡ 3 + length s = objects-rows-length o ∙ ap (λ (x : List ℕ). 3 + length x) (sym (rows-bytes objectRow b w (λ _. objectRow) (λ _. looser-self objectRow))) in
     (settled-ok objects o ok, sym (verdictOn-ok objects o ok ∙ ap (done tt) e))
 
-module _ (h : Head) (l : List NameRow) (m : List MetadataRow) (o : List ObjectRow) (k : List TimerRow) (sm : Settled (metadata (h .version)) m) where
+module _ (h : Head) (l : List NameRow) (m : List MetadataRow) (o : List ObjectRow) (k : List TimerRow) (sm : Settled (metadata (h .version)) (metadataOn h m)) where
   abbrev v : ℕ
   v = h .version
+
+  abbrev list : MetadataList
+  list = metadataOn h m
 
   abbrev early : Timers
   early = timersEarly h k
@@ -101,24 +97,24 @@ module _ (h : Head) (l : List NameRow) (m : List MetadataRow) (o : List ObjectRo
   end = (mappingBehind h l, timersLate h k)
 
   -- what is said of the pairs is said of the record
-  rest-by : (free : ℕ → Bool) {r : Read Fault (Unit {0})} → r ≡ verdictOn (metadata v ▹ earlyTimers v ▹ objects ▹ ending free v) (m, (early, (o, end))) → r ≡ verdictOn (rest free v) (restOn h l m o k)
+  rest-by : (free : ℕ → Bool) {r : Read Fault (Unit {0})} → r ≡ verdictOn (metadata v ▹ earlyTimers v ▹ objects ▹ ending free v) (list, (early, (o, end))) → r ≡ verdictOn (rest free v) (restOn h l m o k)
   unfolding rest
   rest-by free e = e ∙ sym (verdictOn-into restShape (metadata v ▹ earlyTimers v ▹ objects ▹ ending free v) (restOn h l m o k))
 
-  pub rest-no-metadata : {t : List ℕ} {e : Fault} {p : ℕ} {z : Read Fault (Unit {0})} → z ≡ verdictOn (metadata v) m → z ≡ refused e p → RestJudged t t h l m o k z
+  pub rest-no-metadata : {t : List ℕ} {e : Fault} {p : ℕ} {z : Read Fault (Unit {0})} → z ≡ verdictOn (metadata v) list → z ≡ refused e p → RestJudged t t h l m o k z
   rest-no-metadata y i = record {
-    judged = λ free _. rest-by free (i ∙ judged-refused (metadata v) (λ _. earlyTimers v ▹ objects ▹ ending free v) m (early, (o, end)) sm (sym i ∙ y));
+    judged = λ free _. rest-by free (i ∙ judged-refused (metadata v) (λ _. earlyTimers v ▹ objects ▹ ending free v) list (early, (o, end)) sm (sym i ∙ y));
     marks = λ n _ f. not-done (sym i ∙ f);
     kept = λ _. refl;
   }
 
-  module _ {a : ℕ} (x : done tt a ≡ verdictOn (metadata v) m) (se : Settled (earlyTimers v) early) where
+  module _ {a : ℕ} (x : done tt a ≡ verdictOn (metadata v) list) (se : Settled (earlyTimers v) early) where
     pub rest-no-early : {t : List ℕ} {e : Fault} {p : ℕ} {z q : Read Fault (Unit {0})} → z ≡ verdictOn (earlyTimers v) early → z ≡ refused e p → q ≡ shift a (λ u. u) z
         → RestJudged t t h l m o k q
     rest-no-early y i f = record {
       judged = λ free _.
           rest-by free (f
-          ∙ judged-on (metadata v) (λ _. earlyTimers v ▹ objects ▹ ending free v) m (early, (o, end)) sm x
+          ∙ judged-on (metadata v) (λ _. earlyTimers v ▹ objects ▹ ending free v) list (early, (o, end)) sm x
           (i ∙ judged-refused (earlyTimers v) (λ _. objects ▹ ending free v) early (o, end) se (sym i ∙ y)));
       marks = λ n _ g. not-done (sym (f ∙ ap (shift a (λ u. u)) i) ∙ g);
       kept = λ _. refl;
@@ -129,7 +125,7 @@ module _ (h : Head) (l : List NameRow) (m : List MetadataRow) (o : List ObjectRo
       rest-on {at = at} {z = z} e w f = record {
         judged = λ free same.
             rest-by free (f ∙ ap (λ (n : ℕ). shift n (λ u. u) z) e ∙ shift-thrice a d c z
-            ∙ judged-on (metadata v) (λ _. earlyTimers v ▹ objects ▹ ending free v) m (early, (o, end)) sm x
+            ∙ judged-on (metadata v) (λ _. earlyTimers v ▹ objects ▹ ending free v) list (early, (o, end)) sm x
             (judged-on (earlyTimers v) (λ _. objects ▹ ending free v) early (o, end) se y
             (judged-on objects (λ _. ending free v) o end (so .0) (so .1) (w .judged free same))));
         marks = λ n g i. let q = shift-done at (λ u. u) z tt n (sym f ∙ i) in w .marks (q .1) g (q .2);

@@ -9,17 +9,17 @@ use lib.ListN.{length}
 use borrow.Author.Tests.{leb-true, leb-false, eq-eqb, ne-eqb}
 use Rattle.wire.specs.Bytes.{Bytes, toBE}
 use Rattle.wire.specs.Format.{run, nothing, refine, _⨾_, iso, items, encodeItems}
-use Rattle.wire.specs.Formats.{number, behind, fixed, listed, only}
+use Rattle.wire.specs.Formats.{number, behind, fixed, listed, only, tagged}
 use Rattle.mapblock.specs.Inventory.{BlockFormat}
-use Rattle.mapblock.specs.Data.{NameRow, MetadataRow, ObjectRow, TimerRow, Nodes, Opening, NameMapping, Timers, noMapping, noTimers}
-use Rattle.mapblock.specs.Layout.{since, before, all, nameRow, metadataRow, objectRow, timerRow, opening, nameMapping, params, nodes, listVersionBytes, listVersion, metadata, objects, earlyTimers, lateTimers, front, rest, steps}
-use Rattle.mapblock.specs.Block.{block, openingOf, nameMappingOf, timersOf}
+use Rattle.mapblock.specs.Data.{NameRow, MetadataRow, ObjectRow, TimerRow, Nodes, Opening, NameMapping, MetadataList, Timers, noMapping, noTimers}
+use Rattle.mapblock.specs.Layout.{since, before, all, nameRow, metadataRow, objectRow, timerRow, opening, nameMapping, params, nodes, isCounted, listForm, metadata, objects, earlyTimers, lateTimers, front, rest, steps}
+use Rattle.mapblock.specs.Block.{block, openingOf, nameMappingOf, metadataOf, timersOf}
 use Rattle.mapblock.specs.declared.fault.Fault.{Fault}
 use Rattle.mapblock.specs.declared.fault.Fault.the-variants as fault
 use Rattle.block_reader.proofs.ListLengths.{timersOf24}
 use Rattle.block_writer.specs.BlockParts.{BlockParts, made}
 use Rattle.block_writer.specs.declared.counts.RowCounts.{RowCounts}
-use Rattle.block_writer.specs.Pieces.{listBytes, mappingBytes, nodesBytes, metadataBytes, earlyBytes, objectsBytes, lateBytes, blockBytes}
+use Rattle.block_writer.specs.Pieces.{listBytes, listIf, mappingBytes, nodesBytes, metadataBytes, earlyBytes, objectsBytes, lateBytes, blockBytes}
 
 -- a list behind a number that is fixed, and its count
 fixed-bytes : {A : Type 0} (item : List A → BlockFormat A) (l : List A) (k v : ℕ) (e : Fault) → fixed k v e (listed 2 item) .encode l ≡ toBE k v ++ listBytes (length l) (encodeItems item [] l)
@@ -61,9 +61,15 @@ pub nodes-bytes : (v : ℕ) (n : Nodes) → Bytes (n .param1) → Bytes (n .para
 unfolding nodes params behind iso _⨾_ refine items number run
 nodes-bytes v n h k = rw (bytes-same [] (n .param1) h, bytes-same [] (n .param2) k)
 
-pub metadata-bytes : (v : ℕ) (l : List MetadataRow) → metadata v .encode l ≡ metadataBytes v (length l) (encodeItems (metadataRow v) [] l)
-unfolding metadata
-metadata-bytes v l = fixed-bytes (metadataRow v) l (listVersionBytes v) (listVersion v) fault.MetadataVersion
+-- a list behind a tag
+tagged-bytes : {A : Type 0} (tag : BlockFormat ℕ) (test : ℕ → Bool) (item : List A → BlockFormat A) (t : ℕ) (l : List A)
+    → tagged tag test [] (listed 2 item) .encode (t, l) ≡ tag .encode t ++ listIf (test t) (length l) (encodeItems item [] l)
+unfolding listed iso _⨾_ nothing items number run
+tagged-bytes tag test item t l = rw (cond-bytes (test t) (listed 2 item) (nothing []) l)
+
+pub metadata-bytes : (v : ℕ) (x : MetadataList) → metadata v .encode x ≡ metadataBytes v (x .form) (length (x .rows)) (encodeItems (metadataRow v) [] (x .rows))
+unfolding metadata listForm iso refine number run
+metadata-bytes v x = tagged-bytes (listForm v) isCounted (metadataRow v) (x .form) (x .rows)
 
 pub objects-bytes : (l : List ObjectRow) → objects .encode l ≡ objectsBytes (length l) (encodeItems (λ _. objectRow) [] l)
 unfolding objects
@@ -80,9 +86,9 @@ chosen v x y = go (leb 25 v) refl (leb 24 v) refl (leb 23 v) refl
     go false e false f true g = let h = leb-false 24 v f in let k = leb-true 23 v g in rw (e, f, g, ne-eqb v 24 (λ q. omega arith), eq-eqb v 23 (omega arith))
     go false e false f false g = let h = leb-false 23 v g in rw (e, f, g, ne-eqb v 24 (λ q. omega arith), ne-eqb v 23 (λ q. omega arith))
 
-bytes-of-24 : (x : Timers) → timersOf24 .encode x ≡ toBE 1 (x .byte) ++ cond (eqb (x .byte) 1) (listBytes (length (x .rows)) (encodeItems timerRow [] (x .rows))) []
-unfolding listed iso _⨾_ refine nothing items number run
-bytes-of-24 x = rw (cond-bytes (eqb (x .byte) 1) (listed 2 timerRow) (nothing []) (x .rows))
+bytes-of-24 : (x : Timers) → timersOf24 .encode x ≡ toBE 1 (x .byte) ++ listIf (eqb (x .byte) 1) (length (x .rows)) (encodeItems timerRow [] (x .rows))
+unfolding iso refine number run
+bytes-of-24 x = tagged-bytes (refine (λ t. leb t 1) fault.TimerByte (number 1)) (λ t. eqb t 1) timerRow (x .byte) (x .rows)
 
 abbrev zeroOf23 : BlockFormat Timers
 zeroOf23 = fixed 1 0 fault.ByteOf23 (nothing noTimers)
@@ -93,7 +99,7 @@ early-bytes v x =
     let below = cond (since 23 v) zeroOf23 (nothing noTimers) in
     only-there noTimers (cond (since 24 v) timersOf24 below) x (since 25 v)
     ∙ rw (cond-bytes (since 24 v) timersOf24 below x, cond-bytes (since 23 v) zeroOf23 (nothing noTimers) x, bytes-of-24 x)
-    (chosen v (toBE 1 (x .byte) ++ cond (eqb (x .byte) 1) (listBytes (length (x .rows)) (encodeItems timerRow [] (x .rows))) []) (toBE 1 0))
+    (chosen v (toBE 1 (x .byte) ++ listIf (eqb (x .byte) 1) (length (x .rows)) (encodeItems timerRow [] (x .rows))) (toBE 1 0))
 
 pub late-bytes : (v : ℕ) (x : Timers) → lateTimers v .encode (cond (since 25 v) x noTimers) ≡ lateBytes v (length (x .rows)) (encodeItems timerRow [] (x .rows))
 unfolding lateTimers behind listed iso _⨾_ refine nothing items number run
@@ -113,7 +119,7 @@ encoded p c l m o k b₁ b₂ e₁ e₂ e₃ e₄ =
       opening-bytes (openingOf b),
       only-here noMapping (nameMapping all) (nameMappingOf b) (since 29 v),
       nodes-bytes v (b .nodes) b₁ b₂,
-      metadata-bytes v m,
+      metadata-bytes v (metadataOf b),
       early-bytes v (timersOf b),
       objects-bytes o,
       only-there noMapping (nameMapping all) (nameMappingOf b) (since 29 v),

@@ -6,12 +6,12 @@ use mathlib.Core.Bool.{Bool, true, false, cond}
 use lib.Dec.{leb, eqb}
 use Rattle.wire.specs.Answer.{isOneOf}
 use Rattle.wire.specs.Choice.{no-true}
-use Rattle.wire.specs.Format.{nothing, refine, _⨾_}
-use Rattle.wire.specs.Formats.{_▹_, constant, u8, u16, u32, prefixed, listed, behind, fixed, only, into}
+use Rattle.wire.specs.Format.{nothing, refine}
+use Rattle.wire.specs.Formats.{_▹_, constant, u8, u16, u32, prefixed, listed, behind, fixed, only, tagged, into}
 use Rattle.wire.proofs.Looser.{Looser, looser-self, looser-refine, looser-trans, looser-then, looser-iso, looser-cond, looser-listed}
 use Rattle.mapblock.specs.Inventory.{BlockFormat, inventory}
-use Rattle.mapblock.specs.Data.{NameRow, MetadataRow, TimerRow, NameMapping, Timers, noTimers, nameMappingShape, timersShape}
-use Rattle.mapblock.specs.Layout.{since, before, all, unused, unmapped, position, newPosition, nameRow, variable, metadataRow, timerRow, nameMapping, listVersionBytes, listVersion, metadata, earlyTimers, lateTimers}
+use Rattle.mapblock.specs.Data.{NameRow, MetadataRow, TimerRow, NameMapping, MetadataList, Timers, noTimers, nameMappingShape, metadataListShape, timersShape}
+use Rattle.mapblock.specs.Layout.{since, before, all, unused, unmapped, position, newPosition, nameRow, variable, metadataRow, timerRow, nameMapping, isCounted, listForm, metadata, earlyTimers, lateTimers}
 use Rattle.mapblock.specs.MetadataChecks.{variableFor, metadataRowFor}
 use Rattle.mapblock.specs.Numbers.{refusalNumber}
 use Rattle.mapblock.specs.declared.fault.Fault.{Fault}
@@ -68,13 +68,13 @@ timer-looser seen = looser-iso _ _ _ _ _ _ (looser-both (position-looser (λ (r 
 abbrev pub savedFrame : BlockFormat NameMapping
 savedFrame = into nameMappingShape (u32 ▹ fixed 1 0 fault.MappingVersion (listed 2 λ _. nameFrame))
 
-abbrev pub metadataListFrame : ℕ → BlockFormat (List MetadataRow)
-metadataListFrame v = fixed (listVersionBytes v) (listVersion v) fault.MetadataVersion (listed 2 λ _. metadataFrame v)
+abbrev pub metadataListFrame : ℕ → BlockFormat MetadataList
+metadataListFrame v = into metadataListShape (tagged (listForm v) isCounted [] (listed 2 λ _. metadataFrame v))
 
 -- the timer byte may have any value
 abbrev pub earlyFrame : ℕ → BlockFormat Timers
 earlyFrame v = only (before 25 v) noTimers
-    (cond (since 24 v) (into timersShape (u8 ⨾ λ t. only (eqb t 1) [] (listed 2 λ _. timerFrame)))
+    (cond (since 24 v) (into timersShape (tagged u8 (λ t. eqb t 1) [] (listed 2 λ _. timerFrame)))
     (cond (since 23 v) (fixed 1 0 fault.ByteOf23 (nothing noTimers))
     (nothing noTimers)))
 
@@ -90,20 +90,23 @@ unfolding nameMapping
 name-mapping-looser free =
     looser-iso _ _ _ _ _ _ (looser-both (looser-self u32) (looser-fixed 1 0 fault.MappingVersion (looser-listed (nameRow free) (λ _. nameFrame) (name-looser free) 2))) _ _ _ _
 
+looser-tagged : {A : Type 0} {tag tag₂ : BlockFormat ℕ} (test : ℕ → Bool) {f g : BlockFormat (List A)} → Looser ValueFault tag tag₂ → Looser ValueFault f g
+    → Looser ValueFault (tagged tag test [] f) (tagged tag₂ test [] g)
+looser-tagged {tag = tag} {tag₂ = tag₂} test {f = f} {g = g} l m =
+    looser-then tag tag₂ (λ t. only (test t) [] f) (λ t. only (test t) [] g) l (λ t. looser-cond (test t) m (looser-self (nothing [])))
+
 pub metadata-list-looser : (v : ℕ) → Looser ValueFault (metadata v) (metadataListFrame v)
 unfolding metadata
-metadata-list-looser v = looser-fixed _ _ fault.MetadataVersion (looser-listed (metadataRow v) (λ _. metadataFrame v) (metadata-looser v) 2)
+metadata-list-looser v =
+    looser-iso _ _ _ _ _ _
+    (looser-tagged isCounted (looser-self (listForm v)) (looser-listed (metadataRow v) (λ _. metadataFrame v) (metadata-looser v) 2))
+    _ _ _ _
 
 timers-looser : Looser ValueFault (listed 2 timerRow) (listed 2 λ _. timerFrame)
 timers-looser = looser-listed timerRow (λ _. timerFrame) timer-looser 2
 
-early-24-looser : Looser ValueFault (into timersShape (refine (λ t. leb t 1) fault.TimerByte u8 ⨾ λ t. only (eqb t 1) [] (listed 2 timerRow))) (into timersShape (u8 ⨾ λ t. only (eqb t 1) [] (listed 2 λ _. timerFrame)))
-early-24-looser =
-    looser-iso _ _ _ _ _ _
-    (looser-then (refine (λ t. leb t 1) fault.TimerByte u8) u8 (λ t. only (eqb t 1) [] (listed 2 timerRow)) (λ t. only (eqb t 1) [] (listed 2 λ _. timerFrame))
-    (looser-refine (λ t. leb t 1) fault.TimerByte u8 refl)
-    (λ t. looser-cond (eqb t 1) timers-looser (looser-self (nothing []))))
-    _ _ _ _
+early-24-looser : Looser ValueFault (into timersShape (tagged (refine (λ t. leb t 1) fault.TimerByte u8) (λ t. eqb t 1) [] (listed 2 timerRow))) (into timersShape (tagged u8 (λ t. eqb t 1) [] (listed 2 λ _. timerFrame)))
+early-24-looser = looser-iso _ _ _ _ _ _ (looser-tagged (λ t. eqb t 1) (looser-refine (λ t. leb t 1) fault.TimerByte u8 refl) timers-looser) _ _ _ _
 
 pub early-looser : (v : ℕ) → Looser ValueFault (earlyTimers v) (earlyFrame v)
 unfolding earlyTimers

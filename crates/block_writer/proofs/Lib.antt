@@ -9,6 +9,7 @@ pub mod Fitting
 pub mod PiecesJudging
 pub mod RowsJudging
 pub mod TimersJudging
+pub mod MetadataJudging
 pub mod BlockJudging
 pub mod FirstUnmapped
 -- The block that parts make, and the reader's verdict on it.

@@ -29,9 +29,10 @@ use Rattle.block_writer.specs.Sections.{Rows, SectionRows}
 use Rattle.block_writer.specs.declared.counts.RowCounts.{RowCounts}
 use Rattle.block_writer.proofs.Framed.{ValueFault, not-ends, savedFrame, metadataListFrame, earlyFrame, lateFrame, looser-both, name-mapping-looser, metadata-list-looser, early-looser, late-looser}
 use Rattle.block_writer.proofs.RowsJudging.{rows-ok, name-mapping-ok}
-use Rattle.block_writer.proofs.Fitting.{Fitting, fits-plain, fits-headFits, fits-timed}
+use Rattle.block_writer.proofs.Fitting.{Fitting, fits-plain, fits-headFits, fits-formed, fits-timed}
 use Rattle.block_writer.proofs.TimersJudging.{early-ok}
-use Rattle.block_writer.proofs.BlockJudging.{opening-ok, metadata-ok, objects-ok}
+use Rattle.block_writer.proofs.BlockJudging.{opening-ok, objects-ok}
+use Rattle.block_writer.proofs.MetadataJudging.{metadata-ok}
 
 -- ---- taken apart
 -- b is the block that p makes
@@ -147,7 +148,7 @@ module _ (p : BlockParts) (b : Block) (held : WellTyped p) (version : isVersion 
   pieces-ok = subst (λ (c : Block). stepsFrame .Ok (piecesOf c)) (m .same) (
     (opening-ok h (held .version) (held .flags) (held .lighting) version carry, (names-ok .0, nodes-ok v _ .1 nodes-good)),
     (
-      metadata-ok v (held .metadata) (m .metadata),
+      metadata-ok h carry (held .metadata) (m .metadata) (fits-formed p (fits-plain p .1 fit)),
       (early-ok h (held .timers) (m .timers) carry (held .timer) (fits-timed p (fits-plain p .1 fit)), (objects-ok (held .objects) (m .objects), (names-ok .1, late-ok))),
     ),
   )

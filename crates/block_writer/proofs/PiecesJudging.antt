@@ -2,13 +2,14 @@
 use Prim.Native.Nat.{ℕ, _+_, _^_, _<_}
 use mathlib.Core.Path.{_≡_, refl, ap, sym, _∙_}
 use mathlib.Core.List.{List, [], _++_}
-use native.Mathlib.Nat.{zero-add, add-assoc}
+use mathlib.Core.Bool.{Bool, true, false}
+use native.Mathlib.Nat.{zero-add, add-zero, add-assoc}
 use lib.ListN.{length, drop}
 use lib.Seq.{drop-append-seam}
 use Rattle.wire.specs.Bytes.{toBE, toBE-length}
 use Rattle.wire.specs.Read.{Read, done, refused, shift, reach}
-use Rattle.wire.specs.Format.{refine, _⨾_, iso, pair, items, encodeItems, run}
-use Rattle.wire.specs.Formats.{Shape, number, listed, behind, fixed, into}
+use Rattle.wire.specs.Format.{nothing, refine, _⨾_, iso, pair, items, encodeItems, run}
+use Rattle.wire.specs.Formats.{Shape, number, listed, behind, fixed, only, tagged, into}
 use Rattle.wire.proofs.EveryFormat.{every-format}
 use Rattle.wire.proofs.Looser.{Settled, followed, verdictOn-then}
 use Rattle.mapblock.specs.Inventory.{BlockFormat}
@@ -89,3 +90,16 @@ module _ {A B : Type 0} (f : BlockFormat A) (g : A → BlockFormat B) (a : A) (b
   judged-on {n} h k =
       rw (k, judged-length h)
       (sym (both ∙ ap (λ (r : Read Fault (Unit {0})). followed r (length (f .encode a)) (λ u. u) (verdictOn (g a) b)) (sym h)))
+
+-- ---- a tag, and a list where it passes a test
+module _ {A : Type 0} (tag : BlockFormat ℕ) (test : ℕ → Bool) (f : BlockFormat (List A)) (t : ℕ) (l : List A) (w : Settled tag t) where
+  pub tagged-refused : {e : Fault} {p : ℕ} → refused e p ≡ verdictOn tag t → refused e p ≡ verdictOn (tagged tag test [] f) (pair t l)
+  tagged-refused h = judged-refused tag (λ t. only (test t) [] f) t l w h
+
+  module _ {n : ℕ} (h : done tt n ≡ verdictOn tag t) where
+    pub tagged-alone : test t ≡ false → done tt n ≡ verdictOn (tagged tag test [] f) (pair t l)
+    unfolding nothing
+    tagged-alone e = ap (done tt) (sym (add-zero n)) ∙ judged-on tag (λ t. only (test t) [] f) t l w {r = done tt 0} h (rw e)
+
+    pub tagged-list : {r : Read Fault (Unit {0})} → test t ≡ true → r ≡ verdictOn f l → shift n (λ u. u) r ≡ verdictOn (tagged tag test [] f) (pair t l)
+    tagged-list {r} e k = judged-on tag (λ t. only (test t) [] f) t l w {r = r} h (rw e k)

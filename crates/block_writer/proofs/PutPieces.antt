@@ -3,7 +3,7 @@ use Prim.Native.Nat.{ℕ, _+_, _<_, _≤_}
 use mathlib.Core.Path.{_≡_, refl, ap, _∙_}
 use mathlib.Core.List.{List, [], _++_}
 use native.Mathlib.Omega.{arith}
-use lib.Dec.{ltb}
+use lib.Dec.{ltb, eqb}
 use lib.ListN.{length}
 use borrow.Author.Tests.{le-leb, lt-leb, ltb-true, ltb-false, ne-eqb}
 use Rattle.wire.proofs.Tests.{same-test}
@@ -11,9 +11,9 @@ use Rattle.wire.specs.Bytes.{toBE}
 use Rattle.wire.specs.Store.{stored, PutAt}
 use Rattle.wire.specs.Formats.{number}
 use Rattle.wire.specs.Told.{short}
-use Rattle.mapblock.specs.Layout.{before, width, listVersion}
+use Rattle.mapblock.specs.Layout.{before, width}
 use Rattle.mapblock.specs.declared.head.Head.{Head}
-use Rattle.block_writer.specs.Pieces.{openingBytes, listBytes, metadataBytes, earlyBytes}
+use Rattle.block_writer.specs.Pieces.{openingBytes, listIf, earlyBytes}
 use Rattle.wire.proofs.Puts.{put-number, put-two}
 
 -- ---- the opening: what was stored, one behind the other
@@ -35,21 +35,10 @@ module _ (h : Head) (d a b : List ℕ) (room : length (openingBytes h) ≤ lengt
       rw some (put-two r (version-put (omega arith)) (λ s.
       put-two s (put-number 1 1 (h .flags) (omega (arith, s)) two) (λ t. put-number 2 2 (h .lighting) t three)))
 
--- ---- the metadata
-module _ (v count : ℕ) (rows : List ℕ) where
-  pub metadata-22 : v < 23 → metadataBytes v count rows ≡ toBE 2 1 ++ listBytes count rows
-  metadata-22 h = rw (lt-leb 23 v h, lt-leb 28 v (omega arith))
-
-  pub metadata-23 : 23 ≤ v → metadataBytes v count rows ≡ toBE 1 (listVersion v) ++ listBytes count rows
-  metadata-23 h = rw (le-leb 23 v h)
-
 -- ---- what follows the metadata
 module _ (v t count : ℕ) (rows : List ℕ) where
-  pub early-timed : v ≡ 24 → t ≡ 1 → earlyBytes v t count rows ≡ toBE 1 1 ++ listBytes count rows
-  early-timed h k = rw (h, k)
-
-  pub early-noTimers : v ≡ 24 → (t ≡ 1 → ⊥) → earlyBytes v t count rows ≡ toBE 1 t
-  early-noTimers h k = rw (h, ne-eqb t 1 k)
+  pub early-24 : v ≡ 24 → earlyBytes v t count rows ≡ toBE 1 t ++ listIf (eqb t 1) count rows
+  early-24 h = rw h
 
   pub early-23 : v ≡ 23 → earlyBytes v t count rows ≡ toBE 1 0
   early-23 h = rw h

@@ -101,6 +101,9 @@ module _ (s : List ℕ) (b : Block) (n : ℕ) (w : Bytes s) (h : verdict all s �
         lighting = valid .head .lighting-before-27;
         timer = valid .head .timer-except-24;
         param0Fits = λ k i j. let e = nodes .param0-to-23 k in e .each i (omega (arith, e .size));
+        form = valid .head .form;
+        form-in-22 = valid .head .form-in-22;
+        of-zero = λ k. rw (sections-hold .metadata .bytes, valid .metadata-of-zero (let l = valid .head .form in omega arith));
         before-24 = λ k. no-timers (valid .timers-before-24 k);
         of-24 = λ e k. no-timers (valid .timers-of-24 e (omega (arith, valid .head .timer)));
       }

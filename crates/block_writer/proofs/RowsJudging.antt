@@ -1,30 +1,29 @@
 -- Sections that are whole rows: their bytes, and what is said of the lists that hold them.
-use Prim.Native.Nat.{ℕ, _+_, _*_, _^_, _<_, _≤_}
+use Prim.Native.Nat.{ℕ, _+_, _*_, _<_, _≤_}
 use mathlib.Core.Path.{_≡_, refl, ap, sym, subst, _∙_}
 use mathlib.Core.List.{List, [], _∷_, _++_}
-use mathlib.Core.Bool.{Bool, true, false, cond}
+use mathlib.Core.Bool.{Bool, true, false}
 use native.Mathlib.Omega.{arith}
 use lib.Dec.{lit<}
 use lib.ListN.{length, length-append}
 use Rattle.wire.specs.Bytes.{Bytes, toBE, toBE-length}
 use Rattle.wire.specs.Read.{Read, done, refused, shift, reach, not-done, shift-done}
-use Rattle.wire.specs.Format.{run, refine, _⨾_, iso, OkItems, encodeItems, items}
-use Rattle.wire.specs.Formats.{_▹_, u32, number, signed, prefixed, listed, behind, fixed, unsignedOf, half32}
+use Rattle.wire.specs.Format.{run, nothing, refine, _⨾_, iso, OkItems, encodeItems, items}
+use Rattle.wire.specs.Formats.{_▹_, u32, number, signed, prefixed, listed, behind, fixed, only, unsignedOf, half32}
 use Rattle.wire.proofs.Looser.{Looser, Settled, settled, settled-ok, looser-items}
 use Rattle.mapblock.specs.Inventory.{BlockFormat}
-use Rattle.mapblock.specs.Data.{NameRow, MetadataRow, ObjectRow, TimerRow, NameMapping, nameMappingShape}
-use Rattle.mapblock.specs.Layout.{since, unmapped, nameRow, metadataRow, objectRow, timerRow, nameMapping, metadata}
-use Rattle.block_reader.specs.Scan.{metadataHead}
+use Rattle.mapblock.specs.Data.{NameRow, ObjectRow, TimerRow, NameMapping, nameMappingShape}
+use Rattle.mapblock.specs.Layout.{unmapped, nameRow, objectRow, nameMapping}
 use Rattle.mapblock.specs.Table.{freeIn, Tabled, RowsMarked}
 use Rattle.mapblock.specs.Told.{ended}
 use Rattle.mapblock.specs.declared.fault.Fault.{Fault}
 use Rattle.mapblock.specs.declared.fault.Fault.the-variants as fault
 use Rattle.mapblock.proofs.Readings.{within-ended}
-use Rattle.block_writer.specs.Frames.{nameFrame, metadataFrame, timerFrame}
+use Rattle.block_writer.specs.Frames.{nameFrame, timerFrame}
 use Rattle.block_writer.specs.Sections.{Rows}
 use Rattle.block_writer.specs.Judging.{verdictOn, Small, MappingJudged}
 use Rattle.block_writer.proofs.RowsIn.{rows-made, rows-empty}
-use Rattle.block_writer.proofs.Framed.{ValueFault, not-ends, name-looser, savedFrame, timer-looser, metadata-looser}
+use Rattle.block_writer.proofs.Framed.{ValueFault, not-ends, name-looser, savedFrame}
 use Rattle.block_writer.proofs.PiecesJudging.{shift-on, verdictOn-into, verdictOn-fixed, verdictOn-listed, verdictOn-ok, judged-on}
 
 -- ---- rows by their frames
@@ -39,6 +38,12 @@ module _ {A : Type 0} (frame : BlockFormat A) {s : List ℕ} {count : ℕ} {l : 
   -- no rows in no bytes
   pub no-rows : length s ≡ 0 → l ≡ []
   no-rows h = let e = sym (w .are) ∙ rows-empty frame 65535 s h in cc
+
+  -- they stand here, or there are none
+  pub rows-where : (here : Bool) → (here ≡ false → length s ≡ 0) → only {ends = fault.Ends} here [] (listed 2 λ _. frame) .Ok l
+  unfolding nothing
+  rows-where true h = rows-ok
+  rows-where false h = no-rows (h refl)
 
   long-by : (m : ℕ) → ((a : A) → frame .Ok a → length (frame .encode a) ≤ m) → (seen r : List A) → OkItems (λ _. frame) (length r) seen r → length (encodeItems (λ _. frame) seen r) ≤ m * length r
   long-by m h seen [] o = omega arith
@@ -67,6 +72,10 @@ module _ {A : Type 0} (frame : BlockFormat A) {s : List ℕ} {count : ℕ} {l : 
     pub rows-verdictOn : {r : Read Fault (Unit {0})} → r ≡ ended (items item count .read s) → r ≡ verdictOn (items item (length l)) l
     unfolding items
     rows-verdictOn h = rw (rows-bytes, ← w .many) at h
+
+    -- the same with the count before it
+    pub listed-verdictOn : {r : Read Fault (Unit {0})} → r ≡ ended (items item count .read s) → shift 2 (λ u. u) r ≡ verdictOn (listed 2 item) l
+    listed-verdictOn h = ap (shift 2 (λ u. u)) (rows-verdictOn h) ∙ sym (verdictOn-listed 2 item l rows-few)
 
 -- ---- sections that are not long
 name-long : (r : NameRow) → nameFrame .Ok r → length (nameFrame .encode r) ≤ 65550
@@ -128,37 +137,6 @@ judged-name-mapping {t} {u} {s} {count} {r} b h m e x k w = record {
       marked-by t u (x .names) (items (nameRow (freeIn t)) count .read s) m (λ c n. rows-found nameFrame b w (nameRow (freeIn t)) (name-looser (freeIn t))) (y .1) (sym (y .2) ∙ h);
 }
 
--- ---- metadata
-pub judge-metadata : (v : ℕ) {k : ℕ} {s : List ℕ} {count : ℕ} {r : Read Fault (Unit {0})} → Bytes s → k ≡ metadataHead v → r ≡ ended (items (metadataRow v) count .read s)
-    → (l : List MetadataRow) → Rows (metadataFrame v) s count l → shift k (λ u. u) r ≡ verdictOn (metadata v) l
-unfolding metadata
-judge-metadata v {k} {s} {count} {r} b e h l w =
-    ap (λ (n : ℕ). shift n (λ u. u) r) e ∙ ap (shift (metadataHead v) (λ u. u)) (rows-verdictOn (metadataFrame v) b w (metadataRow v) (metadata-looser v) h) ∙ by (since 23 v) (since 28 v)
-  where
-    headed : (k x : ℕ) → x < 256 ^ k → shift (k + 2) (λ u. u) (verdictOn (items (metadataRow v) (length l)) l) ≡ verdictOn (fixed k x fault.MetadataVersion (listed 2 (metadataRow v))) l
-    headed k x f =
-        let rows = verdictOn (items (metadataRow v) (length l)) l in
-        sym (verdictOn-fixed k x fault.MetadataVersion (listed 2 (metadataRow v)) l f ∙ ap (shift k (λ u. u)) (verdictOn-listed 2 (metadataRow v) l (rows-few (metadataFrame v) b w)) ∙ shift-on k 2 rows)
-
-    by : (c d : Bool) → shift (cond c 3 4) (λ u. u) (verdictOn (items (metadataRow v) (length l)) l) ≡ verdictOn (fixed (cond c 1 2) (cond d 2 1) fault.MetadataVersion (listed 2 (metadataRow v))) l
-    by true true = headed 1 2 (lit< tt)
-    by true false = headed 1 1 (lit< tt)
-    by false true = headed 2 2 (lit< tt)
-    by false false = headed 2 1 (lit< tt)
-
--- ---- a count and timers
-pub judge-timers : {s : List ℕ} {count : ℕ} {r : Read Fault (Unit {0})} → Bytes s → r ≡ ended (items timerRow count .read s)
-    → (l : List TimerRow) → Rows timerFrame s count l → shift 2 (λ u. u) r ≡ verdictOn (listed 2 timerRow) l
-judge-timers b h l w =
-    ap (shift 2 (λ u. u)) (rows-verdictOn timerFrame b w timerRow timer-looser h) ∙ sym (verdictOn-listed 2 timerRow l (rows-few timerFrame b w))
-
 -- how far the reader's loop comes
 pub rows-reach : {A : Type 0} (item : List A → BlockFormat A) (count : ℕ) (s : List ℕ) {r : Read Fault (Unit {0})} → r ≡ ended (items item count .read s) → reach r ≤ length s
 rows-reach item count s h = within-ended (items item count) s h
-
-pub metadata-head-few : (v : ℕ) → metadataHead v ≤ 4
-metadata-head-few v = go (since 23 v)
-  where
-    go : (b : Bool) → cond b 3 4 ≤ 4
-    go true = omega arith
-    go false = omega arith

@@ -5,11 +5,12 @@ use mathlib.Core.List.{List, []}
 use mathlib.Core.Bool.{Bool, true, false, cond}
 use native.Mathlib.Omega.{arith}
 use lib.Dec.{leb, eqb, lit<}
+use lib.ListN.{length}
 use borrow.Author.Tests.{eqb-false, le-leb, lt-leb, leb-false, leb-true}
 use Rattle.wire.specs.Bytes.{Bytes}
 use Rattle.wire.specs.Read.{Read, done, refused, bind, shift}
 use Rattle.wire.specs.Format.{run, nothing, refine, _⨾_, iso, tested}
-use Rattle.wire.specs.Formats.{_▹_, u8, number, listed, behind, fixed, only}
+use Rattle.wire.specs.Formats.{_▹_, u8, number, listed, behind, fixed, tagged}
 use Rattle.wire.proofs.EveryFormat.{every-format}
 use Rattle.wire.proofs.Looser.{Settled, settled, settled-ok, looser-refine}
 use Rattle.mapblock.specs.Inventory.{BlockFormat}
@@ -26,15 +27,15 @@ use Rattle.block_writer.specs.Sections.{Rows}
 use Rattle.block_writer.specs.Judging.{verdictOn, timersOn, timersEarly, timersLate}
 use Rattle.block_writer.proofs.Fitting.{no-timer, no-timers}
 use Rattle.block_writer.proofs.Framed.{ValueFault, not-ends, earlyFrame, early-looser}
-use Rattle.block_writer.proofs.RowsJudging.{no-rows, rows-ok}
-use Rattle.block_writer.proofs.PiecesJudging.{shift-none, verdictOn-ok, verdictOn-into, verdictOn-fixed, judged-refused, judged-on}
+use Rattle.block_writer.proofs.RowsJudging.{no-rows, rows-where}
+use Rattle.block_writer.proofs.PiecesJudging.{shift-none, verdictOn-ok, verdictOn-into, verdictOn-fixed, judged-on, tagged-refused, tagged-alone, tagged-list}
 
 -- ---- version 24
 abbrev byte : BlockFormat ℕ
 byte = refine (λ t. leb t 1) fault.TimerByte u8
 
-abbrev timersIf : ℕ → BlockFormat (List TimerRow)
-timersIf t = only (eqb t 1) [] (listed 2 timerRow)
+abbrev rows : BlockFormat (List TimerRow)
+rows = listed 2 timerRow
 
 byte-settled : (t : ℕ) → t < 256 → Settled byte t
 unfolding number iso
@@ -49,25 +50,18 @@ unfolding refine number iso run
 byte-above t h k = sym (ap (λ (r : Read Fault ℕ). ended (bind r (tested (λ t. leb t 1) fault.TimerByte))) (every-format (u8 {ends = fault.Ends}) .reads-back t h) ∙ rw (lt-leb t 1 k))
 
 module _ (t : ℕ) (l : List TimerRow) where
-  both : verdictOn (byte ⨾ timersIf) (t, l) ≡ verdictOn (earlyTimers 24) (record { byte = t; rows = l })
+  both : verdictOn (tagged byte (λ t. eqb t 1) [] rows) (t, l) ≡ verdictOn (earlyTimers 24) (record { byte = t; rows = l })
   unfolding earlyTimers
-  both = sym (verdictOn-into timersShape (byte ⨾ timersIf) (record { byte = t; rows = l }))
+  both = sym (verdictOn-into timersShape (tagged byte (λ t. eqb t 1) [] rows) (record { byte = t; rows = l }))
 
   pub early-above : t < 256 → 1 < t → refused fault.TimerByte 0 ≡ verdictOn (earlyTimers 24) (record { byte = t; rows = l })
-  early-above h k = judged-refused byte timersIf t l (byte-settled t h) (byte-above t h k) ∙ both
-
-  rest-none : t ≡ 0 → done tt 0 ≡ verdictOn (timersIf t) l
-  unfolding nothing
-  rest-none e = rw e
+  early-above h k = tagged-refused byte (λ t. eqb t 1) rows t l (byte-settled t h) (byte-above t h k) ∙ both
 
   pub early-zero : t ≡ 0 → done tt 1 ≡ verdictOn (earlyTimers 24) (record { byte = t; rows = l })
-  early-zero e = judged-on byte timersIf t l (byte-settled t (omega arith)) (byte-good t (omega arith)) (rest-none e) ∙ both
-
-  rest-one : {r : Read Fault (Unit {0})} → t ≡ 1 → r ≡ verdictOn (listed 2 timerRow) l → r ≡ verdictOn (timersIf t) l
-  rest-one e h = rw e h
+  early-zero e = tagged-alone byte (λ t. eqb t 1) rows t l (byte-settled t (omega arith)) (byte-good t (omega arith)) (rw e) ∙ both
 
   pub early-one : {r : Read Fault (Unit {0})} → t ≡ 1 → r ≡ verdictOn (listed 2 timerRow) l → shift 1 (λ u. u) r ≡ verdictOn (earlyTimers 24) (record { byte = t; rows = l })
-  early-one e h = judged-on byte timersIf t l (byte-settled t (omega arith)) (byte-good t (omega arith)) (rest-one e h) ∙ both
+  early-one e h = tagged-list byte (λ t. eqb t 1) rows t l (byte-settled t (omega arith)) (byte-good t (omega arith)) (rw e) h ∙ both
 
 -- ---- other versions
 noTimers-on : (h : Head) {l : List TimerRow} → h .timer ≡ 0 → l ≡ [] → timersOn h l ≡ noTimers
@@ -99,14 +93,10 @@ noTimers-ok v h = rw (lt-leb 25 v (omega arith), lt-leb 24 v h) (go (since 23 v)
     go true = fixed-ok 1 0 fault.ByteOf23 (nothing noTimers) noTimers (lit< tt) .1 (nothing-ok noTimers)
     go false = nothing-ok noTimers
 
-frame-24 : (h : Head) {s : List ℕ} {count : ℕ} {l : List TimerRow} → Bytes s → Rows timerFrame s count l → h .timer < 256 → ((h .timer ≡ 1 → ⊥) → l ≡ [])
+frame-24 : (h : Head) {s : List ℕ} {count : ℕ} {l : List TimerRow} → Bytes s → Rows timerFrame s count l → h .timer < 256 → ((h .timer ≡ 1 → ⊥) → length s ≡ 0)
     → earlyFrame 24 .Ok (timersOn h l)
-unfolding iso _⨾_ number nothing
-frame-24 h {l = l} b w k n = (k, go (eqb (h .timer) 1) refl)
-  where
-    go : (x : Bool) → eqb (h .timer) 1 ≡ x → only {ends = fault.Ends} x [] (listed 2 λ _. timerFrame) .Ok l
-    go true e = rows-ok timerFrame b w
-    go false e = n (eqb-false (h .timer) 1 e)
+unfolding iso _⨾_ number
+frame-24 h b w k n = (k, rows-where timerFrame b w (eqb (h .timer) 1) (λ e. n (eqb-false (h .timer) 1 e)))
 
 module _ (h : Head) {s : List ℕ} {count : ℕ} {l : List TimerRow} (b : Bytes s) (w : Rows timerFrame s count l) (c : headFits h ≡ true) where
   pub early-of-24 : {r : Read Fault (Unit {0})} → h .version ≡ 24 → r ≡ verdictOn (earlyTimers 24) (timersOn h l) → r ≡ verdictOn (earlyTimers (h .version)) (timersEarly h l)
@@ -127,7 +117,7 @@ module _ (h : Head) {s : List ℕ} {count : ℕ} {l : List TimerRow} (b : Bytes 
       late g = rw (le-leb 25 (h .version) g) (nothing-ok noTimers)
 
       of-24 : h .version ≡ 24 → earlyFrame (h .version) .Ok (timersEarly h l)
-      of-24 e = rw e (frame-24 h b w k (λ n. no-rows timerFrame b w (no-timers h s t (omega arith) (λ _. n))))
+      of-24 e = rw e (frame-24 h b w k (λ n. no-timers h s t (omega arith) (λ _. n)))
 
   pub early-settled : h .timer < 256 → timersFit h s ≡ true → Settled (earlyTimers (h .version)) (timersEarly h l)
   early-settled k t = settled (early-looser (h .version)) (timersEarly h l) (early-ok k t) not-ends

@@ -7,7 +7,7 @@ use lib.Dec.{ltb, eqb}
 use lib.ListN.{length, getD}
 use Rattle.wire.specs.Bytes.{Bytes}
 use Rattle.mapblock.specs.Data.{NameRow, MetadataRow, ObjectRow, TimerRow, Block}
-use Rattle.mapblock.specs.Layout.{since, objectRow}
+use Rattle.mapblock.specs.Layout.{since, isCounted, listZero, objectRow}
 use Rattle.mapblock.specs.Valid.{U8, U16, U32}
 use Rattle.block_reader.specs.Questions.{areWhole}
 use Rattle.mapblock.specs.declared.head.Head.{Head}
@@ -43,6 +43,7 @@ pub record WellTyped (p : BlockParts) : Type 0 where
   pub lighting : U16 (p .head .lighting)
   pub timestamp : U32 (p .head .timestamp)
   pub timer : U8 (p .head .timer)
+  pub form : U8 (p .head .form)
   pub param0 : (i : ℕ) → U16 (getD (p .param0) i 0)
   pub param1 : Bytes (p .param1)
   pub param2 : Bytes (p .param2)
@@ -52,9 +53,15 @@ pub record WellTyped (p : BlockParts) : Type 0 where
   pub timers : Bytes (p .timers)
 
 -- ---- parts that fit
--- no "head value the version doesn't carry (lighting not 65,535 under 27, timer byte not 0 outside 24)"
+-- Document 02, item 3: no form of the metadata list but counted and a single 0, and no "0 in version 22"
+abbrev pub formFits : Head → Bool
+formFits h = cond (isCounted (h .form)) true (eqb (h .form) listZero && since 23 (h .version))
+
+-- no "head value the version doesn't carry (lighting not 65,535 under 27, timer byte not 0 outside 24)", nor such a form
 abbrev pub headFits : Head → Bool
-headFits h = cond (since 27 (h .version)) true (eqb (h .lighting) 65535) && cond (eqb (h .version) 24) true (eqb (h .timer) 0)
+headFits h =
+    cond (since 27 (h .version)) true (eqb (h .lighting) 65535)
+    && (cond (eqb (h .version) 24) true (eqb (h .timer) 0) && formFits h)
 
 unfoldable pub allBelow : ℕ → List ℕ → Bool
 allBelow m [] = true
@@ -64,14 +71,18 @@ allBelow m (x ∷ l) = ltb x m && allBelow m l
 abbrev pub param0Fits : ℕ → List ℕ → Bool
 param0Fits v param0 = cond (since 24 v) true (allBelow 256 param0)
 
+-- Document 02, item 3: no "0 with metadata rows present"
+abbrev pub metadataFits : Head → List ℕ → Bool
+metadataFits h metadata = cond (isCounted (h .form)) true (eqb (length metadata) 0)
+
 -- no "timers in 22, in 23, or in 24 with a timer byte not 1"
 abbrev pub timersFit : Head → List ℕ → Bool
 timersFit h timers = cond (since 25 (h .version) || (eqb (h .version) 24 && eqb (h .timer) 1)) true (eqb (length timers) 0)
 
--- no "lent list not of 4,096", and the three above
+-- no "lent list not of 4,096", and those above
 abbrev pub fits : BlockParts → Bool
 fits p = areWhole (length (p .param0)) (length (p .param1)) (length (p .param2))
-    && (headFits (p .head) && (param0Fits (p .head .version) (p .param0) && timersFit (p .head) (p .timers)))
+    && (headFits (p .head) && (param0Fits (p .head .version) (p .param0) && (metadataFits (p .head) (p .metadata) && timersFit (p .head) (p .timers))))
 
 -- ---- the block that they make
 abbrev pub given : {A B : Type 0} → Option A → (A → Option B) → Option B

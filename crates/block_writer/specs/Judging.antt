@@ -8,7 +8,7 @@ use lib.ListN.{length, getD}
 use Rattle.wire.specs.Read.{Read, done}
 use Rattle.wire.specs.Formats.{_▹_, only}
 use Rattle.mapblock.specs.Inventory.{BlockFormat}
-use Rattle.mapblock.specs.Data.{NameRow, MetadataRow, ObjectRow, TimerRow, Opening, NameMapping, Timers, Nodes, Front, Rest, noMapping, noTimers}
+use Rattle.mapblock.specs.Data.{NameRow, MetadataRow, ObjectRow, TimerRow, Opening, NameMapping, MetadataList, Timers, Nodes, Front, Rest, noMapping, noTimers}
 use Rattle.mapblock.specs.Layout.{since, before, all, width, isVersion, unmapped, nameMapping, front, rest, lateTimers}
 use Rattle.mapblock.specs.Block.{contentId, firstFrom, block, verdict}
 use Rattle.block_reader.specs.Scan as scan
@@ -48,6 +48,9 @@ mappingFront h l = cond (since 29 (h .version)) (mappingOn h l) noMapping
 abbrev pub mappingBehind : Head → List NameRow → NameMapping
 mappingBehind h l = cond (since 29 (h .version)) noMapping (mappingOn h l)
 
+abbrev pub metadataOn : Head → List MetadataRow → MetadataList
+metadataOn h l = record { form = h .form; rows = l }
+
 abbrev pub timersOn : Head → List TimerRow → Timers
 timersOn h l = record { byte = h .timer; rows = l }
 
@@ -61,7 +64,7 @@ abbrev pub frontOn : Head → List NameRow → Nodes → Front
 frontOn h l n = record { opening = openingOn h; mapping = mappingFront h l; nodes = n }
 
 abbrev pub restOn : Head → List NameRow → List MetadataRow → List ObjectRow → List TimerRow → Rest
-restOn h l m o k = record { metadata = m; early = timersEarly h k; objects = o; mapping = mappingBehind h l; late = timersLate h k }
+restOn h l m o k = record { metadata = metadataOn h m; early = timersEarly h k; objects = o; mapping = mappingBehind h l; late = timersLate h k }
 
 -- ---- names; the table t tells which ids are free, and u is the table after
 pub record MappingJudged (t u : List ℕ) (x : NameMapping) (r : Read Fault (Unit {0})) : Type 0 where

@@ -1,10 +1,22 @@
 // Whether the parts fit each other, but for the rows of the sections.
 use block_reader::read::are_whole;
 use mapblock::head::Head;
+use mapblock::head::LIST_COUNTED;
+use mapblock::head::LIST_ZERO;
 use mapblock::head::NO_LIGHTING;
 ghost use mathlib.Core.Path.{_≡_};
 ghost use mathlib.Core.List.{[]};
-ghost use Rattle.block_writer.specs.BlockParts.{headFits, allBelow, param0Fits, timersFit, blockParts, fits};
+ghost use Rattle.block_writer.specs.BlockParts.{formFits, headFits, allBelow, param0Fits, metadataFits, timersFit, blockParts, fits};
+
+// Tells whether the form of the metadata list is one that the version has.
+fn form_fits(head: Head) -> bool
+    ensures { λ r. ⌜ r ≡ formFits head ⌝ }
+{
+    if head.form == LIST_COUNTED {
+        return true;
+    }
+    (head.form == LIST_ZERO) & (23 <= head.version)
+}
 
 // Tells whether the head has no value that its version does not carry, and that could not be read back.
 fn head_fits(head: Head) -> bool
@@ -15,10 +27,12 @@ fn head_fits(head: Head) -> bool
             return false;
         }
     }
-    if head.version == 24 {
-        return true;
+    if head.version != 24 {
+        if head.timer != 0 {
+            return false;
+        }
     }
-    head.timer == 0
+    form_fits(head)
 }
 
 // Tells whether all entries are bytes.
@@ -45,6 +59,16 @@ fn param0_fits(version: u8, param0: &[u16]) -> bool
     all_bytes(param0)
 }
 
+// Tells whether the metadata list has a count, or there are no rows.
+fn metadata_fits(head: Head, metadata: &[u8]) -> bool
+    ensures { λ r. ⌜ r ≡ metadataFits head (now (metadata .entry)) ⌝ }
+{
+    if head.form == LIST_COUNTED {
+        return true;
+    }
+    metadata.len() == 0
+}
+
 // Tells whether timers may stand in the block, or there are none.
 fn timers_fit(head: Head, timers: &[u8]) -> bool
     ensures { λ r. ⌜ r ≡ timersFit head (now (timers .entry)) ⌝ }
@@ -60,10 +84,17 @@ fn timers_fit(head: Head, timers: &[u8]) -> bool
     timers.len() == 0
 }
 
-// Tells whether head, lists and timers fit together.
-pub(crate) fn fit(head: Head, param0: &[u16], param1: &[u8], param2: &[u8], timers: &[u8]) -> bool
+// Tells whether head, lists, metadata and timers fit together.
+pub(crate) fn fit(
+    head: Head,
+    param0: &[u16],
+    param1: &[u8],
+    param2: &[u8],
+    metadata: &[u8],
+    timers: &[u8],
+) -> bool
     ensures { λ r. ⌜ r ≡ fits (blockParts head (now (param0 .entry)) (now (param1 .entry)) (now (param2 .entry))
-        [] [] [] (now (timers .entry))) ⌝ }
+        [] (now (metadata .entry)) [] (now (timers .entry))) ⌝ }
 {
     if !are_whole(param0.len(), param1.len(), param2.len()) {
         return false;
@@ -72,6 +103,9 @@ pub(crate) fn fit(head: Head, param0: &[u16], param1: &[u8], param2: &[u8], time
         return false;
     }
     if !param0_fits(head.version, param0) {
+        return false;
+    }
+    if !metadata_fits(head, metadata) {
         return false;
     }
     timers_fit(head, timers)

@@ -7,6 +7,7 @@ use block_reader::scan::metadata_head;
 use mapblock::fault::Fault;
 use mapblock::fault::Reach;
 use mapblock::head::Head;
+use mapblock::head::LIST_COUNTED;
 use mapblock::head::is_version;
 use mapblock::lists::LIST_HEAD_LENGTH;
 use mapblock::names::NAMES_HEAD_LENGTH;
@@ -30,10 +31,10 @@ ghost use Rattle.mapblock.specs.Layout.{isVersion, metadata, nodes, timerRow, e
 ghost use Rattle.wire.specs.Ranges.{InReach};
 ghost use Rattle.mapblock.specs.Told.{toldReach, toldUnmapped};
 ghost use Rattle.block_writer.specs.Frames.{nameFrame, metadataFrame, timerFrame};
-ghost use Rattle.block_writer.specs.BlockParts.{headFits, param0Fits, timersFit, blockParts};
+ghost use Rattle.block_writer.specs.BlockParts.{headFits, param0Fits, metadataFits, timersFit, blockParts};
 ghost use Rattle.block_writer.specs.Sections.{Rows, SectionRows};
 ghost use Rattle.block_writer.specs.Measured.{MeasuredAs};
-ghost use Rattle.block_writer.specs.Judging.{verdictOn, Small, timersEarly, timersLate, timersOn, openingLength, listsLength, MappingJudged, FrontJudged, EndingJudged, RestJudged, Judgeable, BlockJudged, firstUnmappedAmong};
+ghost use Rattle.block_writer.specs.Judging.{verdictOn, Small, metadataOn, timersEarly, timersLate, timersOn, openingLength, listsLength, MappingJudged, FrontJudged, EndingJudged, RestJudged, Judgeable, BlockJudged, firstUnmappedAmong};
 
 // Tells what was said of bytes from a place so many bytes before them.
 fn shift(at: usize, r: Reach) -> Reach
@@ -59,15 +60,20 @@ fn judge_name_mapping(names: &[u8], count: u16, ids: &mut [u8; IDS]) -> Reach
     shift(NAMES_HEAD_LENGTH, name_rows(names, count, ids))
 }
 
-// Judges the metadata list.
-fn judge_metadata(version: u8, list: &[u8], count: u16) -> Reach
-    ensures told { λ r. ⌜ ((l : List MetadataRow) → Rows (metadataFrame version) (now (list .entry)) count l
-        → toldReach r ≡ verdictOn (metadata version) l) ⌝ }
+// Judges the metadata list: its list version, and the rows where they have a count.
+fn judge_metadata(head: Head, list: &[u8], count: u16) -> Reach
+    ensures told { λ r. ⌜ ((l : List MetadataRow) → Rows (metadataFrame (head .version)) (now (list .entry)) count l
+        → headFits head ≡ true
+        → toldReach r ≡ verdictOn (metadata (head .version)) (metadataOn head l)) ⌝ }
     ensures bounded { λ r. ⌜ reach (toldReach r) ≤ 4 + length (now (list .entry)) ⌝ }
 {
+    let before_rows = metadata_head(head.version, head.form);
+    if head.form != LIST_COUNTED {
+        return Reach::End(before_rows);
+    }
     shift(
-        metadata_head(version),
-        rows(ListKind::Metadata, version, list, count),
+        before_rows,
+        rows(ListKind::Metadata, head.version, list, count),
     )
 }
 
@@ -166,13 +172,14 @@ fn judge_rest(
     ensures told { λ r. ⌜ ((l : List NameRow) (m : List MetadataRow) (o : List ObjectRow) (k : List TimerRow)
         → SectionRows (head .version) (now (names .entry)) (now (metadata .entry)) (now (objects .entry))
         (now (timers .entry)) counts l m o k
-        → headFits head ≡ true → timersFit head (now (timers .entry)) ≡ true
+        → headFits head ≡ true → metadataFits head (now (metadata .entry)) ≡ true
+        → timersFit head (now (timers .entry)) ≡ true
         → RestJudged (now (ids .entry)) (now (ids .exit)) head l m o k (toldReach r)) ⌝ }
     ensures bounded { λ r. ⌜ reach (toldReach r) ≤ 20
         + length (now (metadata .entry)) + length (now (names .entry)) + length (now (objects .entry))
         + length (now (timers .entry)) + length (now (timers .entry)) ⌝ }
 {
-    let first = judge_metadata(head.version, metadata, counts.metadata);
+    let first = judge_metadata(head, metadata, counts.metadata);
     let Reach::End(a) = first else {
         return first;
     };
@@ -302,7 +309,7 @@ pub(crate) fn measure(
             offset: 0,
         };
     }
-    if !fit(head, param0, param1, param2, timers) {
+    if !fit(head, param0, param1, param2, metadata, timers) {
         return Measured::Misfit;
     }
     match count_all(head.version, names, metadata, objects, timers) {

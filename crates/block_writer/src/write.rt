@@ -4,6 +4,8 @@ use crate::measure::Measured;
 use crate::measure::measure;
 use mapblock::fault::Fault;
 use mapblock::head::Head;
+use mapblock::head::LIST_COUNTED;
+use mapblock::lists::list_version;
 use mapblock::nodes::width;
 use mapblock::timers::TIMER_ROW_LENGTH_BYTE;
 use wire::store::put_bytes;
@@ -18,10 +20,10 @@ ghost use lib.ListN.{length};
 ghost use Rattle.wire.specs.Answer.{Answered};
 ghost use Rattle.wire.specs.Bytes.{toBE};
 ghost use Rattle.wire.specs.Store.{overwrite, PutAt};
-ghost use Rattle.mapblock.specs.Layout.{width};
+ghost use Rattle.mapblock.specs.Layout.{width, listVersionBytes, listVersionOf};
 ghost use Rattle.block_writer.specs.BlockParts.{blockParts};
 ghost use Rattle.block_writer.specs.Write.{writeOf, toldWrite};
-ghost use Rattle.block_writer.specs.Pieces.{openingBytes, listBytes, mappingBytes, entryBytes, nodesBytes, metadataBytes, earlyBytes, lateBytes, frontBytes, restBytes, blockBytes};
+ghost use Rattle.block_writer.specs.Pieces.{openingBytes, listBytes, listIf, mappingBytes, entryBytes, nodesBytes, metadataBytes, earlyBytes, lateBytes, frontBytes, restBytes, blockBytes};
 
 // Puts step 1: version, flags, and from version 27 on the lighting.
 fn put_opening(out: &mut [u8], head: Head) -> usize
@@ -47,7 +49,18 @@ fn put_list(out: &mut [u8], at: usize, count: u16, rows: &[u8]) -> usize
     at + 2 + rows.len()
 }
 
-// Puts the same behind a byte.
+// Puts the same where the list stands here: a tag before it may say that there is none.
+fn put_list_if(here: bool, out: &mut [u8], at: usize, count: u16, rows: &[u8]) -> usize
+    requires { ⌜ at + length (listIf here count (now rows)) ≤ length (now out) ⌝ }
+    ensures { λ r. ⌜ PutAt at (listIf here count (now (rows .entry))) (now (out .entry)) (now (out .exit)) r ⌝ }
+{
+    if here {
+        return put_list(out, at, count, rows);
+    }
+    at
+}
+
+// Puts a byte, and a count and rows behind it.
 fn put_byte_and_list(out: &mut [u8], at: usize, byte: u8, count: u16, rows: &[u8]) -> usize
     requires { ⌜ at + length (toBE 1 byte ++ listBytes count (now rows)) ≤ length (now out) ⌝ }
     ensures { λ r. ⌜ PutAt at (toBE 1 byte ++ listBytes count (now (rows .entry)))
@@ -135,18 +148,38 @@ fn put_nodes(
     put_run(out, second, param2)
 }
 
-// Puts the metadata list. Version 22's list version is a u16.
-fn put_metadata(out: &mut [u8], at: usize, version: u8, count: u16, rows: &[u8]) -> usize
-    requires { ⌜ at + length (metadataBytes version count (now rows)) ≤ length (now out) ⌝ }
-    ensures { λ r. ⌜ PutAt at (metadataBytes version count (now (rows .entry)))
-        (now (out .entry)) (now (out .exit)) r ⌝ }
+// Gives the list version that a head's form of the metadata has.
+fn list_version_of(head: Head) -> u8
+    ensures { λ r. ⌜ r ≡ listVersionOf (head .version) (head .form) ⌝ }
+{
+    if head.form == LIST_COUNTED {
+        list_version(head.version)
+    } else {
+        0
+    }
+}
+
+// Puts a list version of metadata: in version 22 it is a u16, from 23 on a byte.
+fn put_list_version(out: &mut [u8], at: usize, version: u8, value: u8) -> usize
+    requires { ⌜ at + listVersionBytes version ≤ length (now out) ⌝ }
+    ensures { λ r. ⌜ PutAt at (toBE (listVersionBytes version) value) (now (out .entry)) (now (out .exit)) r ⌝ }
 {
     if version < 23 {
-        put_u16(out, at, 1);
-        return put_list(out, at + 2, count, rows);
+        put_u16(out, at, value as u16);
+        return at + 2;
     }
-    let list_version = if version < 28 { 1 } else { 2 };
-    put_byte_and_list(out, at, list_version, count, rows)
+    put_u8(out, at, value);
+    at + 1
+}
+
+// Puts the metadata list in the head's form.
+fn put_metadata(out: &mut [u8], at: usize, head: Head, count: u16, rows: &[u8]) -> usize
+    requires { ⌜ at + length (metadataBytes (head .version) (head .form) count (now rows)) ≤ length (now out) ⌝ }
+    ensures { λ r. ⌜ PutAt at (metadataBytes (head .version) (head .form) count (now (rows .entry)))
+        (now (out .entry)) (now (out .exit)) r ⌝ }
+{
+    let rows_at = put_list_version(out, at, head.version, list_version_of(head));
+    put_list_if(head.form == LIST_COUNTED, out, rows_at, count, rows)
 }
 
 // Puts what follows the metadata: version 24's timer byte and timers, version 23's 0.
@@ -156,11 +189,8 @@ fn put_early(out: &mut [u8], at: usize, head: Head, count: u16, rows: &[u8]) -> 
         (now (out .entry)) (now (out .exit)) r ⌝ }
 {
     if head.version == 24 {
-        if head.timer == 1 {
-            return put_byte_and_list(out, at, 1, count, rows);
-        }
         put_u8(out, at, head.timer);
-        return at + 1;
+        return put_list_if(head.timer == 1, out, at + 1, count, rows);
     }
     if head.version == 23 {
         put_u8(out, at, 0);
@@ -244,7 +274,7 @@ fn put_rest(
         (now (names .entry)) (now (metadata .entry)) (now (objects .entry)) (now (timers .entry)))
         (now (out .entry)) (now (out .exit)) r ⌝ }
 {
-    let first = put_metadata(out, at, head.version, counts.metadata, metadata);
+    let first = put_metadata(out, at, head, counts.metadata, metadata);
     let second = put_early(out, first, head, counts.timers, timers);
     let third = put_byte_and_list(out, second, 0, counts.objects, objects);
     let fourth = put_name_mapping_if(

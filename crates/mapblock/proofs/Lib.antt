@@ -15,6 +15,7 @@ pub mod NameMappings
 pub mod MetadataRows
 pub mod OtherRows
 pub mod RowLists
+pub mod TaggedLists
 -- Rows that are well formed, and the marks of names.
 pub mod Keyed
 pub mod GoodRows

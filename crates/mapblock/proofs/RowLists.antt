@@ -2,21 +2,18 @@
 use Prim.Native.Nat.{ℕ, _+_, _-_, _<_, _≤_}
 use mathlib.Core.Path.{_≡_, refl, ap, sym, subst⁻¹, _∙_}
 use mathlib.Core.List.{List, []}
-use mathlib.Core.Bool.{Bool, true, false, cond}
 use native.Mathlib.Nat.{zero-add}
-use native.Mathlib.Omega.{arith}
-use lib.Dec.{leb}
 use lib.ListN.{length, take, drop, replicate, length-replicate, getD-replicate}
-use borrow.Author.Tests.{le-leb, lt-leb, leb-true, leb-false, eq-eqb}
+use borrow.Author.Tests.{le-leb, lt-leb, eq-eqb}
 use Rattle.wire.specs.Read.{Read, done, refused, mapRead, shift, not-done}
-use Rattle.wire.specs.Format.{nothing, refine, _⨾_, iso, pair, items}
-use Rattle.wire.specs.Formats.{_▹_, u8, listed, fixed, into, Shape}
+use Rattle.wire.specs.Format.{nothing, _⨾_, iso, pair, items}
+use Rattle.wire.specs.Formats.{_▹_, listed, fixed, into, Shape}
 use Rattle.wire.proofs.Lists.{rest-is}
 use Rattle.mapblock.specs.Inventory.{BlockFormat}
-use Rattle.mapblock.specs.Data.{MetadataRow, TimerRow, noTimers, metadataShape, timerShape, timersShape}
-use Rattle.mapblock.specs.Layout.{all, unused, position, newPosition, metadataRow, timerRow, metadata, earlyTimers, lateTimers}
+use Rattle.mapblock.specs.Data.{MetadataRow, TimerRow, metadataShape, timerShape, timersShape}
+use Rattle.mapblock.specs.Layout.{all, unused, position, newPosition, metadataRow, timerRow, lateTimers}
 use Rattle.mapblock.specs.Table.{Tabled}
-use Rattle.mapblock.specs.Told.{toldReach, ended, timerByte, PositionMarked}
+use Rattle.mapblock.specs.Told.{toldReach, ended, PositionMarked}
 use Rattle.mapblock.specs.ListKinds.{RowOf, rowAfter, Marked, RowMarked}
 use Rattle.mapblock.specs.declared.fault.Fault.{Fault}
 use Rattle.mapblock.specs.declared.fault.Fault.the-variants as fault
@@ -25,7 +22,7 @@ use Rattle.mapblock.specs.declared.fault.Reach.the-variants as reach
 use Rattle.mapblock.specs.declared.positions.PositionRead.the-variants as positions
 use Rattle.mapblock.specs.declared.rows.ListKind.{ListKind}
 use Rattle.mapblock.specs.declared.rows.ListKind.the-variants as kind
-use Rattle.wire.proofs.Fixed.{fixed-on, fixed-other, fixed-refused}
+use Rattle.wire.proofs.Fixed.{fixed-on}
 use Rattle.wire.proofs.Joints.{listed-done, refine-done, refine-passes}
 use Rattle.mapblock.proofs.Readings.{num, ended-done, ended-map, Reading, reading-start, reading-on}
 use Rattle.mapblock.proofs.MetadataRows.{nodeNameOf, timedOf, metadata-alone, metadata-position, timer-alone, timer-position}
@@ -136,74 +133,6 @@ module _ {A : Type 0} (k v : ℕ) (e : Fault) (f : BlockFormat A) (s : List ℕ)
   pub fixed-told : {x : ℕ} {r y : Reach} → num k .read s ≡ done x k → x ≡ v
       → toldReach r ≡ ended (f .read (take (length s - k) (drop k s))) → r ≡ y → shift k (λ a. a) (toldReach y) ≡ ended (fixed k v e f .read s)
   fixed-told h g d q = part-told f k s (fixed-on fault.Ends k v e f s (h ∙ ap (λ (n : ℕ). done n k) g)) d q
-
-module _ (v : ℕ) (s : List ℕ) where
-  pub metadata-old : v < 23 → metadata v .read s ≡ fixed 2 1 fault.MetadataVersion (listed 2 (metadataRow v)) .read s
-  unfolding metadata
-  metadata-old h = let k : v < 28 = omega arith in rw (lt-leb 23 v h, lt-leb 28 v k)
-
-  pub metadata-new : {x : ℕ} → 23 ≤ v → x ≡ cond (leb 28 v) 2 1 → fixed 1 x fault.MetadataVersion (listed 2 (metadataRow v)) .read s ≡ metadata v .read s
-  unfolding metadata
-  metadata-new h e = ap (λ (n : ℕ). fixed 1 n fault.MetadataVersion (listed 2 (metadataRow v)) .read s) e ∙ rw (le-leb 23 v h)
-
--- ---- what follows the metadata, by its byte
-module _ (s : List ℕ) where
-  pub early-ends : {e : Fault} {p : ℕ} → u8 {ends = fault.Ends} .read s ≡ refused e p → refused e p ≡ mapRead timerByte (earlyTimers 24 .read s)
-  unfolding earlyTimers iso _⨾_ refine
-  early-ends h = rw h
-
-  pub early-above : {b : ℕ} → u8 {ends = fault.Ends} .read s ≡ done b 1 → 1 < b → refused fault.TimerByte 0 ≡ mapRead timerByte (earlyTimers 24 .read s)
-  unfolding earlyTimers iso _⨾_ refine
-  early-above {b} h k = rw (h, lt-leb b 1 k)
-
-  pub early-none : {b : ℕ} → u8 {ends = fault.Ends} .read s ≡ done b 1 → b ≡ 0 → done 0 1 ≡ mapRead timerByte (earlyTimers 24 .read s)
-  unfolding earlyTimers iso _⨾_ refine nothing
-  early-none {b} h k = rw (h, k)
-
-  pub early-some : {b : ℕ} {r y : Reach} → u8 {ends = fault.Ends} .read s ≡ done b 1 → b ≡ 1
-      → toldReach r ≡ ended (listed 2 timerRow .read (take (length s - 1) (drop 1 s))) → r ≡ y → shift 1 (λ _. 1) (toldReach y) ≡ mapRead timerByte (earlyTimers 24 .read s)
-  unfolding earlyTimers iso _⨾_ refine
-  early-some {b} h k e q =
-      ap (λ (i : Reach). shift 1 (λ _. 1) (toldReach i)) (sym q) ∙ ap (shift 1 (λ _. 1)) (rw (rest-is 1 s) at e)
-      ∙ rw (h, k) (go (listed 2 timerRow .read (drop 1 s)))
-    where
-      go : (y : Read Fault (List TimerRow)) → shift 1 (λ _. 1) (ended y) ≡ mapRead timerByte (mapRead (timersShape .make) (shift 1 (pair 1) y))
-      go (done l m) = refl
-      go (refused f p) = refl
-
-  -- in version 23
-  pub byte-ends : {e : Fault} {p : ℕ} → u8 {ends = fault.Ends} .read s ≡ refused e p → refused e p ≡ mapRead timerByte (earlyTimers 23 .read s)
-  unfolding earlyTimers
-  byte-ends h = ap (mapRead timerByte) (sym (fixed-refused fault.Ends 1 0 fault.ByteOf23 (nothing noTimers) s h))
-
-  module _ {b : ℕ} (h : u8 {ends = fault.Ends} .read s ≡ done b 1) where
-    pub byte-other : (b ≡ 0 → ⊥) → refused fault.ByteOf23 0 ≡ mapRead timerByte (earlyTimers 23 .read s)
-    unfolding earlyTimers
-    byte-other n = ap (mapRead timerByte) (sym (fixed-other fault.Ends 1 0 fault.ByteOf23 (nothing noTimers) s h n))
-
-    pub byte-zero : b ≡ 0 → done 0 1 ≡ mapRead timerByte (earlyTimers 23 .read s)
-    unfolding earlyTimers nothing
-    byte-zero e = ap (mapRead timerByte) (sym (fixed-on fault.Ends 1 0 fault.ByteOf23 (nothing noTimers) s (h ∙ ap (λ (x : ℕ). done x 1) e)))
-
-module _ (v : ℕ) (s : List ℕ) where
-  -- in the other versions
-  not-yet : v < 23 → done 0 0 ≡ mapRead timerByte (earlyTimers v .read s)
-  unfolding earlyTimers nothing
-  not-yet h =
-      let a : v < 24 = omega arith in
-      let b : v < 25 = omega arith in
-      rw (lt-leb 25 v b, lt-leb 24 v a, lt-leb 23 v h)
-
-  no-more : 25 ≤ v → done 0 0 ≡ mapRead timerByte (earlyTimers v .read s)
-  unfolding earlyTimers nothing
-  no-more h = rw (le-leb 25 v h)
-
-  pub early-never : (v ≡ 24 → ⊥) → (v ≡ 23 → ⊥) → done 0 0 ≡ mapRead timerByte (earlyTimers v .read s)
-  early-never a b = go (leb 25 v) refl
-    where
-      go : (c : Bool) → leb 25 v ≡ c → done 0 0 ≡ mapRead timerByte (earlyTimers v .read s)
-      go true e = no-more (leb-true _ _ e)
-      go false e = not-yet (omega (arith, leb-false 25 v e))
 
 -- ---- timers at the end
 module _ (v : ℕ) (s : List ℕ) where

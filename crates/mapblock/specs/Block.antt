@@ -10,7 +10,7 @@ use Rattle.wire.specs.Read.{Read, done, refused, bind}
 use Rattle.wire.specs.Format.{nothing, iso, _⨾_}
 use Rattle.wire.specs.Formats.{only}
 use Rattle.mapblock.specs.Inventory.{BlockFormat}
-use Rattle.mapblock.specs.Data.{Block, Opening, NameMapping, Timers, Steps, noMapping, noTimers}
+use Rattle.mapblock.specs.Data.{Block, Opening, NameMapping, MetadataList, Timers, Steps, noMapping, noTimers}
 use Rattle.mapblock.specs.Layout.{since, all, unmapped, nameMapping, opening, front, rest, earlyTimers, lateTimers, steps, width}
 use Rattle.mapblock.specs.declared.fault.Fault.{Fault}
 use Rattle.mapblock.specs.declared.fault.Fault.the-variants as fault
@@ -22,10 +22,10 @@ built n t x =
     let s = cond n (x .front .mapping) (x .rest .mapping) in
     let k = cond t (x .rest .late) (x .rest .early) in
     record {
-      head = record { version = o .version; flags = o .flags; lighting = o .lighting; timestamp = s .timestamp; timer = k .byte };
+      head = record { version = o .version; flags = o .flags; lighting = o .lighting; timestamp = s .timestamp; timer = k .byte; form = x .rest .metadata .form };
       names = s .names;
       nodes = x .front .nodes;
-      metadata = x .rest .metadata;
+      metadata = x .rest .metadata .rows;
       objects = x .rest .objects;
       timers = k .rows;
     }
@@ -36,6 +36,9 @@ openingOf b = record { version = b .head .version; flags = b .head .flags; light
 abbrev pub nameMappingOf : Block → NameMapping
 nameMappingOf b = record { timestamp = b .head .timestamp; names = b .names }
 
+abbrev pub metadataOf : Block → MetadataList
+metadataOf b = record { form = b .head .form; rows = b .metadata }
+
 abbrev pub timersOf : Block → Timers
 timersOf b = record { byte = b .head .timer; rows = b .timers }
 
@@ -43,7 +46,7 @@ abbrev pub pieces : Bool → Bool → Block → Steps
 pieces n t b = record {
   front = record { opening = openingOf b; mapping = cond n (nameMappingOf b) noMapping; nodes = b .nodes };
   rest = record {
-    metadata = b .metadata;
+    metadata = metadataOf b;
     early = cond t noTimers (timersOf b);
     objects = b .objects;
     mapping = cond n noMapping (nameMappingOf b);

@@ -63,6 +63,11 @@ pub record NameMapping : Type 0 where
   pub timestamp : ℕ
   pub names : List NameRow
 
+-- step 5: the metadata list's form, document 02's item 3, and its rows
+pub record MetadataList : Type 0 where
+  pub form : ℕ
+  pub rows : List MetadataRow
+
 -- the end of step 5, and step 8
 pub record Timers : Type 0 where
   pub byte : ℕ
@@ -76,7 +81,7 @@ pub record Front : Type 0 where
 
 -- steps 5 to 8
 pub record Rest : Type 0 where
-  pub metadata : List MetadataRow
+  pub metadata : MetadataList
   pub early : Timers
   pub objects : List ObjectRow
   pub mapping : NameMapping
@@ -150,6 +155,9 @@ openingShape = record {
 abbrev pub nameMappingShape : Shape (ℕ × List NameRow) NameMapping
 nameMappingShape = record { make = λ (timestamp, names). record { timestamp = timestamp; names = names }; parts = λ r. (r .timestamp, r .names); there = λ r. refl; back = λ x. refl }
 
+abbrev pub metadataListShape : Shape (ℕ × List MetadataRow) MetadataList
+metadataListShape = record { make = λ (form, rows). record { form = form; rows = rows }; parts = λ r. (r .form, r .rows); there = λ r. refl; back = λ x. refl }
+
 abbrev pub timersShape : Shape (ℕ × List TimerRow) Timers
 timersShape = record { make = λ (byte, rows). record { byte = byte; rows = rows }; parts = λ r. (r .byte, r .rows); there = λ r. refl; back = λ x. refl }
 
@@ -161,7 +169,7 @@ frontShape = record {
   back = λ x. refl;
 }
 
-abbrev pub restShape : Shape (List MetadataRow × (Timers × (List ObjectRow × (NameMapping × Timers)))) Rest
+abbrev pub restShape : Shape (MetadataList × (Timers × (List ObjectRow × (NameMapping × Timers)))) Rest
 restShape = record {
   make = λ (metadata, (early, (objects, (mapping, late)))).
       record { metadata = metadata; early = early; objects = objects; mapping = mapping; late = late };

@@ -1,13 +1,16 @@
 -- Document 01, 'Block layout', straight down its eight steps, in the language of wire's Formats.
 -- `free` are the ids that may be mapped: `all` in a block of its own. A caller who lends a table of marks may hold some back.
 use Prim.Native.Nat.{ℕ}
+use mathlib.Core.Path.{_≡_, refl, sym}
 use mathlib.Core.List.{List, [], _∷_}
-use mathlib.Core.Bool.{Bool, true, false, cond, not, _&&_}
+use mathlib.Core.Bool.{Bool, true, false, cond, not, _&&_, _||_}
 use lib.Dec.{leb, eqb}
+use borrow.Author.Tests.{eqb-true}
+use Rattle.wire.specs.Choice.{no-true}
 use Rattle.wire.specs.Format.{nothing, refine, _⨾_}
-use Rattle.wire.specs.Formats.{_▹_, u8, u16, u32, s32, number, prefixed, listed, fixed, times, only, into}
+use Rattle.wire.specs.Formats.{_▹_, u8, u16, u32, s32, number, prefixed, listed, fixed, times, only, tagged, coded, into}
 use Rattle.mapblock.specs.Inventory.{BlockFormat, inventory}
-use Rattle.mapblock.specs.Data.{NameRow, Variable, MetadataRow, ObjectRow, TimerRow, Nodes, Opening, NameMapping, Timers, Front, Rest, Steps, noMapping, noTimers, nameShape, variableShape, metadataShape, objectShape, timerShape, nodeShape, openingShape, nameMappingShape, timersShape, frontShape, restShape, stepsShape}
+use Rattle.mapblock.specs.Data.{NameRow, Variable, MetadataRow, ObjectRow, TimerRow, Nodes, Opening, NameMapping, MetadataList, Timers, Front, Rest, Steps, noMapping, noTimers, nameShape, variableShape, metadataShape, objectShape, timerShape, nodeShape, openingShape, nameMappingShape, metadataListShape, timersShape, frontShape, restShape, stepsShape}
 use Rattle.mapblock.specs.declared.fault.Fault.the-variants as fault
 
 abbrev pub since : ℕ → ℕ → Bool
@@ -101,15 +104,53 @@ params v = into nodeShape
 unfoldable pub nodes : ℕ → BlockFormat Nodes
 nodes v = fixed 1 (width v) fault.ContentWidth (fixed 1 2 fault.ParamsWidth (params v))
 
--- the bytes of the metadata's list version, and its value
+-- the bytes of the metadata's list version, and its value where the list has a count
 abbrev pub listVersionBytes : ℕ → ℕ
 listVersionBytes v = cond (since 23 v) 1 2
 
 abbrev pub listVersion : ℕ → ℕ
 listVersion v = cond (since 28 v) 2 1
 
-unfoldable pub metadata : ℕ → BlockFormat (List MetadataRow)
-metadata v = fixed (listVersionBytes v) (listVersion v) fault.MetadataVersion (listed 2 (metadataRow v))
+-- Document 02, item 3: "From version 23 on, list version 0 means an empty list with no count."
+abbrev pub isListVersion : ℕ → ℕ → Bool
+isListVersion v n = eqb n (listVersion v) || (eqb n 0 && since 23 v)
+
+-- "the head carries which of the two forms was read, counted or 0"
+abbrev pub listCounted : ℕ
+listCounted = 0
+
+abbrev pub listZero : ℕ
+listZero = 1
+
+-- it has a count, and rows behind that
+abbrev pub isCounted : ℕ → Bool
+isCounted form = eqb form listCounted
+
+-- the form of a list version, and the list version of a form
+abbrev pub formOf : ℕ → ℕ
+formOf n = cond (eqb n 0) listZero listCounted
+
+abbrev pub listVersionOf : ℕ → ℕ → ℕ
+listVersionOf v form = cond (isCounted form) (listVersion v) 0
+
+abbrev pub listVersionField : ℕ → BlockFormat ℕ
+listVersionField v = refine (isListVersion v) fault.MetadataVersion (number (listVersionBytes v))
+
+pub form-back : (v n : ℕ) → listVersionField v .Ok n → listVersionOf v (formOf n) ≡ n
+unfolding refine
+form-back v n h = go (eqb n 0) refl (eqb n (listVersion v)) refl
+  where
+    go : (b : Bool) → eqb n 0 ≡ b → (c : Bool) → eqb n (listVersion v) ≡ c → listVersionOf v (cond b listZero listCounted) ≡ n
+    go true e c f = sym (eqb-true n 0 e)
+    go false e true f = sym (eqb-true n (listVersion v) f)
+    go false e false f = no-true (rw (f, e) at (h .1))
+
+-- the list version, read as a form
+unfoldable pub listForm : ℕ → BlockFormat ℕ
+listForm v = coded formOf (listVersionOf v) (listVersionField v) (form-back v)
+
+unfoldable pub metadata : ℕ → BlockFormat MetadataList
+metadata v = into metadataListShape (tagged (listForm v) isCounted [] (listed 2 (metadataRow v)))
 
 unfoldable pub objects : BlockFormat (List ObjectRow)
 objects = fixed 1 0 fault.ObjectVersion (listed 2 λ _. objectRow)
@@ -117,7 +158,7 @@ objects = fixed 1 0 fault.ObjectVersion (listed 2 λ _. objectRow)
 -- behind the metadata: version 24's timer byte and rows, version 23's 0, else nothing
 unfoldable pub earlyTimers : ℕ → BlockFormat Timers
 earlyTimers v = only (before 25 v) noTimers
-    (cond (since 24 v) (into timersShape (refine (λ t. leb t 1) fault.TimerByte u8 ⨾ λ t. only (eqb t 1) [] (listed 2 timerRow)))
+    (cond (since 24 v) (into timersShape (tagged (refine (λ t. leb t 1) fault.TimerByte u8) (λ t. eqb t 1) [] (listed 2 timerRow)))
     (cond (since 23 v) (fixed 1 0 fault.ByteOf23 (nothing noTimers))
     (nothing noTimers)))
 

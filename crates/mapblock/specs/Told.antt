@@ -7,7 +7,7 @@ use mathlib.Core.Bool.{Bool}
 use lib.ListN.{length}
 use Rattle.wire.specs.Format.{refine}
 use Rattle.wire.specs.Read.{Read, done, refused, mapRead}
-use Rattle.mapblock.specs.Data.{NameMapping, Timers}
+use Rattle.mapblock.specs.Data.{NameMapping, MetadataList, Timers}
 use Rattle.mapblock.specs.Layout.{position, without}
 use Rattle.mapblock.specs.Table.{Tabled}
 use Rattle.mapblock.specs.declared.fault.Fault.{Fault}
@@ -23,8 +23,8 @@ use Rattle.mapblock.specs.declared.names.NameRead.{NameRead}
 use Rattle.mapblock.specs.declared.names.NameRead.the-variants as name
 use Rattle.mapblock.specs.declared.names.NameMappingRead.{NameMappingRead}
 use Rattle.mapblock.specs.declared.names.NameMappingRead.the-variants as nameMapping
-use Rattle.mapblock.specs.declared.lists.EarlyRead.{EarlyRead}
-use Rattle.mapblock.specs.declared.lists.EarlyRead.the-variants as early
+use Rattle.mapblock.specs.declared.lists.TaggedRead.{TaggedRead}
+use Rattle.mapblock.specs.declared.lists.TaggedRead.the-variants as tagged
 use Rattle.mapblock.specs.declared.metadata.MetadataFields.{MetadataFields}
 use Rattle.mapblock.specs.declared.metadata.MetadataRead.{MetadataRead}
 use Rattle.mapblock.specs.declared.metadata.MetadataRead.the-variants as metadata
@@ -71,13 +71,16 @@ abbrev pub toldObject : ObjectRead → Read Fault ObjectFields
 toldObject (object.Row r n) = done r n
 toldObject (object.Refused f p) = refused f p
 
--- of timers their byte
+-- the tag of a list that stands behind one: of metadata its form, of timers their byte
+abbrev pub listFormIn : MetadataList → ℕ
+listFormIn x = x .form
+
 abbrev pub timerByte : Timers → ℕ
 timerByte x = x .byte
 
-abbrev pub toldEarly : EarlyRead → Read Fault ℕ
-toldEarly (early.Timers b n) = done b n
-toldEarly (early.Refused f p) = refused f p
+abbrev pub toldTagged : TaggedRead → Read Fault ℕ
+toldTagged (tagged.List t n) = done t n
+toldTagged (tagged.Refused f p) = refused f p
 
 -- a row of a timer has ten bytes
 abbrev pub toldTimer : TimerRead → Read Fault TimerFields

@@ -129,6 +129,9 @@ pub record HeadGood (h : Head) : Type 0 where
   pub timer : h .timer ≤ 1
   -- "The timer byte is 0 except in version 24."
   pub timer-except-24 : (h .version ≡ 24 → ⊥) → h .timer ≡ 0
+  -- document 02, item 3: "which of the two forms was read, counted or 0", as 0 and 1; the second is there "from version 23 on"
+  pub form : h .form ≤ 1
+  pub form-in-22 : h .version < 23 → h .form ≡ 0
 
 -- ---- the nodes
 -- step 4: 4,096 entries, each below a limit
@@ -151,6 +154,8 @@ pub record Valid (b : Block) : Type 0 where
   pub metadata : Rows (MetadataGood (b .head .version)) (b .metadata)
   pub objects : Rows ObjectGood (b .objects)
   pub timers : Rows TimerGood (b .timers)
+  -- document 02, item 3: "list version 0 means an empty list"
+  pub metadata-of-zero : b .head .form ≡ 1 → b .metadata ≡ []
   -- Versions 22 and 23 have no timers, and 24 has none where its timer byte is 0.
   pub timers-before-24 : b .head .version < 24 → b .timers ≡ []
   pub timers-of-24 : b .head .version ≡ 24 → b .head .timer ≡ 0 → b .timers ≡ []

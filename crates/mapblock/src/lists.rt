@@ -1,6 +1,8 @@
 // The lists of a block that are neither names nor nodes: metadata, static objects, timers.
 use crate::fault::Fault;
 use crate::fault::Reach;
+use crate::head::LIST_COUNTED;
+use crate::head::LIST_ZERO;
 use crate::rows::ListKind;
 use crate::rows::listed;
 use crate::timers::TIMER_ROW_LENGTH_BYTE;
@@ -9,20 +11,19 @@ use wire::fields::U16;
 use wire::fields::u8_at;
 use wire::fields::u16_at;
 ghost use mathlib.Core.Path.{_≡_};
-ghost use Prim.Native.Nat.{_<_};
-ghost use Rattle.wire.specs.Read.{mapRead};
-ghost use Rattle.wire.specs.Formats.{fixed, listed};
+ghost use mathlib.Core.Bool.{_&&_};
+ghost use Prim.Native.Nat.{_≤_};
+ghost use lib.Dec.{eqb};
+ghost use lib.ListN.{length, drop};
+ghost use Rattle.wire.specs.Read.{mapRead, shift};
+ghost use Rattle.wire.specs.Formats.{number, fixed, listed};
+ghost use Rattle.wire.specs.Told.{short, toldU16In};
 ghost use Rattle.mapblock.specs.ListKinds.{rowAfter};
-ghost use Rattle.mapblock.specs.Layout.{metadata, objects, earlyTimers, lateTimers};
-ghost use Rattle.mapblock.specs.Told.{toldReach, ended, toldEarly, timerByte};
+ghost use Rattle.mapblock.specs.Layout.{since, listVersionBytes, listVersion, metadata, objects, earlyTimers, lateTimers};
+ghost use Rattle.mapblock.specs.Told.{toldReach, ended, toldTagged, listFormIn, timerByte};
 
 // The bytes before the rows of such a list: a byte and a count.
 pub const LIST_HEAD_LENGTH: usize = 3;
-
-// In version 22's list of metadata the list version has two bytes.
-const OLD_LIST_VERSION_LENGTH: usize = 2;
-
-pub const OLD_METADATA_HEAD_LENGTH: usize = 4;
 
 // Reads a list behind a byte that is fixed: a count and so many rows.
 fn fixed_list(kind: ListKind, version: u8, s: &[u8], value: u8, fault: Fault) -> Reach
@@ -47,47 +48,89 @@ fn fixed_list(kind: ListKind, version: u8, s: &[u8], value: u8, fault: Fault) ->
     }
 }
 
-// Reads version 22's list of metadata, whose list version is a u16.
-fn old_metadata(version: u8, s: &[u8]) -> Reach
-    requires { ⌜ version < 23 ⌝ }
-    ensures { λ r. ⌜ toldReach r ≡ ended (metadata version .read (now (s .entry))) ⌝ }
+// A tag and where the list that it tells of ends, or the fault and its place.
+pub enum TaggedRead {
+    List { tag: u8, length: usize },
+    Refused { fault: Fault, offset: usize },
+}
+
+// Reads the list behind a tag of so many bytes: a count and so many rows.
+fn list_behind(tag: u8, at: usize, kind: ListKind, version: u8, s: &[u8]) -> TaggedRead
+    requires { ⌜ at ≤ length (now s) ⌝ }
+    ensures { λ r. ⌜ toldTagged r
+        ≡ shift at (λ _. tag) (listed 2 (rowAfter kind version) .read (drop at (now (s .entry)))) ⌝ }
 {
-    let U16::Value(v) = u16_at(s, 0) else {
-        return Reach::Refused {
+    match listed(kind, version, &s[at..]) {
+        Reach::Refused { fault, offset } => TaggedRead::Refused {
+            fault,
+            offset: at + offset,
+        },
+        Reach::End(n) => TaggedRead::List {
+            tag,
+            length: at + n,
+        },
+    }
+}
+
+// Gives the number of bytes of a metadata list's version.
+pub fn list_version_length(version: u8) -> usize
+    ensures { λ r. ⌜ r ≡ listVersionBytes version ⌝ }
+{
+    if version < 23 { 2 } else { 1 }
+}
+
+// Gives the list version of metadata that has a count.
+pub fn list_version(version: u8) -> u8
+    ensures { λ r. ⌜ r ≡ listVersion version ⌝ }
+{
+    if version < 28 { 1 } else { 2 }
+}
+
+// Reads the list version of metadata: in version 22 a u16, from 23 on a byte.
+fn list_version_at(version: u8, s: &[u8]) -> U16
+    ensures { λ r. ⌜ toldU16In (listVersionBytes version) r
+        ≡ number {ends = short} (listVersionBytes version) .read (now (s .entry)) ⌝ }
+{
+    if version < 23 {
+        return u16_at(s, 0);
+    }
+    match u8_at(s, 0) {
+        U8::Ends => U16::Ends,
+        U8::Value(v) => U16::Value(v as u16),
+    }
+}
+
+// Tells whether a list version stands for a list of none, without a count.
+fn is_zero_form(version: u8, v: u16) -> bool
+    ensures { λ r. ⌜ r ≡ (eqb v 0 && since 23 version) ⌝ }
+{
+    (v == 0) & (23 <= version)
+}
+
+// Reads the metadata, step 5 of the layout, and tells its form and where it ends.
+pub fn metadata_list(version: u8, s: &[u8]) -> TaggedRead
+    ensures { λ r. ⌜ toldTagged r ≡ mapRead listFormIn (metadata version .read (now (s .entry))) ⌝ }
+{
+    let U16::Value(v) = list_version_at(version, s) else {
+        return TaggedRead::Refused {
             fault: Fault::Ends,
             offset: 0,
         };
     };
-    if v != 1 {
-        return Reach::Refused {
-            fault: Fault::MetadataVersion,
-            offset: 0,
+    let at = list_version_length(version);
+    if v == list_version(version) as u16 {
+        return list_behind(LIST_COUNTED, at, ListKind::Metadata, version, s);
+    }
+    if is_zero_form(version, v) {
+        return TaggedRead::List {
+            tag: LIST_ZERO,
+            length: at,
         };
     }
-    match listed(ListKind::Metadata, version, &s[OLD_LIST_VERSION_LENGTH..]) {
-        Reach::Refused { fault, offset } => Reach::Refused {
-            fault,
-            offset: OLD_LIST_VERSION_LENGTH + offset,
-        },
-        Reach::End(n) => Reach::End(OLD_LIST_VERSION_LENGTH + n),
+    TaggedRead::Refused {
+        fault: Fault::MetadataVersion,
+        offset: 0,
     }
-}
-
-// Reads the metadata, step 5 of the layout, and tells where it ends.
-pub fn metadata_list(version: u8, s: &[u8]) -> Reach
-    ensures { λ r. ⌜ toldReach r ≡ ended (metadata version .read (now (s .entry))) ⌝ }
-{
-    if version < 23 {
-        return old_metadata(version, s);
-    }
-    let list_version = if version < 28 { 1 } else { 2 };
-    fixed_list(
-        ListKind::Metadata,
-        version,
-        s,
-        list_version,
-        Fault::MetadataVersion,
-    )
 }
 
 // Reads the static objects, step 6, and tells where they end.
@@ -97,68 +140,53 @@ pub fn object_list(version: u8, s: &[u8]) -> Reach
     fixed_list(ListKind::Objects, version, s, 0, Fault::ObjectVersion)
 }
 
-// The timer byte and where what follows the metadata ends, or the fault and its place.
-pub enum EarlyRead {
-    Timers { byte: u8, length: usize },
-    Refused { fault: Fault, offset: usize },
-}
-
 // Reads version 24's timer byte, 0 or 1, and with 1 a list of timers.
-fn timers_of_24(s: &[u8]) -> EarlyRead
-    ensures { λ r. ⌜ toldEarly r ≡ mapRead timerByte (earlyTimers 24 .read (now (s .entry))) ⌝ }
+fn timers_of_24(s: &[u8]) -> TaggedRead
+    ensures { λ r. ⌜ toldTagged r ≡ mapRead timerByte (earlyTimers 24 .read (now (s .entry))) ⌝ }
 {
     let U8::Value(byte) = u8_at(s, 0) else {
-        return EarlyRead::Refused {
+        return TaggedRead::Refused {
             fault: Fault::Ends,
             offset: 0,
         };
     };
     if 1 < byte {
-        return EarlyRead::Refused {
+        return TaggedRead::Refused {
             fault: Fault::TimerByte,
             offset: 0,
         };
     }
     if byte == 0 {
-        return EarlyRead::Timers { byte: 0, length: 1 };
+        return TaggedRead::List { tag: 0, length: 1 };
     }
-    match listed(ListKind::Timers, 24, &s[1..]) {
-        Reach::Refused { fault, offset } => EarlyRead::Refused {
-            fault,
-            offset: 1 + offset,
-        },
-        Reach::End(n) => EarlyRead::Timers {
-            byte: 1,
-            length: 1 + n,
-        },
-    }
+    list_behind(1, 1, ListKind::Timers, 24, s)
 }
 
 // Reads version 23's byte behind the metadata, which is 0.
-fn byte_of_23(s: &[u8]) -> EarlyRead
-    ensures { λ r. ⌜ toldEarly r ≡ mapRead timerByte (earlyTimers 23 .read (now (s .entry))) ⌝ }
+fn byte_of_23(s: &[u8]) -> TaggedRead
+    ensures { λ r. ⌜ toldTagged r ≡ mapRead timerByte (earlyTimers 23 .read (now (s .entry))) ⌝ }
 {
     match u8_at(s, 0) {
-        U8::Ends => EarlyRead::Refused {
+        U8::Ends => TaggedRead::Refused {
             fault: Fault::Ends,
             offset: 0,
         },
         U8::Value(byte) => {
             if byte != 0 {
-                EarlyRead::Refused {
+                TaggedRead::Refused {
                     fault: Fault::ByteOf23,
                     offset: 0,
                 }
             } else {
-                EarlyRead::Timers { byte: 0, length: 1 }
+                TaggedRead::List { tag: 0, length: 1 }
             }
         }
     }
 }
 
 // Reads what follows the metadata: it depends on the version, and from 25 on it is nothing.
-pub fn early_timers(version: u8, s: &[u8]) -> EarlyRead
-    ensures { λ r. ⌜ toldEarly r ≡ mapRead timerByte (earlyTimers version .read (now (s .entry))) ⌝ }
+pub fn early_timers(version: u8, s: &[u8]) -> TaggedRead
+    ensures { λ r. ⌜ toldTagged r ≡ mapRead timerByte (earlyTimers version .read (now (s .entry))) ⌝ }
 {
     if version == 24 {
         return timers_of_24(s);
@@ -166,7 +194,7 @@ pub fn early_timers(version: u8, s: &[u8]) -> EarlyRead
     if version == 23 {
         return byte_of_23(s);
     }
-    EarlyRead::Timers { byte: 0, length: 0 }
+    TaggedRead::List { tag: 0, length: 0 }
 }
 
 // Reads the timers at the end, step 8, which stand there from version 25 on.

@@ -90,7 +90,7 @@ pub fn rows(kind: ListKind, version: u8, s: &[u8], count: u16) -> Reach
 }
 
 // The bytes of a list's count.
-const COUNT_LENGTH: usize = 2;
+pub const COUNT_LENGTH: usize = 2;
 
 // Reads a count and so many rows.
 pub fn listed(kind: ListKind, version: u8, s: &[u8]) -> Reach

@@ -21,7 +21,7 @@ use Rattle.position.specs.Lots.{world}
 use Rattle.position.specs.Spans.{allTime}
 use Rattle.position.specs.declared.key.Coordinates.{Coordinates}
 use Rattle.position.proofs.Theorems.{keys-have-triples, node-in-the-world}
-use Rattle.mapblock.specs.Layout.{all, unused, nameRow, nameMapping, params, nodes, metadata, objects, earlyTimers, lateTimers, opening, front, rest, steps}
+use Rattle.mapblock.specs.Layout.{all, unused, nameRow, nameMapping, params, nodes, listForm, metadata, objects, earlyTimers, lateTimers, opening, front, rest, steps}
 use Rattle.mapblock.specs.Block.{block}
 use Rattle.block_reader.specs.Questions.{nameAt}
 use Rattle.mapblock.specs.Valid.{Valid}
@@ -46,7 +46,7 @@ are-bytes = block all .bytes (airAt 29 0) (valid-is-ok (airAt 29 0) .0 valid .0)
 
 -- they fit a record
 short : length bytes < 256 ^ 4
-unfolding block iso steps front rest opening nameMapping nodes params metadata earlyTimers objects lateTimers nameRow unused _⨾_ number run listed items runs behind refine nothing
+unfolding block iso steps front rest opening nameMapping nodes params listForm metadata earlyTimers objects lateTimers nameRow unused _⨾_ number run listed items runs behind refine nothing
 short = lit< tt
 
 abbrev pub recordOf : ℤ → SheetRecord

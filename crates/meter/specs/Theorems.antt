@@ -15,9 +15,10 @@ use Rattle.wire.specs.Answer.{Answer, good, refusal, mapAnswer, sheetMalformed,
 use Rattle.position.specs.Spans.{inSpan}
 use Rattle.position.specs.declared.key.Coordinates.{Coordinates}
 use Rattle.mapblock.specs.Data.{Block}
-use Rattle.mapblock.specs.Layout.{all}
+use Rattle.mapblock.specs.Layout.{all, listCounted, listZero}
 use Rattle.mapblock.specs.Block.{block}
 use Rattle.block_reader.specs.Questions.{blockOf, nameAt}
+use Rattle.block_reader.specs.Theorems.{withForm, EitherForm}
 use Rattle.mapblock.specs.Valid.{Distinct}
 use Rattle.tally.specs.Rows.{countIn}
 use Rattle.tally.specs.Tally.{rowsOf}
@@ -29,11 +30,11 @@ use Rattle.sheet.specs.Placed.{Placed, placedAt}
 use Rattle.meter.specs.Standing.{Node, nodesIn}
 use Rattle.meter.specs.Counting.{Measure, MeasureRows, tallyOf, amountOf, byOne}
 use Rattle.meter.specs.Tallying.{tallyBlockOf}
-use Rattle.sheet.specs.Sheet.{Misframed, SheetRecord, frame, sheet, sheetOf}
+use Rattle.sheet.specs.Sheet.{Misframed, SheetRecord, frame, sheetOf}
 use Rattle.meter.specs.SheetTally.{tallySheetOf}
 use Rattle.meter.specs.Streaming.{State, startOf, stepsOf, finishOf}
 use Rattle.meter.specs.Cuts.{Cuts, Partition}
-use Rattle.sheet.specs.Theorems.{SheetTaken, sheetBytes, Framed}
+use Rattle.sheet.specs.Theorems.{sheetBytes, Framed}
 
 -- ---- streaming
 -- a record at a time, up to the end of those framed
@@ -223,3 +224,8 @@ abbrev pub NamesAlone : Type 0
 NamesAlone = (key : ℤ) (s u : List ℕ) (b c : Block) (p : Part) (room : ℕ) → blockOf s ≡ good b → blockOf u ≡ good c
     → ((i : ℕ) → i < 4096 → nameAt b i ≡ nameAt c i) → inSpan (p .span) (b .head .timestamp) ≡ inSpan (p .span) (c .head .timestamp)
     → tallyBlockOf byOne key s p room ≡ tallyBlockOf byOne key u p room
+
+-- Document 02, item 3: a block without metadata has one tally, whichever of the two forms its list has.
+abbrev pub FormsAlike : Type 0
+FormsAlike = (key : ℤ) (b : Block) → EitherForm b → (p : Part) (room : ℕ)
+    → tallyBlockOf byOne key (block all .encode (withForm listCounted b)) p room ≡ tallyBlockOf byOne key (block all .encode (withForm listZero b)) p room

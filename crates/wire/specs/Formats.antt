@@ -9,6 +9,8 @@
 --     prefixed k                        a length of k bytes, and so many bytes
 --     listed k item, times n f          a count of k bytes, and so many items, each told those before it; n of the same
 --     only b a f                        f where b holds; else nothing, read as a
+--     tagged tag test a f               a tag, and f where it passes the test; else nothing, read as a
+--     coded to from f                   f, whose values stand for others
 --     into shape f                      f, as a record
 use Prim.Native.Nat.{ℕ, suc, _+_, _-_, _^_, _<_, _≤_}
 use mathlib.Core.Path.{_≡_, refl, ap, sym, subst⁻¹}
@@ -193,6 +195,16 @@ headLength = 9
 -- f where the test holds; else nothing, and the value that stands for it
 abbrev pub only : {E : Type 0} {ends : E} {A : Type 0} → Bool → A → Format E ends A → Format E ends A
 only b a f = cond b f (nothing a)
+
+-- a number, the tag, and behind it f where the tag passes the test; else nothing, and the value that stands for it
+abbrev pub tagged : {E : Type 0} {ends : E} {A : Type 0} → Format E ends ℕ → (ℕ → Bool) → A → Format E ends A → Format E ends (ℕ × A)
+tagged tag test a f = tag ⨾ λ t. only (test t) a f
+
+-- ---- values that stand for others
+-- f, where `to` gives what a value that was read stands for, and `from` the value to be written; what does not come back by them has no bytes
+abbrev pub coded : {E : Type 0} {ends : E} {A B : Type 0} (to : A → B) (from : B → A) (f : Format E ends A) → ((a : A) → f .Ok a → from (to a) ≡ a) → Format E ends B
+coded to from f back =
+    iso (λ b. f .Ok (from b) × (to (from b) ≡ b)) to from f (λ b h. h) (λ a h. let e = back a h in ((subst⁻¹ (f .Ok) e h, ap to e), e))
 
 -- ---- a record and the nested pairs that hold the same
 pub record Shape (A B : Type 0) : Type 0 where

@@ -32,9 +32,13 @@ abbrev pub toldU8 : U8 → Read Short ℕ
 toldU8 (u8.Value v) = done v 1
 toldU8 u8.Ends = refused short 0
 
+-- a number of k bytes, at most two
+abbrev pub toldU16In : ℕ → U16 → Read Short ℕ
+toldU16In k (u16.Value v) = done v k
+toldU16In k u16.Ends = refused short 0
+
 abbrev pub toldU16 : U16 → Read Short ℕ
-toldU16 (u16.Value v) = done v 2
-toldU16 u16.Ends = refused short 0
+toldU16 = toldU16In 2
 
 abbrev pub toldU32 : U32 → Read Short ℕ
 toldU32 (u32.Value v) = done v 4

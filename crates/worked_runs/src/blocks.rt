@@ -2,6 +2,7 @@
 use block_writer::write::WriteAnswer;
 use block_writer::write::write;
 use mapblock::head::Head;
+use mapblock::head::LIST_COUNTED;
 use mapblock::nodes::NODES;
 use wire::ranges::Range;
 use wire::ranges::slice_of;
@@ -15,14 +16,20 @@ pub(crate) const ROOM: usize = 16_500;
 pub(crate) const AIR: [u8; 7] = *b"\x00\x00\x00\x03air";
 
 // Makes a head with the one lighting that every version takes.
-pub(crate) fn head(version: u8, timer: u8, timestamp: u32) -> Head {
+pub(crate) fn head_with(version: u8, timer: u8, form: u8, timestamp: u32) -> Head {
     Head {
         version,
         flags: 0,
         lighting: 65535,
         timestamp,
         timer,
+        form,
     }
+}
+
+// Makes such a head with the form that every version has.
+pub(crate) fn head(version: u8, timer: u8, timestamp: u32) -> Head {
+    head_with(version, timer, LIST_COUNTED, timestamp)
 }
 
 // Nodes that are all alike but for the first; what is not said of them is 0.

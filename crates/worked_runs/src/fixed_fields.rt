@@ -55,8 +55,10 @@ pub(crate) fn run() {
     changed(b"params width", 22, 3, 1, 32, 3);
     changed(b"metadata list version 0x0101", 22, 12_292, 1, 33, 12_292);
     changed(b"metadata list version 0x0002", 22, 12_293, 2, 33, 12_292);
+    changed(b"metadata list version 0", 22, 12_293, 0, 33, 12_292);
     changed(b"metadata list version 2", 27, 16_390, 2, 33, 16_390);
     changed(b"metadata list version 1", 28, 16_390, 1, 33, 16_390);
+    changed(b"metadata list version 3", 29, 16_404, 3, 33, 16_404);
     private_byte();
     changed(b"timer byte 1", 23, 12_295, 1, 35, 12_295);
     changed(b"timer byte 2", 24, 16_391, 2, 35, 16_391);

@@ -1,9 +1,9 @@
-// The shortest all-air blocks, and their full tally.
+// The shortest all-air blocks, with each form of the metadata list, and their full tally.
 use crate::blocks::AIR;
 use crate::blocks::ALL_ZERO;
 use crate::blocks::ROOM;
 use crate::blocks::front;
-use crate::blocks::head;
+use crate::blocks::head_with;
 use crate::blocks::put_block;
 use crate::printing::are_same;
 use crate::printing::say;
@@ -13,7 +13,10 @@ use crate::printing::say_number;
 use crate::printing::say_verdict;
 use crate::reading::is_answer;
 use crate::reading::read;
+use crate::reading::writes_back;
 use anowhetele::metering::anow_tally_block;
+use mapblock::head::LIST_COUNTED;
+use mapblock::head::LIST_ZERO;
 use position::lot::Lot;
 use position::span::Span;
 ghost use Prim.Native.Nat.{_<_};
@@ -35,35 +38,48 @@ fn full_tally(block: &[u8]) {
     say_verdict(are_same(tally, expected) & is_answer(refused, 11, 0));
 }
 
-// Prints a version, with the timer byte that version 24 alone has.
-fn say_version(version: u8, timer: u8) {
+// Prints a version, with the timer byte that version 24 alone has and the form of the metadata list.
+fn say_version(version: u8, timer: u8, form: u8) {
     say(b"version ");
     say_number(version as u64);
     if version == 24 {
         say(b", timer byte ");
         say_number(timer as u64);
     }
+    if form == LIST_ZERO {
+        say(b", a single 0 for the metadata list");
+    }
     say(b": ");
 }
 
-// Shows the shortest block of a version and a timer byte: its length, and the start of its last field, which one byte less cuts short.
-fn shortest(version: u8, timer: u8, length: usize, last: usize)
+// Shows the shortest block of a version, a timer byte and a form: its length, and the start of its last field, which one byte less cuts short.
+fn shortest(version: u8, timer: u8, form: u8, length: usize, last: usize)
     requires { ⌜ (0 < length) × (length < 65536) ⌝ }
 {
     let mut block = [0u8; ROOM];
-    let n = put_block(head(version, timer, 0), ALL_ZERO, &AIR, &mut block);
+    let n = put_block(
+        head_with(version, timer, form, 0),
+        ALL_ZERO,
+        &AIR,
+        &mut block,
+    );
     let written = front(&block, n);
     let whole = read(front(&block, length));
     let less = read(front(&block, length - 1));
     let more = read(front(&block, length + 1));
-    say_version(version, timer);
+    let is_same = writes_back(written);
+    say_version(version, timer, form);
     say_number(n as u64);
     say_answer(b" bytes; read: ", whole);
+    if is_same {
+        say(b"; written back: the same");
+    }
     say_answer(b"; one byte less: ", less);
     say_answer(b"; one byte more: ", more);
     say(b"; ");
     say_verdict(
         (n == length)
+            & is_same
             & (is_answer(whole, 0, 0) & (is_answer(less, 1, last) & is_answer(more, 7, length))),
     );
     full_tally(written);
@@ -77,17 +93,36 @@ fn no_bytes() {
     say_verdict(is_answer(answer, 1, 0));
 }
 
-// Shows the shortest block of each version. Up to version 24 the last field is the name, three bytes; from 25 it is the number of timers, two.
+// Shows the shortest block of each version whose metadata list has a count.
+fn counted() {
+    shortest(22, 0, LIST_COUNTED, 12_313, 12_310);
+    shortest(23, 0, LIST_COUNTED, 12_313, 12_310);
+    shortest(24, 0, LIST_COUNTED, 16_409, 16_406);
+    shortest(24, 1, LIST_COUNTED, 16_411, 16_408);
+    shortest(25, 0, LIST_COUNTED, 16_411, 16_409);
+    shortest(26, 0, LIST_COUNTED, 16_411, 16_409);
+    shortest(27, 0, LIST_COUNTED, 16_413, 16_411);
+    shortest(28, 0, LIST_COUNTED, 16_413, 16_411);
+    shortest(29, 0, LIST_COUNTED, 16_413, 16_411);
+}
+
+// Shows those in which a single 0 stands for the list: two bytes less.
+fn single_zero() {
+    shortest(23, 0, LIST_ZERO, 12_311, 12_308);
+    shortest(24, 0, LIST_ZERO, 16_407, 16_404);
+    shortest(24, 1, LIST_ZERO, 16_409, 16_406);
+    shortest(25, 0, LIST_ZERO, 16_409, 16_407);
+    shortest(26, 0, LIST_ZERO, 16_409, 16_407);
+    shortest(27, 0, LIST_ZERO, 16_411, 16_409);
+    shortest(28, 0, LIST_ZERO, 16_411, 16_409);
+    shortest(29, 0, LIST_ZERO, 16_411, 16_409);
+}
+
+// Shows the shortest blocks, each read, written back and tallied. Up to version 24 the last field is the name, three bytes; from 25 it is the number
+// of timers, two.
 pub(crate) fn run() {
     say(b"Shortest all-air blocks\n");
-    shortest(22, 0, 12_313, 12_310);
-    shortest(23, 0, 12_313, 12_310);
-    shortest(24, 0, 16_409, 16_406);
-    shortest(24, 1, 16_411, 16_408);
-    shortest(25, 0, 16_411, 16_409);
-    shortest(26, 0, 16_411, 16_409);
-    shortest(27, 0, 16_413, 16_411);
-    shortest(28, 0, 16_413, 16_411);
-    shortest(29, 0, 16_413, 16_411);
+    counted();
+    single_zero();
     no_bytes();
 }

@@ -3,7 +3,7 @@ use Prim.Native.Nat.{_+_, _≤_}
 use Rattle.block_reader.proofs.Endings.{middle-no-metadata, middle-no-early, middle-no-objects, middle-done}
 use Rattle.mapblock.proofs.Readings.{within-ended}
 use Rattle.mapblock.proofs.Leaves.{told-in}
-use Rattle.mapblock.specs.Told.{ended, timerByte, toldReach, toldEarly}
+use Rattle.mapblock.specs.Told.{listFormIn, timerByte, toldReach, toldTagged}
 use Rattle.mapblock.specs.Layout.{metadata, earlyTimers, objects}
 use Rattle.wire.specs.Read.{done, mapRead}
 use Rattle.wire.proofs.Lists.{rest-is}
@@ -30,20 +30,20 @@ after-known-told4₁ c = c .before .before .before .before .before
 abbrev after-known-told4₂ : tie.After-known-told6 → tie.After-known-told4
 after-known-told4₂ c = c .before .before .before .before .before
 
-metadata-is : (c : tie.After-metadata) → let a = c .before .before .before .before .args in done tt (c .metadata .given .0 .0) ≡ ended (metadata (a .version) .read (now (a .s)))
-metadata-is c = sym (ap toldReach (c .metadata .given .1)) ∙ c .before .before .metadata-list .ensures
+metadata-is : (c : tie.After-form) → let a = c .before .before .before .before .args in done (c .form .given .0 .0) (c .form .given .0 .1 .0) ≡ mapRead listFormIn (metadata (a .version) .read (now (a .s)))
+metadata-is c = sym (ap toldTagged (c .form .given .1)) ∙ c .before .before .metadata-list .ensures
 
-metadata-in : (c : tie.After-metadata) → c .metadata .given .0 .0 ≤ length (now (c .before .before .before .before .args .s))
-metadata-in c = within-ended (metadata (c .before .before .before .before .args .version)) (now (c .before .before .before .before .args .s)) (metadata-is c)
+metadata-in : (c : tie.After-form) → c .form .given .0 .1 .0 ≤ length (now (c .before .before .before .before .args .s))
+metadata-in c = told-in listFormIn (metadata (c .before .before .before .before .args .version)) (now (c .before .before .before .before .args .s)) (metadata-is c)
 
 timers-are : (c : tie.After-timer) → let a = start (c .before .before .before .before) .args in
-    done (c .timer .given .0 .0) (c .timer .given .0 .1 .0) ≡ mapRead timerByte (earlyTimers (a .version) .read (drop (c .before .before .before .before .before .metadata .given .0 .0) (now (a .s))))
-timers-are c = rw (rest-is (c .before .before .before .before .before .metadata .given .0 .0) (now (start (c .before .before .before .before) .args .s))) at (sym (ap toldEarly (c .timer .given .1)) ∙ c .before .before .early-timers .ensures)
+    done (c .timer .given .0 .0) (c .timer .given .0 .1 .0) ≡ mapRead timerByte (earlyTimers (a .version) .read (drop (c .before .before .before .before .before .form .given .0 .1 .0) (now (a .s))))
+timers-are c = rw (rest-is (c .before .before .before .before .before .form .given .0 .1 .0) (now (start (c .before .before .before .before) .args .s))) at (sym (ap toldTagged (c .timer .given .1)) ∙ c .before .before .early-timers .ensures)
 
-timers-in : (c : tie.After-timer) → c .before .before .before .before .before .metadata .given .0 .0 + c .timer .given .0 .1 .0 ≤ length (now (start (c .before .before .before .before) .args .s))
+timers-in : (c : tie.After-timer) → c .before .before .before .before .before .form .given .0 .1 .0 + c .timer .given .0 .1 .0 ≤ length (now (start (c .before .before .before .before) .args .s))
 timers-in c =
     let s = now (start (c .before .before .before .before) .args .s) in
-    omega (arith, metadata-in (c .before .before .before .before .before), length-drop (c .before .before .before .before .before .metadata .given .0 .0) s, told-in timerByte (earlyTimers (start (c .before .before .before .before) .args .version)) (drop (c .before .before .before .before .before .metadata .given .0 .0) s) (timers-are c))
+    omega (arith, metadata-in (c .before .before .before .before .before), length-drop (c .before .before .before .before .before .form .given .0 .1 .0) s, told-in timerByte (earlyTimers (start (c .before .before .before .before) .args .version)) (drop (c .before .before .before .before .before .form .given .0 .1 .0) s) (timers-are c))
 
 metadata-list-requires : tie.Need-metadata-list-requires
 metadata-list-requires c κs = search needs
@@ -51,8 +51,8 @@ metadata-list-requires c κs = search needs
 enum-known-fault : tie.Need-enum-known-fault
 enum-known-fault c = search needs
 
-enum-known-metadata : tie.Need-enum-known-metadata
-enum-known-metadata c = search needs
+enum-known-form : tie.Need-enum-known-form
+enum-known-form c = search needs
 
 sub-early-timers : tie.Need-sub-early-timers
 sub-early-timers c = metadata-in (c .before)
@@ -69,11 +69,11 @@ early-timers-requires c κs = search needs
 enum-known-fault-2 : tie.Need-enum-known-fault-2
 enum-known-fault-2 c = search needs
 
-add-t21 : tie.Need-add-t21
-add-t21 c =
+add-t22 : tie.Need-add-t22
+add-t22 c =
     let s = now (start (after-known-told2₁ c) .args .s) in
-    let a = c .before .before .before .before .before .before .metadata .given .0 .0 in
-    let e = rw (rest-is a s) at (sym (ap toldEarly (c .before .fault2 .given .1)) ∙ c .before .before .before .early-timers .ensures) in
+    let a = c .before .before .before .before .before .before .form .given .0 .1 .0 in
+    let e = rw (rest-is a s) at (sym (ap toldTagged (c .before .fault2 .given .1)) ∙ c .before .before .before .early-timers .ensures) in
     omega (arith, metadata-in (c .before .before .before .before .before .before), length-drop a s, told-in timerByte (earlyTimers (start (after-known-told2₁ c) .args .version)) (drop a s) e)
 
 enum-known-timer : tie.Need-enum-known-timer
@@ -97,13 +97,13 @@ object-list-requires c κs = search needs
 enum-known-fault-3 : tie.Need-enum-known-fault-3
 enum-known-fault-3 c = search needs
 
-add-t29 : tie.Need-add-t29
-add-t29 c = omega (arith, timers-in (c .before .before .before .before .before .before))
-
 add-t30 : tie.Need-add-t30
-add-t30 c =
+add-t30 c = omega (arith, timers-in (c .before .before .before .before .before .before))
+
+add-t31 : tie.Need-add-t31
+add-t31 c =
     let s = now (start (after-known-told2₂ (after-known-told4₁ c)) .args .s) in
-    let a = after-known-told2₂ (after-known-told4₁ c) .before .metadata .given .0 .0 + c .before .before .before .before .before .before .timer .given .0 .1 .0 in
+    let a = after-known-told2₂ (after-known-told4₁ c) .before .form .given .0 .1 .0 + c .before .before .before .before .before .before .timer .given .0 .1 .0 in
     let e = rw (rest-is a s) at (sym (ap toldReach (c .before .fault3 .given .1)) ∙ c .before .before .before .object-list .ensures) in
     omega (arith, timers-in (c .before .before .before .before .before .before), length-drop a s, within-ended objects (drop a s) e)
 
@@ -111,24 +111,24 @@ enum-known-objects : tie.Need-enum-known-objects
 enum-known-objects c = search needs
 
 returns : tie.Need-returns
-returns c = middle-no-metadata _ _ (sym (ap toldReach (c .before .fault .given .1)) ∙ c .before .before .before .metadata-list .ensures)
+returns c = middle-no-metadata _ _ (sym (ap toldTagged (c .before .fault .given .1)) ∙ c .before .before .before .metadata-list .ensures)
 
 returns-2 : tie.Need-returns-2
 returns-2 c =
     let s = now (start (after-known-told2₁ c) .args .s) in
-    let e = rw (rest-is (c .before .before .before .before .before .before .metadata .given .0 .0) s) at (sym (ap toldEarly (c .before .fault2 .given .1)) ∙ c .before .before .before .early-timers .ensures) in
+    let e = rw (rest-is (c .before .before .before .before .before .before .form .given .0 .1 .0) s) at (sym (ap toldTagged (c .before .fault2 .given .1)) ∙ c .before .before .before .early-timers .ensures) in
     middle-no-early _ s (metadata-is (c .before .before .before .before .before .before)) e
 
 returns-3 : tie.Need-returns-3
 returns-3 c =
     let s = now (start (after-known-told2₂ (after-known-told4₁ c)) .args .s) in
-    let e = rw (rest-is (after-known-told2₂ (after-known-told4₁ c) .before .metadata .given .0 .0 + c .before .before .before .before .before .before .timer .given .0 .1 .0) s) at (sym (ap toldReach (c .before .fault3 .given .1)) ∙ c .before .before .before .object-list .ensures) in
+    let e = rw (rest-is (after-known-told2₂ (after-known-told4₁ c) .before .form .given .0 .1 .0 + c .before .before .before .before .before .before .timer .given .0 .1 .0) s) at (sym (ap toldReach (c .before .fault3 .given .1)) ∙ c .before .before .before .object-list .ensures) in
     middle-no-objects _ s (metadata-is (after-known-told2₂ (after-known-told4₁ c) .before)) (timers-are (c .before .before .before .before .before .before)) e
 
 returns-4 : tie.Need-returns-4
 returns-4 c =
     let s = now (start (after-known-told2₂ (after-known-told4₂ c)) .args .s) in
-    let e = rw (rest-is (after-known-told2₂ (after-known-told4₂ c) .before .metadata .given .0 .0 + c .before .before .before .before .before .before .timer .given .0 .1 .0) s) at (sym (ap toldReach (c .before .objects .given .1)) ∙ c .before .before .before .object-list .ensures) in
+    let e = rw (rest-is (after-known-told2₂ (after-known-told4₂ c) .before .form .given .0 .1 .0 + c .before .before .before .before .before .before .timer .given .0 .1 .0) s) at (sym (ap toldReach (c .before .objects .given .1)) ∙ c .before .before .before .object-list .ensures) in
     middle-done _ s (metadata-is (after-known-told2₂ (after-known-told4₂ c) .before)) (timers-are (c .before .before .before .before .before .before)) e (λ i. after-known-told2₂ (after-known-told4₂ c) .before .before .before .before .shared-slice-known .given i .fits)
 
 pub middle-spec : {M : Type 1} → statement M
@@ -137,13 +137,13 @@ middle-spec =
     (tie.spec
     metadata-list-requires
     enum-known-fault
-    enum-known-metadata
+    enum-known-form
     sub-early-timers
     part-early-timers-start
     part-early-timers-end
     early-timers-requires
     enum-known-fault-2
-    add-t21
+    add-t22
     enum-known-timer
     add-object-list
     sub-object-list
@@ -151,8 +151,8 @@ middle-spec =
     part-object-list-end
     object-list-requires
     enum-known-fault-3
-    add-t29
     add-t30
+    add-t31
     enum-known-objects
     returns
     returns-2

@@ -26,14 +26,25 @@ returns-3 c =
     (and-goes (c .before .before .before .head-fits .ensures) (c .before .before .if2 .left)
     (and-stops _ (c .before .param0-fits .ensures) (c .if3 .taken)))
 
-timers-fit-requires : tie.Need-timers-fit-requires
-timers-fit-requires c κs = search needs
+metadata-fits-requires : tie.Need-metadata-fits-requires
+metadata-fits-requires c κs = search needs
 
 returns-4 : tie.Need-returns-4
 returns-4 c =
-    and-goes (c .before .before .before .before .before .before .are-whole .ensures) (c .before .before .before .before .before .if1 .left)
-    (and-goes (c .before .before .before .before .head-fits .ensures) (c .before .before .before .if2 .left)
-    (and-goes (c .before .before .param0-fits .ensures) (c .before .if3 .left) (c .timers-fit .ensures)))
+    and-goes (c .before .before .before .before .before .before .before .are-whole .ensures) (c .before .before .before .before .before .before .if1 .left)
+    (and-goes (c .before .before .before .before .before .head-fits .ensures) (c .before .before .before .before .if2 .left)
+    (and-goes (c .before .before .before .param0-fits .ensures) (c .before .before .if3 .left)
+    (and-stops _ (c .before .metadata-fits .ensures) (c .if4 .taken))))
+
+timers-fit-requires : tie.Need-timers-fit-requires
+timers-fit-requires c κs = search needs
+
+returns-5 : tie.Need-returns-5
+returns-5 c =
+    and-goes (c .before .before .before .before .before .before .before .before .are-whole .ensures) (c .before .before .before .before .before .before .before .if1 .left)
+    (and-goes (c .before .before .before .before .before .before .head-fits .ensures) (c .before .before .before .before .before .if2 .left)
+    (and-goes (c .before .before .before .before .param0-fits .ensures) (c .before .before .before .if3 .left)
+    (and-goes (c .before .before .metadata-fits .ensures) (c .before .if4 .left) (c .timers-fit .ensures))))
 
 pub fit-spec : {M : Type 1} → statement M
 fit-spec =
@@ -45,5 +56,7 @@ fit-spec =
     returns-2
     param0-fits-requires
     returns-3
+    metadata-fits-requires
+    returns-4
     timers-fit-requires
-    returns-4)
+    returns-5)

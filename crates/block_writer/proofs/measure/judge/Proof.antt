@@ -12,7 +12,7 @@ use Rattle.block_reader.proofs.BlockAnswers.{clear-all}
 use Rattle.mapblock.proofs.Firsts.{first-below}
 use Rattle.block_reader.proofs.Endings.{width-place}
 use Rattle.block_writer.specs.BlockParts.{BlockParts, blockParts, made}
-use Rattle.block_writer.proofs.Fitting.{fits-plain, fits-headFits, fits-narrow, fits-timed}
+use Rattle.block_writer.proofs.Fitting.{fits-plain, fits-headFits, fits-narrow, fits-formed, fits-timed}
 use Rattle.block_writer.proofs.MadeBlock.{made-by}
 use Rattle.block_writer.proofs.Judged.{nodes-there, judged-front, judged-rest, judged-done, judged-firstUnmapped}
 
@@ -95,7 +95,7 @@ returns-2 c =
     let held = start₂ (c .before) .pre .typed in
     λ l m o k w.
     let mk = made-by p fit l m o k w in
-    judged-rest p l m o k held version mk (clear-all 65536) (after-judge-front₁ (c .before) .judge-front .ensures .0 l (made p l m o k .nodes) (w .names) version (fits-headFits p fit) (nodes-there p l m o k held version mk)) (ap toldReach (c .before .before .before .before .before .before .front .given .1)) (c .before .before .before .judge-rest .ensures .0 l m o k w (fits-headFits p fit) (fits-timed p fit)) (ap toldReach (c .before .enum-told2 .given .1)) (c .shift .ensures)
+    judged-rest p l m o k held version mk (clear-all 65536) (after-judge-front₁ (c .before) .judge-front .ensures .0 l (made p l m o k .nodes) (w .names) version (fits-headFits p fit) (nodes-there p l m o k held version mk)) (ap toldReach (c .before .before .before .before .before .before .front .given .1)) (c .before .before .before .judge-rest .ensures .0 l m o k w (fits-headFits p fit) (fits-formed p fit) (fits-timed p fit)) (ap toldReach (c .before .enum-told2 .given .1)) (c .shift .ensures)
 
 first-unmapped-requires : tie.Need-first-unmapped-requires
 first-unmapped-requires c κs =
@@ -134,7 +134,7 @@ returns-3 c =
     let held = start₃ (c .before .before .before) .pre .typed in
     λ l m o k w.
     let mk = made-by p fit l m o k w in
-    judged-done p l m o k held version mk (clear-all 65536) (after-judge-front₂ (c .before .before .before) .judge-front .ensures .0 l (made p l m o k .nodes) (w .names) version (fits-headFits p fit) (nodes-there p l m o k held version mk)) (ap toldReach (after-front (c .before .before .before) .front .given .1)) (after-judge-rest (c .before .before .before) .judge-rest .ensures .0 l m o k w (fits-headFits p fit) (fits-timed p fit)) (ap toldReach (c .before .before .before .before .before .rest .given .1)) (sym (ap toldUnmapped (c .enum-told3 .given .1)) ∙ c .before .before .first-unmapped .ensures)
+    judged-done p l m o k held version mk (clear-all 65536) (after-judge-front₂ (c .before .before .before) .judge-front .ensures .0 l (made p l m o k .nodes) (w .names) version (fits-headFits p fit) (nodes-there p l m o k held version mk)) (ap toldReach (after-front (c .before .before .before) .front .given .1)) (after-judge-rest (c .before .before .before) .judge-rest .ensures .0 l m o k w (fits-headFits p fit) (fits-formed p fit) (fits-timed p fit)) (ap toldReach (c .before .before .before .before .before .rest .given .1)) (sym (ap toldUnmapped (c .enum-told3 .given .1)) ∙ c .before .before .first-unmapped .ensures)
 
 returns-4 : tie.Need-returns-4
 returns-4 c =
@@ -144,7 +144,7 @@ returns-4 c =
     let held = start₃ (c .before .before .before .before .before .before) .pre .typed in
     λ l m o k w.
     let mk = made-by p fit l m o k w in
-    rw (c .width .ensures, c .before .lists-length .ensures) (judged-firstUnmapped p l m o k held version mk (clear-all 65536) (after-judge-front₂ (c .before .before .before .before .before .before) .judge-front .ensures .0 l (made p l m o k .nodes) (w .names) version (fits-headFits p fit) (nodes-there p l m o k held version mk)) (ap toldReach (after-front (c .before .before .before .before .before .before) .front .given .1)) (after-judge-rest (c .before .before .before .before .before .before) .judge-rest .ensures .0 l m o k w (fits-headFits p fit) (fits-timed p fit)) (ap toldReach (after-rest (c .before .before .before .before .before .before) .rest .given .1)) (sym (ap toldUnmapped (c .before .before .before .i .given .1)) ∙ c .before .before .before .before .before .first-unmapped .ensures))
+    rw (c .width .ensures, c .before .lists-length .ensures) (judged-firstUnmapped p l m o k held version mk (clear-all 65536) (after-judge-front₂ (c .before .before .before .before .before .before) .judge-front .ensures .0 l (made p l m o k .nodes) (w .names) version (fits-headFits p fit) (nodes-there p l m o k held version mk)) (ap toldReach (after-front (c .before .before .before .before .before .before) .front .given .1)) (after-judge-rest (c .before .before .before .before .before .before) .judge-rest .ensures .0 l m o k w (fits-headFits p fit) (fits-formed p fit) (fits-timed p fit)) (ap toldReach (after-rest (c .before .before .before .before .before .before) .rest .given .1)) (sym (ap toldUnmapped (c .before .before .before .i .given .1)) ∙ c .before .before .before .before .before .first-unmapped .ensures))
 
 pub judge-spec : {M : Type 1} → statement M
 judge-spec =

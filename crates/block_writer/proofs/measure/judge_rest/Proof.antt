@@ -9,7 +9,8 @@ use denote.Ref.{now}
 use mathlib.Core.Path.{ap, sym, _∙_}
 use Prim.Native.Nat.{_+_, _<_}
 use lib.ListN.{length}
-use Rattle.block_writer.proofs.BlockJudging.{metadata-settled, objects-verdictOn, rest-no-metadata, rest-no-early, rest-on}
+use Rattle.block_writer.proofs.MetadataJudging.{metadata-settled}
+use Rattle.block_writer.proofs.BlockJudging.{objects-verdictOn, rest-no-metadata, rest-no-early, rest-on}
 use Rattle.block_writer.proofs.TimersJudging.{early-settled}
 use Rattle.block_writer.proofs.PiecesJudging.{shift-reach}
 
@@ -51,7 +52,7 @@ returns : tie.Need-returns
 returns c =
     let bm : Bytes (now (start₁ c .args .metadata)) = λ i. c .before .before .before .before .before .shared-slice-known2 .given i .fits in
     let h = start₁ c .args .head in (
-      (λ l m o k w f t. rest-no-metadata h l m o k (metadata-settled (h .version) bm (w .metadata)) (c .before .before .judge-metadata .ensures .0 m (w .metadata)) (ap toldReach (c .enum-told .given .1))),
+      (λ l m o k w f g t. rest-no-metadata h l m o k (metadata-settled h f bm (w .metadata) g) (c .before .before .judge-metadata .ensures .0 m (w .metadata) f) (ap toldReach (c .enum-told .given .1))),
       omega (arith, c .before .before .judge-metadata .ensures .1),
     )
 
@@ -72,8 +73,8 @@ returns-2 c =
     let bm : Bytes (now (start₂ (c .before .before .before) .args .metadata)) = λ i. after-shared-slice-known2 (c .before .before .before) .shared-slice-known2 .given i .fits in
     let bt : Bytes (now (start₂ (c .before .before .before) .args .timers)) = λ i. after-shared-slice-known4 (c .before .before .before) .shared-slice-known4 .given i .fits in
     let h = start₂ (c .before .before .before) .args .head in (
-      (λ l m o k w f t.
-          rest-no-early h l m o k (metadata-settled (h .version) bm (w .metadata)) (sym (ap toldReach (c .before .before .before .before .before .first .given .1)) ∙ after-judge-metadata (c .before .before .before) .judge-metadata .ensures .0 m (w .metadata))
+      (λ l m o k w f g t.
+          rest-no-early h l m o k (metadata-settled h f bm (w .metadata) g) (sym (ap toldReach (c .before .before .before .before .before .first .given .1)) ∙ after-judge-metadata (c .before .before .before) .judge-metadata .ensures .0 m (w .metadata) f)
           (early-settled h bt (w .timers) f (timer-byte (after-judge-metadata (c .before .before .before))) t) (c .before .before .before .judge-early-timers .ensures .0 k (w .timers) f t) (ap toldReach (c .before .enum-told2 .given .1)) (c .shift .ensures)),
       omega (arith, ap reach (c .shift .ensures), shift-reach (c .before .before .before .before .before .first .given .0 .0) (toldReach (c .before .before .before .judge-early-timers .result)), after-judge-metadata (c .before .before .before) .judge-metadata .ensures .1, ap (λ r. reach (toldReach r)) (c .before .before .before .before .before .first .given .1), c .before .before .before .judge-early-timers .ensures .1),
     )
@@ -99,8 +100,8 @@ returns-3 c =
     let bt : Bytes (now (start₂ (c .before .before .before .before .before .before) .args .timers)) = λ i. after-shared-slice-known4 (c .before .before .before .before .before .before) .shared-slice-known4 .given i .fits in
     let h = start₂ (c .before .before .before .before .before .before) .args .head in
     let bo : Bytes (now (start₂ (c .before .before .before .before .before .before) .args .objects)) = λ i. after-shared-slice-known3 (c .before .before .before .before .before .before) .shared-slice-known3 .given i .fits in (
-      (λ l m o k w f t.
-          rest-on h l m o k (metadata-settled (h .version) bm (w .metadata)) (sym (ap toldReach (after-first (c .before .before .before .before .before .before) .first .given .1)) ∙ after-judge-metadata (c .before .before .before .before .before .before) .judge-metadata .ensures .0 m (w .metadata))
+      (λ l m o k w f g t.
+          rest-on h l m o k (metadata-settled h f bm (w .metadata) g) (sym (ap toldReach (after-first (c .before .before .before .before .before .before) .first .given .1)) ∙ after-judge-metadata (c .before .before .before .before .before .before) .judge-metadata .ensures .0 m (w .metadata) f)
           (early-settled h bt (w .timers) f (timer-byte (after-judge-metadata (c .before .before .before .before .before .before))) t) (sym (ap toldReach (c .before .before .before .before .second .given .1)) ∙ c .before .before .before .before .before .before .judge-early-timers .ensures .0 k (w .timers) f t)
           (objects-verdictOn bo (w .objects)) (omega arith) (c .before .judge-ending .ensures .0 l k (w .names) (w .timers) f) (c .shift2 .ensures)),
       omega (arith, ap reach (c .shift2 .ensures), shift-reach (after-first (c .before .before .before .before .before .before) .first .given .0 .0 + c .before .before .before .before .second .given .0 .0 + 3 + length (now (start₂ (c .before .before .before .before .before .before) .args .objects))) (toldReach (c .before .judge-ending .result)), after-judge-metadata (c .before .before .before .before .before .before) .judge-metadata .ensures .1, ap (λ r. reach (toldReach r)) (after-first (c .before .before .before .before .before .before) .first .given .1), c .before .before .before .before .before .before .judge-early-timers .ensures .1, ap (λ r. reach (toldReach r)) (c .before .before .before .before .second .given .1), c .before .judge-ending .ensures .1),

@@ -8,7 +8,9 @@ use native.Mathlib.Omega.{arith}
 use denote.Ref.{now}
 use mathlib.Core.Path.{ap, _∙_}
 use Rattle.mapblock.specs.Layout.{timerRow}
-use Rattle.block_writer.proofs.RowsJudging.{rows-reach, judge-timers}
+use Rattle.block_writer.specs.Frames.{timerFrame}
+use Rattle.block_writer.proofs.Framed.{timer-looser}
+use Rattle.block_writer.proofs.RowsJudging.{rows-reach, listed-verdictOn}
 use Rattle.block_writer.proofs.PiecesJudging.{shift-reach}
 
 rows-requires : tie.Need-rows-requires
@@ -20,7 +22,7 @@ shift-requires c κs = omega (arith, rows-reach timerRow (c .before .before .arg
 returns : tie.Need-returns
 returns c =
     let b : Bytes (now (c .before .before .before .args .timers)) = λ i. c .before .before .shared-slice-known .given i .fits in (
-      (λ l w. c .shift .ensures ∙ judge-timers b (c .before .rows .ensures) l w),
+      (λ l w. c .shift .ensures ∙ listed-verdictOn timerFrame b w timerRow timer-looser (c .before .rows .ensures)),
       omega (arith, ap reach (c .shift .ensures), shift-reach 2 (toldReach (c .before .rows .result)), rows-reach timerRow (c .before .before .before .args .count) (now (c .before .before .before .args .timers)) (c .before .rows .ensures)),
     )
 

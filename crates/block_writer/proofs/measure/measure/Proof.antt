@@ -40,6 +40,7 @@ held-parts c = record {
   lighting = search needs;
   timestamp = search needs;
   timer = search needs;
+  form = search needs;
   param0 = λ i. c .before .before .before .before .before .before .shared-slice-known .given i .fits;
   param1 = λ i. c .before .before .before .before .before .shared-slice-known2 .given i .fits;
   param2 = λ i. c .before .before .before .before .shared-slice-known3 .given i .fits;

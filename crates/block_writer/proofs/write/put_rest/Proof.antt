@@ -18,7 +18,7 @@ after-put-byte-and-list c = c .before .before .before .before .before .before .b
 
 -- the pieces, and what stands behind each
 abbrev first : tie.Start → List ℕ
-first s = let a = s .args in metadataBytes (a .head .version) (a .counts .metadata) (now (a .metadata))
+first s = let a = s .args in metadataBytes (a .head .version) (a .head .form) (a .counts .metadata) (now (a .metadata))
 
 abbrev second : tie.Start → List ℕ
 second s = let a = s .args in earlyBytes (a .head .version) (a .head .timer) (a .counts .timers) (now (a .timers))

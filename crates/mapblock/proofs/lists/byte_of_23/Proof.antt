@@ -1,7 +1,7 @@
 use borrow.Author.Needs.{needs}
 use Rattle.wire.specs.Told.{toldU8}
 use Rattle.mapblock.proofs.Leaves.{by-number}
-use Rattle.mapblock.proofs.RowLists.{byte-ends, byte-other, byte-zero}
+use Rattle.mapblock.proofs.TaggedLists.{byte-refused, byte-other, byte-zero}
 use Rattle.mapblock.proofs.lists.byte_of_23.Statement.{statement}
 use Rattle.mapblock.proofs.lists.byte_of_23.Tie as tie
 
@@ -15,7 +15,7 @@ enum-known-byte : tie.Need-enum-known-byte
 enum-known-byte c = search needs
 
 returns : tie.Need-returns
-returns c = byte-ends _ (by-number 1 _ toldU8 (c .before .before .u8-at .ensures) (c .enum-told .given .1))
+returns c = byte-refused _ (by-number 1 _ toldU8 (c .before .before .u8-at .ensures) (c .enum-told .given .1))
 
 returns-2 : tie.Need-returns-2
 returns-2 c = byte-other _ (by-number 1 _ toldU8 (c .before .before .before .before .u8-at .ensures) (c .before .before .byte .given .1)) (c .if1 .taken)

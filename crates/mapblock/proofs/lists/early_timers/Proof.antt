@@ -1,5 +1,5 @@
 use borrow.Author.Needs.{needs}
-use Rattle.mapblock.proofs.RowLists.{early-never}
+use Rattle.mapblock.proofs.TaggedLists.{early-never}
 use Rattle.mapblock.proofs.lists.early_timers.Statement.{statement}
 use Rattle.mapblock.proofs.lists.early_timers.Tie as tie
 
