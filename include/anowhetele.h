@@ -35,7 +35,7 @@ enum {
     ANOW_NO_SUCH = 16, /* there is no such row or node */
     ANOW_CONTENT_WIDTH_DIFFERS = 31, /* the content width is not 1 up to version 23, or not 2 from version 24 */
     ANOW_PARAMS_WIDTH_DIFFERS = 32, /* the params width is not 2 */
-    ANOW_METADATA_VERSION_DIFFERS = 33, /* the metadata list version is not 1 up to version 27, or not 2 from version 28 */
+    ANOW_METADATA_VERSION_DIFFERS = 33, /* the metadata list version is not 1 in version 22, not 0 or 1 in versions 23 to 27, or not 0 or 2 from version 28 */
     ANOW_PRIVATE_BYTE_DIFFERS = 34, /* the private byte of a metadata variable is not 0 or 1 */
     ANOW_TIMER_BYTE_DIFFERS = 35, /* the timer byte is not 0 in version 23, or not 0 or 1 in version 24 */
     ANOW_OBJECT_VERSION_DIFFERS = 36, /* the static object version is not 0 */
@@ -91,7 +91,7 @@ static inline const char *anow_words(uint32_t number)
     case ANOW_NO_SUCH: return "there is no such row or node";
     case ANOW_CONTENT_WIDTH_DIFFERS: return "the content width is not 1 up to version 23, or not 2 from version 24";
     case ANOW_PARAMS_WIDTH_DIFFERS: return "the params width is not 2";
-    case ANOW_METADATA_VERSION_DIFFERS: return "the metadata list version is not 1 up to version 27, or not 2 from version 28";
+    case ANOW_METADATA_VERSION_DIFFERS: return "the metadata list version is not 1 in version 22, not 0 or 1 in versions 23 to 27, or not 0 or 2 from version 28";
     case ANOW_PRIVATE_BYTE_DIFFERS: return "the private byte of a metadata variable is not 0 or 1";
     case ANOW_TIMER_BYTE_DIFFERS: return "the timer byte is not 0 in version 23, or not 0 or 1 in version 24";
     case ANOW_OBJECT_VERSION_DIFFERS: return "the static object version is not 0";
@@ -117,8 +117,12 @@ typedef struct { int32_t x0, y0, z0, x1, y1, z1; } anow_lot;
 /* Seconds: from is inside, until is not. In a good span from is not above until. */
 typedef struct { uint32_t from, until; } anow_span;
 
-/* Lighting is 65,535 under version 27, the timer byte 0 except in 24. */
-typedef struct { uint8_t version, flags; uint16_t lighting; uint32_t timestamp; uint8_t timer_byte; } anow_head;
+/* The forms of a metadata list. A counted one has its list version and its count before the rows. From version 23 on a list of no rows may also be list
+ * version 0, a single 0 with no count; its section is empty and starts behind the 0. */
+enum { ANOW_LIST_COUNTED = 0, ANOW_LIST_ZERO = 1 };
+/* Lighting is 65,535 under version 27, the timer byte 0 except in 24, the list form ANOW_LIST_COUNTED in version 22 and where there are metadata
+ * rows. */
+typedef struct { uint8_t version, flags; uint16_t lighting; uint32_t timestamp; uint8_t timer_byte, list_form; } anow_head;
 /* A block's head, and where the rows of its lists stand in the bytes that were given. */
 typedef struct { anow_answer answer; anow_head head; anow_part names, metadata, objects, timers; } anow_block;
 typedef struct { anow_answer answer; anow_part name; } anow_node;
@@ -170,8 +174,8 @@ anow_object_row anow_row_object(const uint8_t *part, size_t length);
 /* Refused: 16, then 1 or 4. */
 anow_timer_row anow_row_timer(const uint8_t *part, size_t length);
 /* Writes the block that a head, three lists of 4,096 each and the rows of four sections make to the front of out; counts are worked out from the rows.
- * A refusal leaves out as it was. Refused: 2; 12 where the parts do not fit; what the reader would say of the bytes, at its place in them (4, 5, 6,
- * 8, 34 or 35); 11. */
+ * A refusal leaves out as it was. Refused: 2; 12 where the parts do not fit, also for ANOW_LIST_ZERO in version 22 or with metadata rows, and for a
+ * list form that is neither; what the reader would say of the bytes, at its place in them (4, 5, 6, 8, 34 or 35); 11. */
 anow_answer anow_write(anow_head head, const uint16_t *param0, size_t length0, const uint8_t *param1, size_t length1, const uint8_t *param2, size_t length2,
                        const uint8_t *names, size_t names_length, const uint8_t *metadata, size_t metadata_length,
                        const uint8_t *objects, size_t objects_length, const uint8_t *timers, size_t timers_length, uint8_t *out, size_t room);

@@ -66,7 +66,9 @@ pub fn on_blocks() {
         stop("the mixed sheet was refused");
     }
     let refused = damaged_runs(&mut random, 2000);
-    println!("agreement: a sheet of 100 blocks of versions 22 to 29, and 4000 damaged blocks and sheets");
+    println!(
+        "agreement: a sheet of 100 blocks of versions 22 to 29 and both list forms, and 4000 damaged blocks and sheets"
+    );
     println!("({} refused, by all three alike): results are the same", refused);
 }
 

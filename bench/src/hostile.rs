@@ -11,16 +11,7 @@ pub fn hostile_name(number: usize) -> Vec<u8> {
 }
 
 fn hostile_block(random: &mut Random, names: Vec<(u16, Vec<u8>)>, ids: Vec<u16>) -> Vec<u8> {
-    write_block(
-        random,
-        &Plain {
-            version: 29,
-            timestamp: 1,
-            names,
-            ids,
-            rows: 0,
-        },
-    )
+    write_block(random, &Plain::without_rows(1, names, ids))
 }
 
 /// `count` names falling, given to the 4,096 ids in rounds.
@@ -43,13 +34,7 @@ fn new_names(place: usize) -> Plain {
     let name = |row: usize| hostile_name((40 * place + row).wrapping_mul(2654435761));
     let names = (0..40).map(|row| (row as u16, name(row))).collect();
     let ids = (0..NODES).map(|node| (node % 40) as u16).collect();
-    Plain {
-        version: 29,
-        timestamp: 1,
-        names,
-        ids,
-        rows: 0,
-    }
+    Plain::without_rows(1, names, ids)
 }
 
 pub fn hostile_blocks(results: &mut Results) {

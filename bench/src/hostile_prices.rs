@@ -36,14 +36,10 @@ fn long_name(number: usize) -> Vec<u8> {
 /// Rates of so many names of 65,535 bytes, and blocks that use thirty of them each.
 fn long_names(random: &mut Random, blocks: usize, count: usize) -> Priced {
     let names: Vec<Vec<u8>> = (0..count).map(long_name).collect();
-    let bytes = make_sheet(random, blocks, |_, place| Plain {
-        version: 29,
-        timestamp: 1,
-        names: (0..30)
-            .map(|row| (row as u16, names[(30 * place + 7 * row) % count].clone()))
-            .collect(),
-        ids: (0..NODES).map(|node| (node % 30) as u16).collect(),
-        rows: 0,
+    let bytes = make_sheet(random, blocks, |_, place| {
+        let used = (0..30).map(|row| (row as u16, names[(30 * place + 7 * row) % count].clone()));
+        let ids = (0..NODES).map(|node| (node % 30) as u16);
+        Plain::without_rows(1, used.collect(), ids.collect())
     });
     let rates = rates_of(names.iter().map(|name| Rate {
         name,

@@ -132,14 +132,11 @@ fn read_metadata(r: &mut Reader, version: u8) -> Option<()> {
     if version == 22 {
         return read_old_metadata(r);
     }
-    r.fixed(if version < 28 { 1 } else { 2 })?;
-    let mut seen = HashSet::new();
-    for _ in 0..r.u16()? {
-        r.position(&mut seen)?;
-        for _ in 0..r.u32()? {
-            read_variable(r, version)?;
-        }
-        read_inventory(r)?;
+    // the list version: 0 is a list of no rows, with no count
+    match (r.u8()?, version) {
+        (0, _) => {}
+        (1, ..=27) | (2, 28..) => read_metadata_rows(r, version)?,
+        _ => return None,
     }
     match version {
         23 => r.fixed(0),
@@ -150,6 +147,18 @@ fn read_metadata(r: &mut Reader, version: u8) -> Option<()> {
         },
         _ => Some(()),
     }
+}
+
+fn read_metadata_rows(r: &mut Reader, version: u8) -> Option<()> {
+    let mut seen = HashSet::new();
+    for _ in 0..r.u16()? {
+        r.position(&mut seen)?;
+        for _ in 0..r.u32()? {
+            read_variable(r, version)?;
+        }
+        read_inventory(r)?;
+    }
+    Some(())
 }
 
 fn read_old_metadata(r: &mut Reader) -> Option<()> {

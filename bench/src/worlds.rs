@@ -6,6 +6,7 @@ use crate::random::Random;
 use crate::reading::NODES;
 use crate::writing::{make_sheet, Plain};
 use crate::SHEET_PROGRAMS;
+use anowhetele::{LIST_COUNTED, LIST_ZERO};
 
 /// `count` places in a pool of so many names, the four layers first.
 fn pick_names(random: &mut Random, pool: usize, count: usize) -> Vec<usize> {
@@ -88,13 +89,7 @@ fn block_from(random: &mut Random, pool: &[Vec<u8>], count: usize) -> Plain {
         .enumerate()
         .map(|(id, name)| (id as u16, pool[*name].clone()))
         .collect();
-    Plain {
-        version: 29,
-        timestamp: random.below(u32::MAX as usize) as u32,
-        names,
-        ids,
-        rows: 0,
-    }
+    Plain::without_rows(random.below(u32::MAX as usize) as u32, names, ids)
 }
 
 fn world_block(random: &mut Random, pool: &[Vec<u8>]) -> Plain {
@@ -102,7 +97,8 @@ fn world_block(random: &mut Random, pool: &[Vec<u8>]) -> Plain {
     block_from(random, pool, count)
 }
 
-/// A block of any version with rows in its lists, high ids in the old ones, and now and then no known time.
+/// A block of any version with rows in its lists or a metadata list of either form, high ids in the old ones, and now
+/// and then no known time.
 pub fn mixed_block(random: &mut Random, pool: &[Vec<u8>]) -> Plain {
     let version = 22 + random.below(8) as u8;
     let mut plain = world_block(random, pool);
@@ -112,6 +108,7 @@ pub fn mixed_block(random: &mut Random, pool: &[Vec<u8>]) -> Plain {
         *id = high(*id);
     }
     plain.rows = random.below(4);
+    plain.list_form = [LIST_COUNTED, LIST_ZERO][random.below(2)];
     if random.below(8) == 0 {
         plain.timestamp = u32::MAX;
     }

@@ -2,6 +2,7 @@
 
 use crate::random::Random;
 use crate::reading::NODES;
+use anowhetele::LIST_ZERO;
 
 /// A block before it is written.
 pub struct Plain {
@@ -11,6 +12,22 @@ pub struct Plain {
     pub ids: Vec<u16>,
     /// Metadata rows, objects and timers of each block.
     pub rows: usize,
+    /// The form of a metadata list of no rows; with rows, and in version 22, the list is counted.
+    pub list_form: u8,
+}
+
+impl Plain {
+    /// A version 29 block as servers write it, with no metadata, objects or timers.
+    pub fn without_rows(timestamp: u32, names: Vec<(u16, Vec<u8>)>, ids: Vec<u16>) -> Plain {
+        Plain {
+            version: 29,
+            timestamp,
+            names,
+            ids,
+            rows: 0,
+            list_form: LIST_ZERO,
+        }
+    }
 }
 
 fn put16(out: &mut Vec<u8>, number: usize) {
@@ -73,6 +90,25 @@ fn put_nodes(random: &mut Random, out: &mut Vec<u8>, plain: &Plain) {
 
 fn put_metadata(random: &mut Random, out: &mut Vec<u8>, plain: &Plain) {
     let version = plain.version;
+    if version >= 23 && plain.rows == 0 && plain.list_form == LIST_ZERO {
+        out.push(0);
+    } else {
+        put_counted_metadata(random, out, plain);
+    }
+    if version == 23 {
+        out.push(0);
+    }
+    if version == 24 {
+        let timers = random.below(2);
+        out.push(timers as u8);
+        if timers == 1 {
+            put_timers(random, out, plain.rows);
+        }
+    }
+}
+
+fn put_counted_metadata(random: &mut Random, out: &mut Vec<u8>, plain: &Plain) {
+    let version = plain.version;
     match version {
         22 => put16(out, 1),
         _ => out.push(if version < 28 { 1 } else { 2 }),
@@ -84,16 +120,6 @@ fn put_metadata(random: &mut Random, out: &mut Vec<u8>, plain: &Plain) {
             out.extend_from_slice(b"\x00\x0e\x00\x04text");
         } else {
             put_variables(random, out, version);
-        }
-    }
-    if version == 23 {
-        out.push(0);
-    }
-    if version == 24 {
-        let timers = random.below(2);
-        out.push(timers as u8);
-        if timers == 1 {
-            put_timers(random, out, plain.rows);
         }
     }
 }

@@ -82,7 +82,7 @@ _TABLE = {
     Refusal.NO_SUCH: (False, 'there is no such row or node'),
     Refusal.CONTENT_WIDTH_DIFFERS: (True, 'the content width is not 1 up to version 23, or not 2 from version 24'),
     Refusal.PARAMS_WIDTH_DIFFERS: (True, 'the params width is not 2'),
-    Refusal.METADATA_VERSION_DIFFERS: (True, 'the metadata list version is not 1 up to version 27, or not 2 from version 28'),
+    Refusal.METADATA_VERSION_DIFFERS: (True, 'the metadata list version is not 1 in version 22, not 0 or 1 in versions 23 to 27, or not 0 or 2 from version 28'),
     Refusal.PRIVATE_BYTE_DIFFERS: (True, 'the private byte of a metadata variable is not 0 or 1'),
     Refusal.TIMER_BYTE_DIFFERS: (True, 'the timer byte is not 0 in version 23, or not 0 or 1 in version 24'),
     Refusal.OBJECT_VERSION_DIFFERS: (True, 'the static object version is not 0'),
@@ -130,7 +130,8 @@ _Answer = _struct('_Answer', ('number', c_uint32), ('record', c_uint32), ('offse
 _Part = _struct('_Part', ('start', c_uint64), ('length', c_uint64))
 _Lot = _struct('_Lot', *((name, c_int32) for name in ('x0', 'y0', 'z0', 'x1', 'y1', 'z1')))
 _Span = _struct('_Span', ('from_', c_uint32), ('until', c_uint32))
-_Head = _struct('_Head', ('version', c_uint8), ('flags', c_uint8), ('lighting', c_uint16), ('timestamp', c_uint32), ('timer_byte', c_uint8))
+_Head = _struct('_Head', ('version', c_uint8), ('flags', c_uint8), ('lighting', c_uint16), ('timestamp', c_uint32), ('timer_byte', c_uint8),
+                ('list_form', c_uint8))
 _Key = _struct('_Key', ('number', c_uint32), ('key', c_int64))
 _Coordinates = _struct('_Coordinates', ('number', c_uint32), ('x', c_int32), ('y', c_int32), ('z', c_int32))
 _Inside = _struct('_Inside', ('number', c_uint32), ('inside', c_uint32))
@@ -361,17 +362,25 @@ Span.ALL_TIME = Span(0, 0xffffffff)
 # ---- Blocks
 
 
+# The forms of a metadata list: with its list version and its count before the rows, or a single 0 with no count, which a list of no rows may be
+# from version 23 on.
+LIST_COUNTED = 0
+LIST_ZERO = 1
+
+
 class Head(NamedTuple):
-    """Lighting is 65,535 under version 27, the timer byte 0 except in 24."""
+    """Lighting is 65,535 under version 27, the timer byte 0 except in 24, the list form LIST_COUNTED in version 22 and where there are metadata
+    rows."""
     version: int
     flags: int
     lighting: int
     timestamp: int
     timer_byte: int
+    list_form: int = LIST_COUNTED
 
     def _c(self):
-        version, flags, timer_byte = _unsigned(8, self.version, self.flags, self.timer_byte)
-        return _Head(version, flags, *_unsigned(16, self.lighting), *_unsigned(32, self.timestamp), timer_byte)
+        version, flags, timer_byte, list_form = _unsigned(8, self.version, self.flags, self.timer_byte, self.list_form)
+        return _Head(version, flags, *_unsigned(16, self.lighting), *_unsigned(32, self.timestamp), timer_byte, list_form)
 
 
 class Block(NamedTuple):
@@ -436,7 +445,8 @@ def _sixteen_bits(numbers) -> array:
 
 def write(block: Block, nodes: Nodes, room: Optional[int] = None) -> bytes:
     """The block that these parts make; counts are worked out from the rows. TypeError for a param0 that is bytes.
-    Refused: 2; 12 where the parts do not fit; what the reader would say of the bytes (4, 5, 6, 8, 34 or 35); 11."""
+    Refused: 2; 12 where the parts do not fit, also for LIST_ZERO in version 22 or with metadata rows, and for a list form that is neither; what the
+    reader would say of the bytes (4, 5, 6, 8, 34 or 35); 11."""
     param0 = _sixteen_bits(nodes.param0)
     with _Loans() as loans:
         start, length = loans.lend(param0)
@@ -662,8 +672,8 @@ def _enough(length: int) -> int:
 
     A name row of a block is four bytes and the name, a row of a tally ten bytes and the name. So the tally of k names, of n bytes together, has
     9 + 10k + n bytes; and its block at least F + 4k + n, where F is what the shortest block has beside its name row. Five quarters of that are enough
-    where 9 + 5k is at most five quarters of F. Up to version 23 F is 12,306, and there are 128 + 2,048 ids: 10,889 is below 15,382. From 24 on F is
-    16,402, and 4,096 nodes have at most as many names: 20,489 is below 20,502. A sheet has nine bytes beside its records, as a tally beside its rows, and
+    where 9 + 5k is at most five quarters of F. Up to version 23 F is 12,304, and there are 128 + 2,048 ids: 10,889 is below 15,380. From 24 on F is
+    16,400, and 4,096 nodes have at most as many names: 20,489 is below 20,500. A sheet has nine bytes beside its records, as a tally beside its rows, and
     every row of its tally is in the tally of a block."""
     return 5 * length // 4
 

@@ -1,5 +1,6 @@
 """The binding over the library: python3 -m unittest discover bindings/python, after bindings/python/build."""
 import copy
+import ctypes
 import itertools
 import mmap
 import multiprocessing
@@ -14,7 +15,7 @@ from concurrent.futures import ThreadPoolExecutor
 from unittest import mock
 
 import anowhetele
-from anowhetele import Bill, Head, Lot, MetadataRow, NameRow, ObjectRow, Rate, Refusal, Refused, Row, Span, Tally, TimerRow
+from anowhetele import LIST_COUNTED, LIST_ZERO, Bill, Head, Lot, MetadataRow, NameRow, ObjectRow, Rate, Refusal, Refused, Row, Span, Tally, TimerRow
 
 HERE = os.path.dirname(os.path.abspath(__file__))
 AIR = bytes.fromhex('54 4C 59 00 01 00 00 00 01 00 03 61 69 72 00 00 00 00 00 00 10 00')
@@ -43,13 +44,14 @@ OLD_IDS = [*range(128), *range(2048, 4096)]
 
 
 def crowded(version, ids, names):
-    """A block of a version up to 24 that uses all these ids, with the next of the names for each, and has no other row."""
+    """The shortest block of a version up to 24 that uses all these ids, with the next of the names for each: it has no other row, and from version 23
+    on a single 0 for its metadata list."""
     used = list(itertools.islice(itertools.cycle(ids), anowhetele.NODES))
     if version < 24:
         params = b'\1\2' + bytes(i if i < 128 else i // 16 for i in used) + bytes(4096) + bytes(0 if i < 128 else i % 16 * 16 for i in used)
     else:
         params = b'\2\2' + struct.pack('>4096H', *used) + bytes(8192)
-    metadata = b'\0\1\0\0' if version == 22 else b'\1\0\0\0'
+    metadata = b'\0\1\0\0' if version == 22 else b'\0\0'
     rows = b''.join(struct.pack('>HH', i, len(name)) + name for i, name in zip(ids, names))
     return bytes([version, 0]) + params + metadata + struct.pack('>BHIBH', 0, 0, 5, 0, len(ids)) + rows
 
@@ -59,6 +61,8 @@ METADATA = b'\x0f\xff\0\0\0\1\0\4text\0\0\0\2hi\1' + INVENTORY
 OBJECT = b'\7\xff\xff\xff\xff\0\0\0\2\0\0\0\3\0\2ox'
 TIMER = b'\0\t\0\0\3\xe8\xff\xff\xff\xfe'
 FURNISHED = air(5, b'\2\0\1' + METADATA + b'\0\0\1' + OBJECT + b'\n\0\1' + TIMER)
+# the shortest block again, with a single 0 for its metadata list
+ZERO = air(5, b'\0\0\0\0\n\0\0')
 
 # air at 1500 thousandths, and at 2000 from second 1,000,000 on
 AIR_RATES = anowhetele.rate_sheet([Rate(b'air', 0, 1500), Rate(b'air', 1_000_000, 2000)])
@@ -153,6 +157,34 @@ class Blocks(Case):
         self.assertEqual(anowhetele.write(block, nodes), FURNISHED)
         self.refused('refused 11: the result is longer than the output lent', anowhetele.write, block, nodes, len(FURNISHED) - 1)
         self.refused('refused 12: the parts do not fit', anowhetele.write, block, nodes._replace(param1=b''))
+
+    def test_a_list_of_no_rows_has_two_forms(self):
+        for data, list_form in ((air(5), LIST_COUNTED), (ZERO, LIST_ZERO)):
+            block, nodes = anowhetele.read(data)
+            self.assertEqual(block, anowhetele.sections(data))
+            self.assertEqual((block.head, block.metadata), (Head(29, 0, 65_535, 5, 0, list_form), b''))
+            self.assertEqual(anowhetele.write(block, nodes), data)
+            self.assertEqual(anowhetele.tally_block(-1, data), Tally(AIR))
+        self.assertEqual(len(ZERO), len(air(5)) - 2)
+
+    def test_a_head_without_a_list_form_is_counted(self):
+        block, nodes = anowhetele.read(ZERO)
+        head = Head(29, 0, 65_535, 5, 0)
+        self.assertEqual((head, head.list_form), (block.head._replace(list_form=LIST_COUNTED), LIST_COUNTED))
+        self.assertEqual(anowhetele.write(block._replace(head=head), nodes), air(5))
+        # the form stands where C had a byte that no field used
+        self.assertEqual((ctypes.sizeof(anowhetele._Head), anowhetele._Head.list_form.offset), (12, 9))
+
+    def test_the_list_form_must_fit(self):
+        block, nodes = anowhetele.read(ZERO)
+        old = block.head._replace(version=22)
+        counted = old._replace(list_form=LIST_COUNTED)
+        self.assertEqual(anowhetele.sections(anowhetele.write(block._replace(head=counted), nodes)).head, counted)
+        for head, metadata in ((old, b''), (block.head, METADATA), (block.head._replace(list_form=2), b''), (block.head._replace(list_form=255), b'')):
+            self.refused('refused 12: the parts do not fit', anowhetele.write, block._replace(head=head, metadata=metadata), nodes)
+        for list_form in (-1, 256):
+            with self.assertRaises(OverflowError):
+                anowhetele.write(block._replace(head=block.head._replace(list_form=list_form)), nodes)
 
     def test_each_fixed_field_has_a_number_of_its_own(self):
         for offset, refusal in ((8, Refusal.MAPPING_VERSION_DIFFERS), (18, Refusal.CONTENT_WIDTH_DIFFERS), (19, Refusal.PARAMS_WIDTH_DIFFERS),

@@ -36,7 +36,7 @@ mod refusal;
 mod rows;
 mod tally;
 
-pub use block::{light_count, node_name, read, sections, write, Block, Head, NODES};
+pub use block::{light_count, node_name, read, sections, write, Block, Head, LIST_COUNTED, LIST_ZERO, NODES};
 pub use position::{key_join, key_split, Lot, Span};
 pub use price::{check_rates, price_block, price_sheet, rate_rows, rate_sheet, BadRates, Bill, Rate};
 pub use refusal::{Refusal, Refused};

@@ -39,7 +39,14 @@ pub struct Span {
     pub until: u32,
 }
 
-/// A block's head. Lighting is 65,535 under version 27, the timer byte 0 except in 24.
+/// The form of a metadata list that has its list version and its count before the rows.
+pub const LIST_COUNTED: u8 = 0;
+
+/// The form of a metadata list that is a single 0, with no count: a list of no rows may be that from version 23 on.
+pub const LIST_ZERO: u8 = 1;
+
+/// A block's head. Lighting is 65,535 under version 27, the timer byte 0 except in 24, the list form [`LIST_COUNTED`] in version 22 and where
+/// there are metadata rows.
 #[repr(C)]
 #[derive(Clone, Copy, Debug, PartialEq, Eq)]
 pub struct Head {
@@ -48,6 +55,7 @@ pub struct Head {
     pub lighting: u16,
     pub timestamp: u32,
     pub timer_byte: u8,
+    pub list_form: u8,
 }
 
 #[repr(C)]

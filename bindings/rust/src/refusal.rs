@@ -43,7 +43,7 @@ pub enum Refusal {
     ContentWidthDiffers = 31,
     /// the params width is not 2
     ParamsWidthDiffers = 32,
-    /// the metadata list version is not 1 up to version 27, or not 2 from version 28
+    /// the metadata list version is not 1 in version 22, not 0 or 1 in versions 23 to 27, or not 0 or 2 from version 28
     MetadataVersionDiffers = 33,
     /// the private byte of a metadata variable is not 0 or 1
     PrivateByteDiffers = 34,
@@ -81,7 +81,7 @@ const TABLE: [(Refusal, bool, &str); 24] = [
     (NoSuch, false, "there is no such row or node"),
     (ContentWidthDiffers, true, "the content width is not 1 up to version 23, or not 2 from version 24"),
     (ParamsWidthDiffers, true, "the params width is not 2"),
-    (MetadataVersionDiffers, true, "the metadata list version is not 1 up to version 27, or not 2 from version 28"),
+    (MetadataVersionDiffers, true, "the metadata list version is not 1 in version 22, not 0 or 1 in versions 23 to 27, or not 0 or 2 from version 28"),
     (PrivateByteDiffers, true, "the private byte of a metadata variable is not 0 or 1"),
     (TimerByteDiffers, true, "the timer byte is not 0 in version 23, or not 0 or 1 in version 24"),
     (ObjectVersionDiffers, true, "the static object version is not 0"),

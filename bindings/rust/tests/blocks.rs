@@ -8,11 +8,20 @@ fn lists() -> ([u16; NODES], [u8; NODES], [u8; NODES]) {
     ([7; NODES], [7; NODES], [7; NODES])
 }
 
+/// Where the metadata list of the blocks below starts.
+const METADATA: usize = PARAM0 + 4 * NODES;
+
+/// The shortest version 29 block with a single 0 for its metadata list.
+fn with_zero() -> Vec<u8> {
+    let mut block = air(5);
+    block.splice(METADATA..METADATA + 3, [0]);
+    block
+}
+
 /// Version 29, with a row in each list.
 fn furnished() -> Vec<u8> {
     let mut block = air(5);
-    let nodes_end = PARAM0 + 4 * NODES;
-    block.truncate(nodes_end);
+    block.truncate(METADATA);
     block.extend(
         b"\x02\x00\x01\x0f\xff\x00\x00\x00\x01\x00\x04text\x00\x00\x00\x02hi\x01EndInventoryList\nEndInventory\n",
     );
@@ -33,7 +42,8 @@ fn what_was_read_writes_back() {
             flags: 0,
             lighting: 65_535,
             timestamp: 5,
-            timer_byte: 0
+            timer_byte: 0,
+            list_form: LIST_COUNTED
         }
     );
     assert_eq!(block, sections(&bytes).unwrap());
@@ -43,6 +53,50 @@ fn what_was_read_writes_back() {
     assert_eq!(out[bytes.len()], 9);
     let short = write(block, &param0, &param1, &param2, &mut out[1..bytes.len()]).unwrap_err();
     assert_eq!(short.refusal, Refusal::NoRoom);
+}
+
+#[test]
+fn a_list_of_no_rows_has_two_forms() {
+    // each with the length of what stands before its rows
+    for (bytes, list_form, length) in [(air(5), LIST_COUNTED, 3), (with_zero(), LIST_ZERO, 1)] {
+        let (mut param0, mut param1, mut param2) = lists();
+        let block = read(&bytes, &mut param0, &mut param1, &mut param2).unwrap();
+        assert_eq!(block.head.list_form, list_form);
+        assert_eq!(block, sections(&bytes).unwrap());
+        let rows = &bytes[METADATA + length..][..0];
+        assert_eq!(block.metadata.as_ptr_range(), rows.as_ptr_range());
+        let mut out = vec![9; bytes.len()];
+        assert_eq!(write(block, &param0, &param1, &param2, &mut out), Ok(bytes.len()));
+        assert_eq!(out, bytes);
+    }
+    assert_eq!(size_of::<Head>(), 12);
+}
+
+#[test]
+fn the_list_form_must_fit() {
+    let (zero, rows) = (with_zero(), furnished());
+    let (zero, rows) = (sections(&zero).unwrap(), sections(&rows).unwrap());
+    let written = |block: Block, version: u8, list_form: u8| {
+        let head = Head {
+            version,
+            list_form,
+            ..block.head
+        };
+        let block = Block { head, ..block };
+        write(block, &[0; NODES], &[0; NODES], &[0; NODES], &mut [0; 20_000]).map_err(|refused| refused.refusal)
+    };
+    assert_eq!(written(zero, 29, LIST_ZERO), Ok(16_411));
+    assert_eq!(written(zero, 29, LIST_COUNTED), Ok(16_413));
+    assert_eq!(written(zero, 23, LIST_ZERO), Ok(12_311));
+    assert_eq!(written(zero, 22, LIST_COUNTED), Ok(12_313));
+    for (block, version, list_form) in [
+        (zero, 22, LIST_ZERO),
+        (rows, 29, LIST_ZERO),
+        (zero, 29, 2),
+        (zero, 29, 255),
+    ] {
+        assert_eq!(written(block, version, list_form), Err(Refusal::PartsMisfit));
+    }
 }
 
 #[test]
@@ -68,6 +122,7 @@ fn each_fixed_field_has_a_number_of_its_own() {
         lighting: 65_535,
         timestamp: 5,
         timer_byte: 2,
+        list_form: LIST_COUNTED,
     };
     let bytes = air(5);
     let block = Block {

@@ -5,7 +5,7 @@ use crate::compare::Compare;
 use crate::make::blocks;
 use crate::model::writing::Parts;
 use crate::random::Random;
-use anowhetele::raw::{Head, Part};
+use anowhetele::raw::{Head, Part, LIST_COUNTED};
 
 /// Parts that can be changed.
 #[derive(Clone)]
@@ -105,7 +105,7 @@ fn reads_back(compare: &mut Compare, parts: &OwnParts, block: &[u8]) {
 }
 
 fn spoil(random: &mut Random, parts: &mut OwnParts) {
-    match random.below(12) {
+    match random.below(14) {
         0 => parts.head.version = random.pick(&[0, 21, 30, 255]),
         1 => parts.head.version = 22 + random.below(8) as u8,
         2 => parts.head.timer_byte = random.pick(&[0, 1, 2, 2, 3, 255]),
@@ -116,6 +116,8 @@ fn spoil(random: &mut Random, parts: &mut OwnParts) {
         7 | 8 => spoil_section(random, parts),
         9 => double_section(random, parts),
         10 => spoil_position(random, parts),
+        11 => parts.head.list_form = random.pick(&[0, 1, 2, 255]),
+        12 => parts.metadata.clear(),
         _ => add_timers(random, parts),
     }
 }
@@ -205,8 +207,11 @@ pub fn many_rows(compare: &mut Compare) {
         return;
     };
     *parts.sections()[which] = rows;
-    if which == 0 {
-        parts.param0 = param0;
+    match which {
+        0 => parts.param0 = param0,
+        // Rows have a counted list.
+        1 => parts.head.list_form = LIST_COUNTED,
+        _ => {}
     }
     let room = parts.length();
     let (answer, bytes) = compare.write(&parts.lent(), room);

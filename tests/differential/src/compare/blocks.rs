@@ -75,7 +75,7 @@ fn told_block(read: &Result<ReadBlock, Refusal>) -> Block {
         },
         Err(refusal) => Block {
             answer: refused(refusal),
-            head: Head { version: 0, flags: 0, lighting: 0, timestamp: 0, timer_byte: 0 },
+            head: Head { version: 0, flags: 0, lighting: 0, timestamp: 0, timer_byte: 0, list_form: 0 },
             names: NO_PART,
             metadata: NO_PART,
             objects: NO_PART,

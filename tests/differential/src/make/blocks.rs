@@ -3,7 +3,7 @@
 use super::builder::{Builder, Field, Kind};
 use super::{names, rows};
 use crate::random::Random;
-use anowhetele::raw::Head;
+use anowhetele::raw::{Head, LIST_COUNTED, LIST_ZERO};
 use std::collections::HashSet;
 use std::ops::Range;
 
@@ -31,7 +31,8 @@ pub fn block(random: &mut Random) -> MadeBlock {
 }
 
 pub fn block_of(random: &mut Random, version: u8) -> MadeBlock {
-    let head = head(random, version);
+    let metadata_count = rows::row_count(random);
+    let head = head(random, version, metadata_count);
     let (mapping, used) = mapping(random, version);
     let (name_count, name_rows) = (mapping.len(), rows::name_rows(&mapping));
     let mut out = Builder::default();
@@ -48,7 +49,7 @@ pub fn block_of(random: &mut Random, version: u8) -> MadeBlock {
     out.u8(Kind::Fixed, 2);
     let param0_at = out.bytes.len();
     out.bytes.extend(nodes(random, version, &used));
-    put_metadata(&mut out, random, &head);
+    put_metadata(&mut out, random, &head, metadata_count);
     out.u8(Kind::Fixed, 0);
     let count = rows::row_count(random);
     put_rows(&mut out, count, &rows::object_rows(random, count));
@@ -64,15 +65,18 @@ pub fn block_of(random: &mut Random, version: u8) -> MadeBlock {
     MadeBlock { bytes: out.bytes, head, fields: out.fields, param0_at, width, names }
 }
 
-fn head(random: &mut Random, version: u8) -> Head {
+/// The head of a block with so many metadata rows.
+fn head(random: &mut Random, version: u8, metadata_count: usize) -> Head {
     let lighting = random.draw() as u16;
     let timer_byte = random.below(2) as u8;
+    let list_form = random.pick(&[LIST_COUNTED, LIST_ZERO]);
     Head {
         version,
         flags: random.draw() as u8,
         lighting: if version >= 27 { lighting } else { 65_535 },
         timestamp: second(random),
         timer_byte: if version == 24 { timer_byte } else { 0 },
+        list_form: if version >= 23 && metadata_count == 0 { list_form } else { LIST_COUNTED },
     }
 }
 
@@ -206,14 +210,17 @@ fn put_saved(out: &mut Builder, timestamp: u32, count: usize, rows: &Builder) {
 }
 
 /// The metadata, and what stands behind it in 23 and 24.
-fn put_metadata(out: &mut Builder, random: &mut Random, head: &Head) {
-    match head.version {
-        22 => out.u16(Kind::Fixed, 1),
-        23..=27 => out.u8(Kind::Fixed, 1),
-        _ => out.u8(Kind::Fixed, 2),
+fn put_metadata(out: &mut Builder, random: &mut Random, head: &Head, count: usize) {
+    if head.list_form == LIST_ZERO {
+        out.u8(Kind::ListVersion, 0);
+    } else {
+        match head.version {
+            22 => out.u16(Kind::ListVersion, 1),
+            23..=27 => out.u8(Kind::ListVersion, 1),
+            _ => out.u8(Kind::ListVersion, 2),
+        }
+        put_rows(out, count, &rows::metadata_rows(random, head.version, count));
     }
-    let count = rows::row_count(random);
-    put_rows(out, count, &rows::metadata_rows(random, head.version, count));
     if head.version == 23 || head.version == 24 {
         out.u8(Kind::Fixed, head.timer_byte);
     }

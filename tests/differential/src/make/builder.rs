@@ -3,8 +3,10 @@
 #[derive(Clone, Copy, Debug, PartialEq, Eq)]
 pub enum Kind {
     Version,
-    /// A byte, width or list version that has one good value, or two.
+    /// A byte or width that has one good value, or two.
     Fixed,
+    /// That of the metadata list.
+    ListVersion,
     Count,
     Length,
     MetadataPosition,

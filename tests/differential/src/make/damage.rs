@@ -19,7 +19,7 @@ pub fn damaged(random: &mut Random, made: &MadeBlock) -> Vec<u8> {
 
 /// False where the block has no field of the sort that was drawn.
 fn damage_once(random: &mut Random, made: &MadeBlock, bytes: &mut Vec<u8>) -> bool {
-    match random.below(24) {
+    match random.below(26) {
         0 => cut_at_field(random, made, bytes),
         1 => cut_at_param(random, made, bytes),
         2 => cut_anywhere(random, bytes),
@@ -34,6 +34,7 @@ fn damage_once(random: &mut Random, made: &MadeBlock, bytes: &mut Vec<u8>) -> bo
         19 => unmap_row(random, made, bytes),
         20 | 21 => spoil_fixed(random, made, bytes),
         22 => spoil_version(random, bytes),
+        23 | 24 => spoil_list_version(random, made, bytes),
         _ => insert_or_remove(random, made, bytes),
     }
 }
@@ -195,6 +196,21 @@ fn spoil_fixed(random: &mut Random, made: &MadeBlock, bytes: &mut Vec<u8>) -> bo
     };
     put(bytes, field, random.pick(&[0, 1, 2, 3, 9, 10, 11, 255, 256, 257]));
     cut_behind(random, field, bytes);
+    true
+}
+
+/// Another list version of the metadata, sometimes with a count more or fewer behind it: a single 0 has none.
+fn spoil_list_version(random: &mut Random, made: &MadeBlock, bytes: &mut Vec<u8>) -> bool {
+    let Some(field) = field_where(random, made, |kind| kind == Kind::ListVersion) else {
+        return false;
+    };
+    put(bytes, field, random.pick(&[0, 0, 0, 1, 2, 3, 255, 256, 257]));
+    let behind = (field.at + field.length).min(bytes.len());
+    match random.below(3) {
+        0 => drop(bytes.splice(behind..behind, [0, 0])),
+        1 => drop(bytes.drain(behind..(behind + 2).min(bytes.len()))),
+        _ => cut_behind(random, field, bytes),
+    }
     true
 }
 

@@ -3,7 +3,7 @@
 use super::fields::Fields;
 use super::rows::{self, NameRow};
 use super::Refusal;
-use anowhetele::raw::Head;
+use anowhetele::raw::{Head, LIST_COUNTED, LIST_ZERO};
 use std::collections::HashSet;
 use std::ops::Range;
 
@@ -47,7 +47,7 @@ pub fn read(bytes: &[u8]) -> Result<ReadBlock, Refusal> {
     let lighting = if version >= 27 { fields.u16()? } else { 65_535 };
     let saved_before = if version >= 29 { Some(saved(&mut fields)?) } else { None };
     let nodes = nodes(&mut fields, version)?;
-    let metadata = metadata(&mut fields, version)?;
+    let (list_form, metadata) = metadata(&mut fields, version)?;
     let (timer_byte, timers_before) = timers_behind_metadata(&mut fields, version)?;
     let objects = objects(&mut fields)?;
     let (timestamp, names, mapping) = match saved_before {
@@ -58,7 +58,7 @@ pub fn read(bytes: &[u8]) -> Result<ReadBlock, Refusal> {
     if !fields.are_at_end() {
         return Err(Refusal::at(7, fields.at));
     }
-    let head = Head { version, flags, lighting, timestamp, timer_byte };
+    let head = Head { version, flags, lighting, timestamp, timer_byte, list_form };
     let block = ReadBlock { head, nodes, mapping, names, metadata, objects, timers };
     every_used_id_is_mapped(&block)?;
     Ok(block)
@@ -108,12 +108,16 @@ fn nodes(fields: &mut Fields, version: u8) -> Result<Nodes, Refusal> {
     Ok(Nodes { start, param0, param1, param2 })
 }
 
-/// 5. "Metadata."
-fn metadata(fields: &mut Fields, version: u8) -> Result<Range<usize>, Refusal> {
-    match version {
-        22 => fields.fixed_u16(33, 1)?,
-        23..=27 => fields.fixed_u8(33, 1)?,
-        _ => fields.fixed_u8(33, 2)?,
+/// 5, "Metadata", and 02, item 3: "From version 23 on, list version 0 means an empty list with no count." Its section
+/// starts behind the 0. With the section comes the list form.
+fn metadata(fields: &mut Fields, version: u8) -> Result<(u8, Range<usize>), Refusal> {
+    let list_version = match version {
+        22 => fields.fixed_u16(33, 1).map(|()| 1)?,
+        23..=27 => fields.u8_of(33, &[0, 1])?,
+        _ => fields.u8_of(33, &[0, 2])?,
+    };
+    if list_version == 0 {
+        return Ok((LIST_ZERO, fields.at..fields.at));
     }
     let count = fields.u16()?;
     let start = fields.at;
@@ -121,7 +125,7 @@ fn metadata(fields: &mut Fields, version: u8) -> Result<Range<usize>, Refusal> {
     for _ in 0..count {
         rows::metadata_row(fields, version, &mut taken)?;
     }
-    Ok(start..fields.at)
+    Ok((LIST_COUNTED, start..fields.at))
 }
 
 /// Behind 5: "version 23 has one u8 0; version 24 has a u8 timer byte, 0 (nothing more) or 1 (u16 count and timer

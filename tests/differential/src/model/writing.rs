@@ -3,7 +3,7 @@
 use super::blocks;
 use super::fields::Fields;
 use super::Refusal;
-use anowhetele::raw::Head;
+use anowhetele::raw::{Head, LIST_COUNTED, LIST_ZERO};
 
 /// What the writer takes.
 #[derive(Clone, Copy)]
@@ -40,16 +40,17 @@ struct Counts {
     timers: u16,
 }
 
-/// The writer's 12, as listed below the table of numbers; nothing where the parts do not fit.
+/// The writer's 12, as listed below the table of numbers and in 02, item 3; nothing where the parts do not fit.
 fn judge_parts(parts: &Parts) -> Option<Counts> {
     let version = parts.head.version;
     let lists_fit = parts.param0.len() == 4096 && parts.param1.len() == 4096 && parts.param2.len() == 4096;
     let lighting_fits = version >= 27 || parts.head.lighting == 65_535;
     let timer_byte_fits = version == 24 || parts.head.timer_byte == 0;
+    let list_form_fits = list_form_fits(parts);
     let param0_fits = version >= 24 || parts.param0.iter().all(|&param0| param0 <= 255);
     let may_have_timers = version >= 25 || (version == 24 && parts.head.timer_byte == 1);
     let timers_fit = may_have_timers || parts.timers.is_empty();
-    if !(lists_fit && lighting_fits && timer_byte_fits && param0_fits && timers_fit) {
+    if !(lists_fit && lighting_fits && timer_byte_fits && list_form_fits && param0_fits && timers_fit) {
         return None;
     }
     Some(Counts {
@@ -58,6 +59,15 @@ fn judge_parts(parts: &Parts) -> Option<Counts> {
         objects: whole_rows(parts.objects, frame_object)?,
         timers: whole_rows(parts.timers, frame_timer)?,
     })
+}
+
+/// 12 "when the head says 0 with metadata rows present, or says 0 in version 22"; a form above 1 is neither form.
+fn list_form_fits(parts: &Parts) -> bool {
+    match parts.head.list_form {
+        LIST_COUNTED => true,
+        LIST_ZERO => parts.head.version >= 23 && parts.metadata.is_empty(),
+        _ => false,
+    }
 }
 
 /// The number of rows; nothing for "a section not made of whole rows, over 65,535 rows". A row is whole where its bytes
@@ -118,12 +128,7 @@ fn block_bytes(parts: &Parts, counts: &Counts) -> Vec<u8> {
         put_saved(&mut bytes, parts, counts);
     }
     put_nodes(&mut bytes, parts);
-    match head.version {
-        22 => bytes.extend([0, 1]),
-        23..=27 => bytes.push(1),
-        _ => bytes.push(2),
-    }
-    put_rows(&mut bytes, counts.metadata, parts.metadata);
+    put_metadata(&mut bytes, parts, counts);
     if head.version == 23 || head.version == 24 {
         bytes.push(head.timer_byte);
     }
@@ -158,6 +163,19 @@ fn put_nodes(bytes: &mut Vec<u8>, parts: &Parts) {
     }
     bytes.extend(parts.param1);
     bytes.extend(parts.param2);
+}
+
+fn put_metadata(bytes: &mut Vec<u8>, parts: &Parts, counts: &Counts) {
+    if parts.head.list_form == LIST_ZERO {
+        bytes.push(0);
+        return;
+    }
+    match parts.head.version {
+        22 => bytes.extend([0, 1]),
+        23..=27 => bytes.push(1),
+        _ => bytes.push(2),
+    }
+    put_rows(bytes, counts.metadata, parts.metadata);
 }
 
 fn put_rows(bytes: &mut Vec<u8>, count: u16, rows: &[u8]) {
