@@ -5,7 +5,7 @@ use mathlib.Core.List.{_++_}
 use mathlib.Core.Bool.{cond}
 use native.Mathlib.Nat.{add-zero}
 use native.Mathlib.Omega.{arith}
-use lib.Dec.{lit<, lit≤}
+use lib.Dec.{lit<}
 use lib.ListN.{length, length-append}
 use Rattle.mapblock.specs.Data.{Block}
 use Rattle.mapblock.specs.Layout.{all, listVersionBytes, listCounted, isCounted, listZero, metadata}
@@ -70,11 +70,13 @@ pub both-forms : BothForms
 both-forms r t b e form h = read-back r t (withForm form b) (either-valid b e form h)
 
 -- air tells
-air-either : EitherForm (airAt 29 0)
-air-either = record { valid = air-valid 29 0 (lit≤ tt) (lit≤ tt) (lit< tt); from-23 = lit≤ tt; none = refl }
+air-either : (v : ℕ) → 23 ≤ v → v ≤ 29 → EitherForm (airAt v 0)
+air-either v h k = record { valid = air-valid v 0 (omega arith) k (lit< tt); from-23 = h; none = refl }
 
 pub form-told : FormTold
-form-told r t (form, h) =
+form-told r t v h k (form, one) =
+    let air = airAt v 0 in
+    let either = air-either v h k in
     let told : (f : ℕ) → f ≤ 1 → f ≡ form =
-    λ f l. h _ (withForm f (airAt 29 0)) _ (valid-bytes (withForm f (airAt 29 0)) (either-valid (airAt 29 0) air-either f l)) (both-forms r t (airAt 29 0) air-either f l) in
+    λ f l. one _ (withForm f air) _ (valid-bytes (withForm f air) (either-valid air either f l)) (both-forms r t air either f l) refl in
     omega (arith, told 0 (omega arith), told 1 (omega arith))

@@ -122,13 +122,13 @@ abbrev pub BothForms : Type 0
 BothForms = (r : Reader) → TakenBy r → (b : Block) → EitherForm b → (form : ℕ) → form ≤ 1
     → r (block all .encode (withForm form b)) ≡ done (withForm form b) (length (block all .encode (withForm form b)))
 
--- a reader that tells one form for all that it takes
-abbrev pub TellsOneForm : Reader → Type 0
-TellsOneForm r = (form : ℕ) × ((s : List ℕ) (b : Block) (n : ℕ) → Bytes s → r s ≡ done b n → b .head .form ≡ form)
+-- a reader that tells one form for all blocks of a version that it takes
+abbrev pub TellsOneForm : ℕ → Reader → Type 0
+TellsOneForm v r = (form : ℕ) × ((s : List ℕ) (b : Block) (n : ℕ) → Bytes s → r s ≡ done b n → b .head .version ≡ v → b .head .form ≡ form)
 
--- No reader that `TakenBy` holds of is such a one.
+-- No reader that `TakenBy` holds of is such a one, in any version from 23 on.
 abbrev pub FormTold : Type 0
-FormTold = (r : Reader) → TakenBy r → TellsOneForm r → ⊥
+FormTold = (r : Reader) → TakenBy r → (v : ℕ) → 23 ≤ v → v ≤ 29 → TellsOneForm v r → ⊥
 
 -- ---- inventories: document 01, 'Block layout'
 -- "A line starts at the inventory's first byte or after a newline."

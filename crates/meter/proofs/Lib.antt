@@ -16,6 +16,7 @@ pub mod SheetPuts
 pub mod Exactness
 pub mod Positions
 pub mod NamesAlone
+pub mod FormsAlike
 pub mod AirBlocks
 pub mod ShutOut
 -- Cuts, and demand 3.

@@ -11,22 +11,16 @@ use Rattle.position.specs.Lots.{inLot}
 use Rattle.position.specs.Spans.{inSpan}
 use Rattle.position.specs.declared.key.Coordinates.{Coordinates}
 use Rattle.mapblock.specs.Data.{Block}
-use Rattle.mapblock.specs.Layout.{all, listCounted, listZero}
-use Rattle.mapblock.specs.Block.{block}
-use Rattle.block_reader.specs.Questions.{blockOf, nameAt}
-use Rattle.block_reader.specs.Theorems.{withForm}
-use Rattle.block_reader.proofs.Taken.{valid-bytes}
-use Rattle.block_reader.proofs.BothForms.{either-valid}
+use Rattle.block_reader.specs.Questions.{nameAt}
 use Rattle.tally.specs.Rows.{Rows, addRow}
 use Rattle.tally.specs.Tally.{ones}
 use Rattle.position.specs.declared.part.Part.{Part}
 use Rattle.position.specs.Parts.{goodPart}
 use Rattle.sheet.specs.Placed.{Placed, placed, placedAt}
-use Rattle.sheet.proofs.TakenBlocks.{valid-block}
 use Rattle.meter.specs.Standing.{inPart, nodeIn, nodesFrom, standing, filterNodes, nodesIn}
 use Rattle.meter.specs.Counting.{tallyOf, byOne}
 use Rattle.meter.specs.Tallying.{fitted, tallyBlockOf}
-use Rattle.meter.specs.Theorems.{NamesAlone, FormsAlike}
+use Rattle.meter.specs.Theorems.{NamesAlone}
 
 -- one block's nodes, with nothing behind them
 pub standing-one : (x : Placed) → standing (x ∷ []) ≡ nodesFrom x 4096 0
@@ -74,9 +68,3 @@ names-alone key s u b c p room e f h t = rw (e, f) (ap (λ (a : Answer (List ℕ
         ≡ thenAnswer (thenAnswer k λ d. good (placed d c)) (λ x. fitted byOne room (tallyOf byOne (nodesIn p (x ∷ []))))
     go (good d) = ap (fitted byOne room) (same-tally d b c p t h)
     go (refusal n r o) = refl
-
-pub forms-alike : FormsAlike
-forms-alike key b e p room =
-    let taken : (form : ℕ) → form ≤ 1 → blockOf (block all .encode (withForm form b)) ≡ good (withForm form b) =
-    λ form l. let valid = either-valid b e form l in valid-block _ (withForm form b) (valid-bytes (withForm form b) valid) valid refl in
-    names-alone key _ _ (withForm listCounted b) (withForm listZero b) p room (taken listCounted (omega arith)) (taken listZero (omega arith)) (λ i _. refl) refl

@@ -1,6 +1,7 @@
 -- What holds of tallying: the counts of demand 2, and demand 3, whole (document 01, 'Cuts and merges' and 'What may not slip through'). All of it is
 -- over the definitions that the contracts cite. Sheets are proved in proofs/SheetTaken.antt and proofs/Streaming.antt, demand 2 in
--- proofs/Exactness.antt and proofs/Positions.antt, demand 3 in proofs/Partitions.antt, the rest in proofs/ShutOut.antt and proofs/NamesAlone.antt.
+-- proofs/Exactness.antt and proofs/Positions.antt, demand 3 in proofs/Partitions.antt, the rest in proofs/ShutOut.antt, proofs/NamesAlone.antt
+-- and proofs/FormsAlike.antt.
 use Prim.Native.Nat.{ℕ, suc, _<_, _≤_, _^_}
 use mathlib.Core.Path.{_≡_}
 use mathlib.Core.Logic.{_↔_}
@@ -225,7 +226,17 @@ NamesAlone = (key : ℤ) (s u : List ℕ) (b c : Block) (p : Part) (room : ℕ) 
     → ((i : ℕ) → i < 4096 → nameAt b i ≡ nameAt c i) → inSpan (p .span) (b .head .timestamp) ≡ inSpan (p .span) (c .head .timestamp)
     → tallyBlockOf byOne key s p room ≡ tallyBlockOf byOne key u p room
 
--- Document 02, item 3: a block without metadata has one tally, whichever of the two forms its list has.
-abbrev pub FormsAlike : Type 0
-FormsAlike = (key : ℤ) (b : Block) → EitherForm b → (p : Part) (room : ℕ)
-    → tallyBlockOf byOne key (block all .encode (withForm listCounted b)) p room ≡ tallyBlockOf byOne key (block all .encode (withForm listZero b)) p room
+-- ---- the two forms of a metadata list of none: document 02, item 3
+-- what stands in a part of the block s at a key, or its refusal
+abbrev pub blockNodes : ℤ → List ℕ → Part → Answer (List Node)
+blockNodes key s p = mapAnswer (λ (x : Placed). nodesIn p (x ∷ [])) (placedAt key s)
+
+-- Whichever form the list has, the same stands there,
+abbrev pub FormsStandAlike : Type 0
+FormsStandAlike = (key : ℤ) (b : Block) → EitherForm b → (p : Part)
+    → blockNodes key (block all .encode (withForm listCounted b)) p ≡ blockNodes key (block all .encode (withForm listZero b)) p
+
+-- and the block has one tally.
+abbrev pub FormsAlike : Measure → Type 0
+FormsAlike m = (key : ℤ) (b : Block) → EitherForm b → (p : Part) (room : ℕ)
+    → tallyBlockOf m key (block all .encode (withForm listCounted b)) p room ≡ tallyBlockOf m key (block all .encode (withForm listZero b)) p room

@@ -4,6 +4,8 @@ pub mod BillSums
 pub mod Exactness
 -- A block as the sheet of one record.
 pub mod OneRecord
+-- A block in the two forms of its metadata list.
+pub mod BillsAlike
 -- Cuts.
 pub mod Partitions
 -- A block's names, priced.
