@@ -15,7 +15,7 @@ use Rattle.block_reader.specs.Theorems.{withForm, EitherForm, TwoLess, B
 use Rattle.block_reader.proofs.ListLengths.{metadata-rows-length}
 use Rattle.block_reader.proofs.ValidOk.{valid-is-ok}
 use Rattle.block_reader.proofs.Taken.{valid-bytes, read-back, airAt, air-valid}
-use Rattle.block_reader.proofs.SectionsThere.{toNodes, behindMetadata, pieces, block-overwrite, metadata-ok}
+use Rattle.block_reader.proofs.SectionsThere.{toNodes, behindMetadata, pieces, block-pieces, metadata-ok}
 
 module _ (b : Block) (e : EitherForm b) where
   abbrev v : ℕ
@@ -59,7 +59,7 @@ module _ (b : Block) (e : EitherForm b) where
   block-length : (form : ℕ) → form ≤ 1
       → length (block all .encode (withForm form b)) ≡ length (toNodes (pieces b)) + (listVersionBytes v + cond (isCounted form) 2 0 + length (behindMetadata (pieces b)))
   block-length form h =
-      ap (length {A = ℕ}) (block-overwrite (withForm form b))
+      ap (length {A = ℕ}) (block-pieces (withForm form b))
       ∙ length-append (toNodes (pieces b)) (metadata v .encode (metadataOf (withForm form b)) ++ behindMetadata (pieces b))
       ∙ rw (length-append (metadata v .encode (metadataOf (withForm form b))) (behindMetadata (pieces b)), metadata-length form h)
 
@@ -69,7 +69,7 @@ two-less b e = omega (arith, block-length b e listCounted (omega arith), block-l
 pub both-forms : BothForms
 both-forms r t b e form h = read-back r t (withForm form b) (either-valid b e form h)
 
--- air tells
+-- ---- blocks of air, which every version has in both forms
 air-either : (v : ℕ) → 23 ≤ v → v ≤ 29 → EitherForm (airAt v 0)
 air-either v h k = record { valid = air-valid v 0 (omega arith) k (lit< tt); from-23 = h; none = refl }
 

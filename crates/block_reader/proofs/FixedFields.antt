@@ -10,15 +10,15 @@ use native.Mathlib.Omega.{arith}
 use lib.Dec.{leb, ltb, eqb}
 use borrow.Author.Tests.{le-leb, leb-true, leb-false, eqb-false}
 use Rattle.wire.specs.Read.{Read, done, refused, bind, mapRead}
-use Rattle.wire.specs.Format.{nothing, refine, _⨾_, iso, items}
+use Rattle.wire.specs.Format.{nothing, _⨾_, iso, items}
 use Rattle.wire.specs.Answer.{refusal}
 use Rattle.wire.specs.Choice.{no-true}
 use Rattle.wire.proofs.Tests.{and-yes}
 use Rattle.wire.proofs.Answers.{no-good}
-use Rattle.wire.specs.Formats.{_▹_, into, listed, behind, fixed, u8, u16, u32, prefixed, only, tagged}
+use Rattle.wire.specs.Formats.{_▹_, into, listed, behind, fixed, u16, u32, prefixed, only}
 use Rattle.mapblock.specs.Inventory.{BlockFormat, inventory}
-use Rattle.mapblock.specs.Data.{Variable, MetadataRow, MetadataList, ObjectRow, Timers, Front, Rest, Block, noMapping, noTimers, metadataShape, timersShape, stepsShape}
-use Rattle.mapblock.specs.Layout.{since, before, all, newPosition, variable, metadataRow, width, unmapped, nodes, nameMapping, listVersionBytes, isListVersion, isCounted, listForm, metadata, earlyTimers, objects, lateTimers, timerRow, front, rest, steps}
+use Rattle.mapblock.specs.Data.{Variable, MetadataRow, MetadataList, ObjectRow, Timers, Front, Rest, Block, noMapping, noTimers, metadataShape, stepsShape}
+use Rattle.mapblock.specs.Layout.{since, before, all, newPosition, variable, metadataRow, width, unmapped, nodes, nameMapping, listVersionBytes, isListVersion, isCounted, listForm, metadata, hasTimers, timersOf24, earlyTimers, objects, lateTimers, front, rest, steps}
 use Rattle.mapblock.specs.Block.{judgedWhole, blockFrom, block, firstUnmapped, judged, verdict}
 use Rattle.mapblock.specs.Numbers.{refusalNumber}
 use Rattle.block_reader.specs.FixedFields.{FixedField, Differs, ExactlyWhere, frontVersion, contentWidth, paramsWidth, metadataVersion, privateByte, timerByte, objectVersion, mappingVersionInFront, mappingVersionBehind, timerRowLength, GivenExactlyWhere}
@@ -140,12 +140,12 @@ early-here v = go (before 25 v) (since 24 v) (since 23 v) (λ h. le-leb 23 v (om
     go : (b c d : Bool) → (c ≡ true → d ≡ true)
         → Here 35
         (only b noTimers
-        (cond c (into timersShape (tagged (refine (λ t. leb t 1) fault.TimerByte u8) (λ t. eqb t 1) [] (listed 2 timerRow)))
+        (cond c timersOf24
         (cond d (fixed 1 0 fault.ByteOf23 (nothing noTimers))
         (nothing noTimers))))
         (d && b) 1 (λ t. cond c (leb t 1) (eqb t 0))
     go true true true h =
-        here-iso _ _ _ _ _ _ (here-first (here-refine 1 (λ t. leb t 1) fault.TimerByte refl refl) λ t. gives-only (eqb t 1) [] (gives-listed refl 2 (gives-timers refl refl refl)))
+        here-iso _ _ _ _ _ _ (here-first (here-refine 1 (λ t. leb t 1) fault.TimerByte refl refl) λ t. gives-only (hasTimers t) [] (gives-listed refl 2 (gives-timers refl refl refl)))
     go true true false h = no-true (h refl)
     go true false true h = here-fixed 1 0 fault.ByteOf23 refl refl (gives-nothing noTimers)
     go true false false h = here-absent 1 (λ t. eqb t 0) (gives-nothing noTimers)

@@ -11,7 +11,7 @@ use Rattle.wire.specs.Format.{tested, run, nothing, refine, _⨾_, next, pair, 
 use Rattle.wire.specs.Formats.{constant, _▹_, number, signed, s32, prefixed, listed, behind, fixed, only, tagged}
 use Rattle.mapblock.specs.Inventory.{BlockFormat, through, sized, inventory}
 use Rattle.mapblock.specs.Data.{NameRow, MetadataRow, TimerRow, noMapping, noTimers}
-use Rattle.mapblock.specs.Layout.{since, before, all, unused, unmapped, position, newPosition, nameRowBy, nameRow, variable, metadataRowBy, metadataRow, objectRow, timerRowBy, timerRow, nameMapping, width, params, nodes, listVersionBytes, isListVersion, isCounted, listForm, metadata, objects, earlyTimers, lateTimers, isVersion, opening, front, rest}
+use Rattle.mapblock.specs.Layout.{since, before, all, unused, unmapped, position, newPosition, nameRowBy, nameRow, variable, metadataRowBy, metadataRow, objectRow, timerRowBy, timerRow, nameMapping, width, params, nodes, listVersionBytes, isListVersion, isCounted, listForm, metadata, objects, hasTimers, earlyTimers, lateTimers, isVersion, opening, front, rest}
 use Rattle.mapblock.specs.declared.fault.Fault.{Fault}
 use Rattle.mapblock.specs.declared.fault.Fault.the-variants as fault
 
@@ -212,7 +212,7 @@ module _ {P : Fault → Type 0} where
       gives-early v byte other =
           gives-only (before 25 v) noTimers
           (gives-cond (since 24 v)
-          (gives-iso _ _ _ _ _ _ (gives-tagged (λ t. eqb t 1) (gives-refine (λ t. leb t 1) fault.TimerByte byte (gives-number 1)) gives-timers))
+          (gives-iso _ _ _ _ _ _ (gives-tagged hasTimers (gives-refine (λ t. leb t 1) fault.TimerByte byte (gives-number 1)) gives-timers))
           (gives-cond (since 23 v) (gives-fixed 1 0 fault.ByteOf23 other (gives-nothing noTimers)) (gives-nothing noTimers)))
 
       pub gives-late : (v : ℕ) → P fault.TimerRowLength → FormatRefusedWith P (lateTimers v)

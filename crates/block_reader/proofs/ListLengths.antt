@@ -4,18 +4,18 @@ use mathlib.Core.Path.{_≡_, refl, ap, sym, subst, subst⁻¹, _∙_}
 use mathlib.Core.List.{List, [], _∷_, _++_}
 use mathlib.Core.Bool.{Bool, true, false, cond}
 use native.Mathlib.Omega.{arith}
-use lib.Dec.{leb, eqb}
+use lib.Dec.{leb}
 use lib.ListN.{length, take, drop, length-append}
 use lib.Seq.{drop-drop}
 use borrow.Author.Tests.{le-leb}
 use Rattle.wire.specs.Bytes.{Bytes, fromBE, toBE-length}
 use Rattle.wire.specs.Read.{Read, done, refused, mapRead, shift, not-done, map-done, bind-done, shift-done}
 use Rattle.wire.specs.Format.{run, nothing, refine, _⨾_, iso, items, encodeItems, readItems, pair, next}
-use Rattle.wire.specs.Formats.{number, behind, fixed, listed, only, tagged, into}
+use Rattle.wire.specs.Formats.{number, behind, fixed, listed, only, tagged}
 use Rattle.mapblock.specs.Inventory.{BlockFormat}
 use Rattle.wire.specs.Walk.{rowsRead}
 use Rattle.mapblock.specs.Data.{NameRow, MetadataList, ObjectRow, TimerRow, NameMapping, Timers, noTimers, nameMappingShape, timersShape}
-use Rattle.mapblock.specs.Layout.{since, before, all, nameRow, metadataRow, objectRow, timerRow, nameMapping, listVersionBytes, isCounted, listForm, metadata, objects, earlyTimers, lateTimers}
+use Rattle.mapblock.specs.Layout.{since, before, all, nameRow, metadataRow, objectRow, timerRow, nameMapping, listVersionBytes, isCounted, listForm, metadata, objects, timerByteField, hasTimers, timersOf24, earlyTimers, lateTimers}
 use Rattle.mapblock.specs.Table.{freeIn, unmarked, frontRows, NamesMarked}
 use Rattle.block_reader.specs.Scan.{metadataHead}
 use Rattle.mapblock.specs.declared.fault.Fault.{Fault}
@@ -132,10 +132,7 @@ objects-rows-length l = fixed-length 2 (λ _. objectRow) 1 0 fault.ObjectVersion
 -- ---- early timers
 -- the rows stand at the end of n bytes, behind the byte and the count
 abbrev pub AtEnd : Timers → ℕ → Type 0
-AtEnd k n = (length (encodeItems timerRow [] (k .rows)) ≡ n - cond (eqb (k .byte) 1) 3 n) × (cond (eqb (k .byte) 1) 3 n ≤ n)
-
-abbrev pub timersOf24 : BlockFormat Timers
-timersOf24 = into timersShape (tagged (refine (λ t. leb t 1) fault.TimerByte (number 1)) (λ t. eqb t 1) [] (listed 2 timerRow))
+AtEnd k n = (length (encodeItems timerRow [] (k .rows)) ≡ n - cond (hasTimers (k .byte)) 3 n) × (cond (hasTimers (k .byte)) 3 n ≤ n)
 
 abbrev pub earlyBy : Bool → Bool → Bool → BlockFormat Timers
 earlyBy a b c = only a noTimers (cond b timersOf24 (cond c (fixed 1 0 fault.ByteOf23 (nothing noTimers)) (nothing noTimers)))
@@ -146,8 +143,8 @@ rows-none k n h = subst⁻¹ (λ (x : Timers). AtEnd x n) h (omega arith, omega 
 rows-of-24 : (k : Timers) → timersOf24 .Ok k → AtEnd k (length (timersOf24 .encode k))
 unfolding iso _⨾_ refine nothing
 rows-of-24 k h =
-    let size = tagged-length 2 timerRow (refine (λ t. leb t 1) fault.TimerByte (number 1)) (λ t. eqb t 1) (k .byte) (k .rows) (h .1) in
-    subst⁻¹ (AtEnd k) (size ∙ rw (num-length 1 (k .byte))) (go (eqb (k .byte) 1) (h .1))
+    let size = tagged-length 2 timerRow timerByteField hasTimers (k .byte) (k .rows) (h .1) in
+    subst⁻¹ (AtEnd k) (size ∙ rw (num-length 1 (k .byte))) (go (hasTimers (k .byte)) (h .1))
   where
     go : (b : Bool) → only b [] (listed 2 timerRow) .Ok (k .rows) → let r = length (encodeItems timerRow [] (k .rows)) in let n = 1 + (cond b 2 0 + r) in
         (r ≡ n - cond b 3 n) × (cond b 3 n ≤ n)

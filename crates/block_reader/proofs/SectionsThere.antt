@@ -5,16 +5,15 @@ use mathlib.Core.List.{List, [], _++_, append-assoc, append-nil}
 use mathlib.Core.Bool.{Bool, true, false, cond, not}
 use native.Mathlib.Nat.{suc-mul, mul-comm, mul-le-mul-right}
 use native.Mathlib.Omega.{arith}
-use lib.Dec.{leb, eqb}
 use lib.ListN.{length, getD, take, drop, length-append, length-drop}
 use lib.Seq.{drop-at, take-append-seam, drop-drop}
 use Rattle.wire.specs.Bytes.{Bytes, fromBE}
 use Rattle.wire.specs.Read.{done}
 use Rattle.wire.specs.Format.{Parsed, nothing, refine, _⨾_, iso, items, encodeItems}
-use Rattle.wire.specs.Formats.{behind, fixed, listed, only, tagged, u8}
+use Rattle.wire.specs.Formats.{behind, fixed, listed, only, tagged}
 use Rattle.mapblock.specs.Inventory.{BlockFormat}
 use Rattle.mapblock.specs.Data.{Block, NameMapping, Timers, Nodes, MetadataList, ObjectRow, noMapping, noTimers}
-use Rattle.mapblock.specs.Layout.{since, before, all, width, nameRow, metadataRow, objectRow, timerRow, opening, nameMapping, nodes, isCounted, listForm, metadata, earlyTimers, objects, lateTimers, front, rest, steps}
+use Rattle.mapblock.specs.Layout.{since, before, all, width, nameRow, metadataRow, objectRow, timerRow, opening, nameMapping, nodes, isCounted, listForm, metadata, timerByteField, hasTimers, timersOf24, earlyTimers, objects, lateTimers, front, rest, steps}
 use Rattle.mapblock.specs.Block.{block, openingOf, nameMappingOf, metadataOf, timersOf, listsAt, frontNamesEnd, param0At, verdict}
 use Rattle.mapblock.specs.Params.{listsOf}
 use Rattle.wire.specs.Ranges.{rangeAt}
@@ -25,7 +24,7 @@ use Rattle.mapblock.specs.declared.fault.Fault.the-variants as fault
 use Rattle.wire.proofs.Steps.{number-done}
 use Rattle.mapblock.proofs.Readings.{num}
 use Rattle.mapblock.proofs.Entries.{entries-at, nodes-done}
-use Rattle.block_reader.proofs.ListLengths.{timersOf24, earlyBy}
+use Rattle.block_reader.proofs.ListLengths.{earlyBy}
 use Rattle.block_reader.proofs.ValidOk.{valid-is-ok}
 use Rattle.block_reader.proofs.Taken.{taken}
 
@@ -91,7 +90,7 @@ none-ending x k h = subst⁻¹ (λ (y : Timers). Ending x (encodeItems timerRow 
 
 ending-of-24 : (k : Timers) → timersOf24 .Ok k → Ending (timersOf24 .encode k) (encodeItems timerRow [] (k .rows))
 unfolding iso _⨾_
-ending-of-24 k h = tagged-ending 2 timerRow (refine (λ t. leb t 1) fault.TimerByte u8) (λ t. eqb t 1) (k .byte) (k .rows) (h .1)
+ending-of-24 k h = tagged-ending 2 timerRow timerByteField hasTimers (k .byte) (k .rows) (h .1)
 
 ending-by : (a b c : Bool) (k : Timers) → earlyBy a b c .Ok k → Ending (earlyBy a b c .encode k) (encodeItems timerRow [] (k .rows))
 unfolding nothing behind iso _⨾_
@@ -260,9 +259,9 @@ module _ (b : Block) where
     late = lateTimers v .encode (timersOf b);
   }
 
-  pub block-overwrite : block all .encode b ≡ whole pieces
+  pub block-pieces : block all .encode b ≡ whole pieces
   unfolding block iso steps front rest _⨾_
-  block-overwrite = rw (slot-first (since 29 v) (nameMapping all) (nameMappingOf b) noMapping, slot-second (since 29 v) (nameMapping all) (nameMappingOf b) noMapping, early-slot v (timersOf b), late-slot v (timersOf b))
+  block-pieces = rw (slot-first (since 29 v) (nameMapping all) (nameMappingOf b) noMapping, slot-second (since 29 v) (nameMapping all) (nameMappingOf b) noMapping, early-slot v (timersOf b), late-slot v (timersOf b))
 
   nodes-ok : block all .Ok b → nodes v .Ok (b .nodes)
   unfolding block iso steps front _⨾_
@@ -287,7 +286,7 @@ module _ (s : List ℕ) (b : Block) (n : ℕ) (w : Bytes s) (h : block all .read
   nodes-read : nodes version .read (drop (frontNamesEnd b) s) ≡ done (b .nodes) (length (nodes version .encode (b .nodes)))
   nodes-read =
       let behind = metadata version .encode (metadataOf b) ++ behindMetadata (pieces b) in
-      ap (λ (x : List ℕ). nodes version .read (drop (frontNamesEnd b) x)) (took .front ∙ ap (λ (x : List ℕ). x ++ drop n s) (block-overwrite b))
+      ap (λ (x : List ℕ). nodes version .read (drop (frontNamesEnd b) x)) (took .front ∙ ap (λ (x : List ℕ). x ++ drop n s) (block-pieces b))
       ∙ ap (nodes version .read) (nodes-lie (pieces b) (drop n s))
       ∙ nodes version .forward (b .nodes) (nodes-ok b (took .ok)) (behind ++ drop n s)
 
@@ -315,8 +314,8 @@ module _ (s : List ℕ) (b : Block) (n : ℕ) (w : Bytes s) (h : verdict all s �
   ok : block all .Ok b
   ok = valid-is-ok b .0 (taken s b n w .0 h .0) .0
 
-  bytes-overwrite : s ≡ whole (pieces b)
-  bytes-overwrite = taken s b n w .0 h .1 ∙ block-overwrite b
+  bytes-pieces : s ≡ whole (pieces b)
+  bytes-pieces = taken s b n w .0 h .1 ∙ block-pieces b
 
   rows-in : RowsIn (whole (pieces b)) b
   unfolding sections
@@ -329,4 +328,4 @@ module _ (s : List ℕ) (b : Block) (n : ℕ) (w : Bytes s) (h : verdict all s �
       }
 
 pub sections-are-rows : SectionsAreRows
-sections-are-rows s b n w h = subst⁻¹ (λ (x : List ℕ). RowsIn x b) (bytes-overwrite s b n w h) (rows-in s b n w h)
+sections-are-rows s b n w h = subst⁻¹ (λ (x : List ℕ). RowsIn x b) (bytes-pieces s b n w h) (rows-in s b n w h)

@@ -20,7 +20,7 @@ use Rattle.mapblock.specs.Block.{openingOf, nameMappingOf, metadataOf, timersOf
 use Rattle.mapblock.specs.Valid.{Has, Distinct, U8, U16, U32, NameGood, MetadataGood, ObjectGood, TimerGood, Rows, Entries, NodesGood, Valid}
 use Rattle.block_reader.specs.Theorems.{ValidIsOk}
 use Rattle.mapblock.specs.declared.fault.Fault.the-variants as fault
-use Rattle.mapblock.proofs.TaggedLists.{counted-is}
+use Rattle.mapblock.proofs.TaggedLists.{form-counted}
 use Rattle.mapblock.proofs.Firsts.{first-none, none-fails}
 use Rattle.mapblock.proofs.Entries.{width-old, width-new, width-range}
 use Rattle.mapblock.proofs.Keyed.{has-used, used-has, each-ok, rows-ok}
@@ -203,19 +203,19 @@ objects-ok l =
     ((λ h. let x = rows .0 (list .0 h) in record { count = x .0; each = x .1 }), λ g. list .1 (rows .1 (g .count, g .each)))
 
 -- ---- metadata
-list-version : (c d : Bool) → cond c 2 1 < 256 ^ cond d 1 2
-list-version true true = lit< tt
-list-version true false = lit< tt
-list-version false true = lit< tt
-list-version false false = lit< tt
+list-version-fits : (c d : Bool) → cond c 2 1 < 256 ^ cond d 1 2
+list-version-fits true true = lit< tt
+list-version-fits true false = lit< tt
+list-version-fits false true = lit< tt
+list-version-fits false false = lit< tt
 
 list-version-not-0 : (c : Bool) → eqb 0 (cond c 2 1) ≡ false
 list-version-not-0 true = refl
 list-version-not-0 false = refl
 
-zero-is : (d : Bool) → 0 < 256 ^ cond d 1 2
-zero-is true = lit< tt
-zero-is false = lit< tt
+zero-fits : (d : Bool) → 0 < 256 ^ cond d 1 2
+zero-fits true = lit< tt
+zero-fits false = lit< tt
 
 -- the forms that a version has
 pub form-ok : (v form : ℕ) → listForm v .Ok form ↔ ((form ≤ 1) × (v < 23 → form ≡ 0))
@@ -228,8 +228,8 @@ form-ok v form = (there form, back form)
     there (suc (suc f)) h = let e : 1 ≡ suc (suc f) = rw (ne-eqb (suc (suc f)) 0 (λ e. omega arith)) at (h .1) in absurd (omega arith)
 
     back : (f : ℕ) → (f ≤ 1) × (v < 23 → f ≡ 0) → listForm v .Ok f
-    back zero h = ((list-version (since 28 v) (since 23 v), rw (eq-eqb (listVersion v) (listVersion v) refl)), counted-is (since 28 v))
-    back (suc zero) h = ((zero-is (since 23 v), either 23 v (λ k. rw (le-leb 23 v k) (or-true (eqb 0 (listVersion v)))) (λ k. absurd (let e = h .1 k in omega arith))), refl)
+    back zero h = ((list-version-fits (since 28 v) (since 23 v), rw (eq-eqb (listVersion v) (listVersion v) refl)), form-counted v)
+    back (suc zero) h = ((zero-fits (since 23 v), either 23 v (λ k. rw (le-leb 23 v k) (or-true (eqb 0 (listVersion v)))) (λ k. absurd (let e = h .1 k in omega arith))), refl)
     back (suc (suc f)) h = absurd (let e = h .0 in omega arith)
 
 -- of a version

@@ -4,7 +4,7 @@ use mathlib.Core.Path.{_≡_, refl, ap, sym, subst, _∙_}
 use mathlib.Core.List.{List, []}
 use mathlib.Core.Bool.{Bool, true, false, cond}
 use native.Mathlib.Omega.{arith}
-use lib.Dec.{leb, eqb}
+use lib.Dec.{leb}
 use lib.ListN.{length, drop, length-append, length-drop}
 use borrow.Author.Tests.{le-leb, lt-leb, leb-true, leb-false}
 use Rattle.wire.specs.Bytes.{Bytes, bytes-drop}
@@ -12,7 +12,7 @@ use Rattle.wire.specs.Read.{done, map-done}
 use Rattle.wire.specs.Format.{nothing, _⨾_, iso, encodeItems, ends-in}
 use Rattle.wire.specs.Formats.{only, _▹_}
 use Rattle.mapblock.specs.Data.{Opening, NameMapping, Timers, Front, noMapping, noTimers}
-use Rattle.mapblock.specs.Layout.{since, all, unmapped, nameRow, metadataRow, objectRow, timerRow, opening, nameMapping, nodes, metadata, earlyTimers, objects, lateTimers, front}
+use Rattle.mapblock.specs.Layout.{since, all, unmapped, nameRow, metadataRow, objectRow, timerRow, opening, nameMapping, nodes, metadata, hasTimers, earlyTimers, objects, lateTimers, front}
 use Rattle.wire.specs.Ranges.{rangeAt}
 use Rattle.block_reader.specs.Sections.{sections, scannedOf}
 use Rattle.block_reader.specs.Scan.{FrontIs, MiddleIs, MiddleRows, middleShape, middle, metadataHead, earlyHead, withoutLateTimers, withLateTimersAt, ReadUpTo}
@@ -118,7 +118,7 @@ module _ (t u s : List ℕ) (w : FrontFields) (F : FrontIs t u s w) where
         let c : Bytes l = bytes-drop (p .0) (drop (w .end) s) (bytes-drop (w .end) s b) in
         let j : p .1 ≡ m .early = early-length v l (p .2) c ∙ sym (M .second) in
         let a : AtEnd (y .early) (m .early) = rw j at (early-rows v l (p .2) c) in
-        subst (λ (q : ℕ). (length (encodeItems timerRow [] (y .early .rows)) ≡ m .early - cond (eqb q 1) 3 (m .early)) × (cond (eqb q 1) 3 (m .early) ≤ m .early)) (M .timer) a
+        subst (λ (q : ℕ). (length (encodeItems timerRow [] (y .early .rows)) ≡ m .early - cond (hasTimers q) 3 (m .early)) × (cond (hasTimers q) 3 (m .early) ≤ m .early)) (M .timer) a
 
     pub early-fits : earlyHead m ≤ m .early
     early-fits = early-at-end .1

@@ -3,13 +3,12 @@ use Prim.Native.Nat.{ℕ, _+_, _-_, _*_, _≤_}
 use mathlib.Core.Path.{_≡_, refl}
 use mathlib.Core.List.{List}
 use mathlib.Core.Bool.{Bool, cond}
-use lib.Dec.{eqb}
 use lib.ListN.{length, drop}
 use Rattle.wire.specs.Read.{Read, done, refused, shift}
 use Rattle.wire.specs.Formats.{Shape, into, _▹_}
 use Rattle.mapblock.specs.Inventory.{BlockFormat}
 use Rattle.mapblock.specs.Data.{MetadataList, ObjectRow, Opening, Timers, Front, Block}
-use Rattle.mapblock.specs.Layout.{since, all, width, unmapped, opening, nameMapping, listVersionBytes, isCounted, metadata, earlyTimers, objects, lateTimers, front}
+use Rattle.mapblock.specs.Layout.{since, all, width, unmapped, opening, nameMapping, listVersionBytes, isCounted, metadata, hasTimers, earlyTimers, objects, lateTimers, front}
 use Rattle.mapblock.specs.Block.{block}
 use Rattle.mapblock.specs.Params.{listsOf}
 use Rattle.wire.specs.Ranges.{rangeAt, InReach}
@@ -99,7 +98,7 @@ abbrev pub metadataHead : ℕ → ℕ → ℕ
 metadataHead v form = listVersionBytes v + cond (isCounted form) 2 0
 
 abbrev pub earlyHead : MiddleFields → ℕ
-earlyHead m = cond (eqb (m .timer) 1) 3 (m .early)
+earlyHead m = cond (hasTimers (m .timer)) 3 (m .early)
 
 abbrev pub withoutLateTimers : FrontFields → MiddleFields → ℕ → Range → Scanned
 withoutLateTimers w m time names = record {

@@ -12,11 +12,10 @@ use Rattle.wire.specs.Format.{run, nothing, refine, _⨾_, iso, items, encodeIt
 use Rattle.wire.specs.Formats.{number, behind, fixed, listed, only, tagged}
 use Rattle.mapblock.specs.Inventory.{BlockFormat}
 use Rattle.mapblock.specs.Data.{NameRow, MetadataRow, ObjectRow, TimerRow, Nodes, Opening, NameMapping, MetadataList, Timers, noMapping, noTimers}
-use Rattle.mapblock.specs.Layout.{since, before, all, nameRow, metadataRow, objectRow, timerRow, opening, nameMapping, params, nodes, isCounted, listForm, metadata, objects, earlyTimers, lateTimers, front, rest, steps}
+use Rattle.mapblock.specs.Layout.{since, before, all, nameRow, metadataRow, objectRow, timerRow, opening, nameMapping, params, nodes, isCounted, listForm, metadata, objects, timerByteField, hasTimers, timersOf24, earlyTimers, lateTimers, front, rest, steps}
 use Rattle.mapblock.specs.Block.{block, openingOf, nameMappingOf, metadataOf, timersOf}
 use Rattle.mapblock.specs.declared.fault.Fault.{Fault}
 use Rattle.mapblock.specs.declared.fault.Fault.the-variants as fault
-use Rattle.block_reader.proofs.ListLengths.{timersOf24}
 use Rattle.block_writer.specs.BlockParts.{BlockParts, made}
 use Rattle.block_writer.specs.declared.counts.RowCounts.{RowCounts}
 use Rattle.block_writer.specs.Pieces.{listBytes, listIf, mappingBytes, nodesBytes, metadataBytes, earlyBytes, objectsBytes, lateBytes, blockBytes}
@@ -86,9 +85,9 @@ chosen v x y = go (leb 25 v) refl (leb 24 v) refl (leb 23 v) refl
     go false e false f true g = let h = leb-false 24 v f in let k = leb-true 23 v g in rw (e, f, g, ne-eqb v 24 (λ q. omega arith), eq-eqb v 23 (omega arith))
     go false e false f false g = let h = leb-false 23 v g in rw (e, f, g, ne-eqb v 24 (λ q. omega arith), ne-eqb v 23 (λ q. omega arith))
 
-bytes-of-24 : (x : Timers) → timersOf24 .encode x ≡ toBE 1 (x .byte) ++ listIf (eqb (x .byte) 1) (length (x .rows)) (encodeItems timerRow [] (x .rows))
+bytes-of-24 : (x : Timers) → timersOf24 .encode x ≡ toBE 1 (x .byte) ++ listIf (hasTimers (x .byte)) (length (x .rows)) (encodeItems timerRow [] (x .rows))
 unfolding iso refine number run
-bytes-of-24 x = tagged-bytes (refine (λ t. leb t 1) fault.TimerByte (number 1)) (λ t. eqb t 1) timerRow (x .byte) (x .rows)
+bytes-of-24 x = tagged-bytes timerByteField hasTimers timerRow (x .byte) (x .rows)
 
 abbrev zeroOf23 : BlockFormat Timers
 zeroOf23 = fixed 1 0 fault.ByteOf23 (nothing noTimers)
@@ -99,7 +98,7 @@ early-bytes v x =
     let below = cond (since 23 v) zeroOf23 (nothing noTimers) in
     only-there noTimers (cond (since 24 v) timersOf24 below) x (since 25 v)
     ∙ rw (cond-bytes (since 24 v) timersOf24 below x, cond-bytes (since 23 v) zeroOf23 (nothing noTimers) x, bytes-of-24 x)
-    (chosen v (toBE 1 (x .byte) ++ listIf (eqb (x .byte) 1) (length (x .rows)) (encodeItems timerRow [] (x .rows))) (toBE 1 0))
+    (chosen v (toBE 1 (x .byte) ++ listIf (hasTimers (x .byte)) (length (x .rows)) (encodeItems timerRow [] (x .rows))) (toBE 1 0))
 
 pub late-bytes : (v : ℕ) (x : Timers) → lateTimers v .encode (cond (since 25 v) x noTimers) ≡ lateBytes v (length (x .rows)) (encodeItems timerRow [] (x .rows))
 unfolding lateTimers behind listed iso _⨾_ refine nothing items number run

@@ -3,15 +3,15 @@ use Prim.Native.Nat.{ℕ}
 use mathlib.Core.Path.{_≡_, refl}
 use mathlib.Core.List.{List, []}
 use mathlib.Core.Bool.{Bool, true, false, cond}
-use lib.Dec.{leb, eqb}
+use lib.Dec.{leb}
 use Rattle.wire.specs.Answer.{isOneOf}
 use Rattle.wire.specs.Choice.{no-true}
-use Rattle.wire.specs.Format.{nothing, refine}
+use Rattle.wire.specs.Format.{nothing}
 use Rattle.wire.specs.Formats.{_▹_, constant, u8, u16, u32, prefixed, listed, behind, fixed, only, tagged, into}
 use Rattle.wire.proofs.Looser.{Looser, looser-self, looser-refine, looser-trans, looser-then, looser-iso, looser-cond, looser-listed}
 use Rattle.mapblock.specs.Inventory.{BlockFormat, inventory}
 use Rattle.mapblock.specs.Data.{NameRow, MetadataRow, TimerRow, NameMapping, MetadataList, Timers, noTimers, nameMappingShape, metadataListShape, timersShape}
-use Rattle.mapblock.specs.Layout.{since, before, all, unused, unmapped, position, newPosition, nameRow, variable, metadataRow, timerRow, nameMapping, isCounted, listForm, metadata, earlyTimers, lateTimers}
+use Rattle.mapblock.specs.Layout.{since, before, all, unused, unmapped, position, newPosition, nameRow, variable, metadataRow, timerRow, nameMapping, isCounted, listForm, metadata, hasTimers, timersOf24, earlyTimers, lateTimers}
 use Rattle.mapblock.specs.MetadataChecks.{variableFor, metadataRowFor}
 use Rattle.mapblock.specs.Numbers.{refusalNumber}
 use Rattle.mapblock.specs.declared.fault.Fault.{Fault}
@@ -74,7 +74,7 @@ metadataListFrame v = into metadataListShape (tagged (listForm v) isCounted [] (
 -- the timer byte may have any value
 abbrev pub earlyFrame : ℕ → BlockFormat Timers
 earlyFrame v = only (before 25 v) noTimers
-    (cond (since 24 v) (into timersShape (tagged u8 (λ t. eqb t 1) [] (listed 2 λ _. timerFrame)))
+    (cond (since 24 v) (into timersShape (tagged u8 hasTimers [] (listed 2 λ _. timerFrame)))
     (cond (since 23 v) (fixed 1 0 fault.ByteOf23 (nothing noTimers))
     (nothing noTimers)))
 
@@ -105,8 +105,8 @@ metadata-list-looser v =
 timers-looser : Looser ValueFault (listed 2 timerRow) (listed 2 λ _. timerFrame)
 timers-looser = looser-listed timerRow (λ _. timerFrame) timer-looser 2
 
-early-24-looser : Looser ValueFault (into timersShape (tagged (refine (λ t. leb t 1) fault.TimerByte u8) (λ t. eqb t 1) [] (listed 2 timerRow))) (into timersShape (tagged u8 (λ t. eqb t 1) [] (listed 2 λ _. timerFrame)))
-early-24-looser = looser-iso _ _ _ _ _ _ (looser-tagged (λ t. eqb t 1) (looser-refine (λ t. leb t 1) fault.TimerByte u8 refl) timers-looser) _ _ _ _
+early-24-looser : Looser ValueFault timersOf24 (into timersShape (tagged u8 hasTimers [] (listed 2 λ _. timerFrame)))
+early-24-looser = looser-iso _ _ _ _ _ _ (looser-tagged hasTimers (looser-refine (λ t. leb t 1) fault.TimerByte u8 refl) timers-looser) _ _ _ _
 
 pub early-looser : (v : ℕ) → Looser ValueFault (earlyTimers v) (earlyFrame v)
 unfolding earlyTimers

@@ -3,7 +3,7 @@ use Prim.Native.Nat.{ℕ, _+_, _<_, _≤_}
 use mathlib.Core.Path.{_≡_, refl, ap, _∙_}
 use mathlib.Core.List.{List, [], _++_}
 use native.Mathlib.Omega.{arith}
-use lib.Dec.{ltb, eqb}
+use lib.Dec.{ltb}
 use lib.ListN.{length}
 use borrow.Author.Tests.{le-leb, lt-leb, ltb-true, ltb-false, ne-eqb}
 use Rattle.wire.proofs.Tests.{same-test}
@@ -11,7 +11,7 @@ use Rattle.wire.specs.Bytes.{toBE}
 use Rattle.wire.specs.Store.{stored, PutAt}
 use Rattle.wire.specs.Formats.{number}
 use Rattle.wire.specs.Told.{short}
-use Rattle.mapblock.specs.Layout.{before, width}
+use Rattle.mapblock.specs.Layout.{before, width, hasTimers}
 use Rattle.mapblock.specs.declared.head.Head.{Head}
 use Rattle.block_writer.specs.Pieces.{openingBytes, listIf, earlyBytes}
 use Rattle.wire.proofs.Puts.{put-number, put-two}
@@ -37,7 +37,7 @@ module _ (h : Head) (d a b : List ℕ) (room : length (openingBytes h) ≤ lengt
 
 -- ---- what follows the metadata
 module _ (v t count : ℕ) (rows : List ℕ) where
-  pub early-24 : v ≡ 24 → earlyBytes v t count rows ≡ toBE 1 t ++ listIf (eqb t 1) count rows
+  pub early-24 : v ≡ 24 → earlyBytes v t count rows ≡ toBE 1 t ++ listIf (hasTimers t) count rows
   early-24 h = rw h
 
   pub early-23 : v ≡ 23 → earlyBytes v t count rows ≡ toBE 1 0

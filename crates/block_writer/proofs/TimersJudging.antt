@@ -4,7 +4,7 @@ use mathlib.Core.Path.{_≡_, refl, ap, sym, _∙_}
 use mathlib.Core.List.{List, []}
 use mathlib.Core.Bool.{Bool, true, false, cond}
 use native.Mathlib.Omega.{arith}
-use lib.Dec.{leb, eqb, lit<}
+use lib.Dec.{leb, lit<}
 use lib.ListN.{length}
 use borrow.Author.Tests.{eqb-false, le-leb, lt-leb, leb-false, leb-true}
 use Rattle.wire.specs.Bytes.{Bytes}
@@ -15,7 +15,7 @@ use Rattle.wire.proofs.EveryFormat.{every-format}
 use Rattle.wire.proofs.Looser.{Settled, settled, settled-ok, looser-refine}
 use Rattle.mapblock.specs.Inventory.{BlockFormat}
 use Rattle.mapblock.specs.Data.{TimerRow, noTimers, timersShape}
-use Rattle.mapblock.specs.Layout.{since, timerRow, earlyTimers, lateTimers}
+use Rattle.mapblock.specs.Layout.{since, timerRow, timerByteField, hasTimers, earlyTimers, lateTimers}
 use Rattle.mapblock.specs.Told.{ended}
 use Rattle.mapblock.specs.declared.fault.Fault.{Fault}
 use Rattle.mapblock.specs.declared.fault.Fault.the-variants as fault
@@ -31,37 +31,34 @@ use Rattle.block_writer.proofs.RowsJudging.{no-rows, rows-where}
 use Rattle.block_writer.proofs.PiecesJudging.{shift-none, verdictOn-ok, verdictOn-into, verdictOn-fixed, judged-on, tagged-refused, tagged-alone, tagged-list}
 
 -- ---- version 24
-abbrev byte : BlockFormat ℕ
-byte = refine (λ t. leb t 1) fault.TimerByte u8
-
 abbrev rows : BlockFormat (List TimerRow)
 rows = listed 2 timerRow
 
-byte-settled : (t : ℕ) → t < 256 → Settled byte t
+byte-settled : (t : ℕ) → t < 256 → Settled timerByteField t
 unfolding number iso
 byte-settled t h = settled {Dropped = ValueFault} (looser-refine (λ t. leb t 1) fault.TimerByte u8 refl) t h not-ends
 
-byte-good : (t : ℕ) → t ≤ 1 → done tt 1 ≡ verdictOn byte t
+byte-good : (t : ℕ) → t ≤ 1 → done tt 1 ≡ verdictOn timerByteField t
 unfolding refine number iso run
-byte-good t h = sym (verdictOn-ok byte t (omega arith, le-leb t 1 h))
+byte-good t h = sym (verdictOn-ok timerByteField t (omega arith, le-leb t 1 h))
 
-byte-above : (t : ℕ) → t < 256 → 1 < t → refused fault.TimerByte 0 ≡ verdictOn byte t
+byte-above : (t : ℕ) → t < 256 → 1 < t → refused fault.TimerByte 0 ≡ verdictOn timerByteField t
 unfolding refine number iso run
 byte-above t h k = sym (ap (λ (r : Read Fault ℕ). ended (bind r (tested (λ t. leb t 1) fault.TimerByte))) (every-format (u8 {ends = fault.Ends}) .reads-back t h) ∙ rw (lt-leb t 1 k))
 
 module _ (t : ℕ) (l : List TimerRow) where
-  both : verdictOn (tagged byte (λ t. eqb t 1) [] rows) (t, l) ≡ verdictOn (earlyTimers 24) (record { byte = t; rows = l })
+  both : verdictOn (tagged timerByteField hasTimers [] rows) (t, l) ≡ verdictOn (earlyTimers 24) (record { byte = t; rows = l })
   unfolding earlyTimers
-  both = sym (verdictOn-into timersShape (tagged byte (λ t. eqb t 1) [] rows) (record { byte = t; rows = l }))
+  both = sym (verdictOn-into timersShape (tagged timerByteField hasTimers [] rows) (record { byte = t; rows = l }))
 
   pub early-above : t < 256 → 1 < t → refused fault.TimerByte 0 ≡ verdictOn (earlyTimers 24) (record { byte = t; rows = l })
-  early-above h k = tagged-refused byte (λ t. eqb t 1) rows t l (byte-settled t h) (byte-above t h k) ∙ both
+  early-above h k = tagged-refused timerByteField hasTimers rows t l (byte-settled t h) (byte-above t h k) ∙ both
 
   pub early-zero : t ≡ 0 → done tt 1 ≡ verdictOn (earlyTimers 24) (record { byte = t; rows = l })
-  early-zero e = tagged-alone byte (λ t. eqb t 1) rows t l (byte-settled t (omega arith)) (byte-good t (omega arith)) (rw e) ∙ both
+  early-zero e = tagged-alone timerByteField hasTimers rows t l (byte-settled t (omega arith)) (byte-good t (omega arith)) (rw e) ∙ both
 
   pub early-one : {r : Read Fault (Unit {0})} → t ≡ 1 → r ≡ verdictOn (listed 2 timerRow) l → shift 1 (λ u. u) r ≡ verdictOn (earlyTimers 24) (record { byte = t; rows = l })
-  early-one e h = tagged-list byte (λ t. eqb t 1) rows t l (byte-settled t (omega arith)) (byte-good t (omega arith)) (rw e) h ∙ both
+  early-one e h = tagged-list timerByteField hasTimers rows t l (byte-settled t (omega arith)) (byte-good t (omega arith)) (rw e) h ∙ both
 
 -- ---- other versions
 noTimers-on : (h : Head) {l : List TimerRow} → h .timer ≡ 0 → l ≡ [] → timersOn h l ≡ noTimers
@@ -96,7 +93,7 @@ noTimers-ok v h = rw (lt-leb 25 v (omega arith), lt-leb 24 v h) (go (since 23 v)
 frame-24 : (h : Head) {s : List ℕ} {count : ℕ} {l : List TimerRow} → Bytes s → Rows timerFrame s count l → h .timer < 256 → ((h .timer ≡ 1 → ⊥) → length s ≡ 0)
     → earlyFrame 24 .Ok (timersOn h l)
 unfolding iso _⨾_ number
-frame-24 h b w k n = (k, rows-where timerFrame b w (eqb (h .timer) 1) (λ e. n (eqb-false (h .timer) 1 e)))
+frame-24 h b w k n = (k, rows-where timerFrame b w (hasTimers (h .timer)) (λ e. n (eqb-false (h .timer) 1 e)))
 
 module _ (h : Head) {s : List ℕ} {count : ℕ} {l : List TimerRow} (b : Bytes s) (w : Rows timerFrame s count l) (c : headFits h ≡ true) where
   pub early-of-24 : {r : Read Fault (Unit {0})} → h .version ≡ 24 → r ≡ verdictOn (earlyTimers 24) (timersOn h l) → r ≡ verdictOn (earlyTimers (h .version)) (timersEarly h l)

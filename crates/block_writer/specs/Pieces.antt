@@ -7,7 +7,7 @@ use lib.Dec.{eqb}
 use Rattle.wire.specs.Bytes.{toBE}
 use Rattle.wire.specs.Format.{encodeItems}
 use Rattle.wire.specs.Formats.{number}
-use Rattle.mapblock.specs.Layout.{since, before, width, listVersionBytes, isCounted, listVersionOf}
+use Rattle.mapblock.specs.Layout.{since, before, width, listVersionBytes, isCounted, listVersionOf, hasTimers}
 use Rattle.mapblock.specs.declared.head.Head.{Head}
 use Rattle.mapblock.specs.declared.fault.Fault.the-variants as fault
 use Rattle.block_writer.specs.declared.counts.RowCounts.{RowCounts}
@@ -38,7 +38,7 @@ metadataBytes v form count rows = toBE (listVersionBytes v) (listVersionOf v for
 
 abbrev pub earlyBytes : ℕ → ℕ → ℕ → List ℕ → List ℕ
 earlyBytes v timer count rows =
-    cond (eqb v 24) (toBE 1 timer ++ listIf (eqb timer 1) count rows)
+    cond (eqb v 24) (toBE 1 timer ++ listIf (hasTimers timer) count rows)
     (cond (eqb v 23) (toBE 1 0) [])
 
 abbrev pub objectsBytes : ℕ → List ℕ → List ℕ

@@ -3,7 +3,7 @@
 use Prim.Native.Nat.{ℕ, _+_, _-_, _<_, _≤_}
 use mathlib.Core.Path.{_≡_, refl, ap, sym, _∙_}
 use mathlib.Core.List.{List, []}
-use mathlib.Core.Bool.{Bool, true, false, cond, or-true, _&&_}
+use mathlib.Core.Bool.{Bool, true, false, cond, or-true}
 use native.Mathlib.Nat.{add-zero}
 use native.Mathlib.Omega.{arith}
 use lib.Dec.{leb, eqb}
@@ -17,7 +17,7 @@ use Rattle.wire.proofs.Lists.{rest-is}
 use Rattle.wire.proofs.Tests.{and-yes}
 use Rattle.mapblock.specs.Inventory.{BlockFormat}
 use Rattle.mapblock.specs.Data.{MetadataRow, TimerRow, noTimers, metadataListShape, timersShape}
-use Rattle.mapblock.specs.Layout.{since, metadataRow, timerRow, listVersionBytes, listVersion, isListVersion, listCounted, isCounted, listZero, formOf, listForm, metadata, earlyTimers}
+use Rattle.mapblock.specs.Layout.{since, metadataRow, timerRow, listVersionBytes, listVersion, isZeroForm, isListVersion, listCounted, isCounted, listZero, formOf, listForm, metadata, timerByteField, hasTimers, earlyTimers}
 use Rattle.mapblock.specs.Told.{toldReach, ended, listFormIn, timerByte}
 use Rattle.mapblock.specs.declared.fault.Fault.{Fault}
 use Rattle.mapblock.specs.declared.fault.Fault.the-variants as fault
@@ -74,9 +74,12 @@ list-version-bytes-most v = go (since 23 v)
     go true = omega arith
     go false = omega arith
 
-pub counted-is : (c : Bool) → formOf (cond c 2 1) ≡ listCounted
-counted-is true = refl
-counted-is false = refl
+pub form-counted : (v : ℕ) → formOf (listVersion v) ≡ listCounted
+form-counted v = go (since 28 v)
+  where
+    go : (c : Bool) → formOf (cond c 2 1) ≡ listCounted
+    go true = refl
+    go false = refl
 
 module _ (v : ℕ) (s : List ℕ) where
   abbrev k : ℕ
@@ -105,48 +108,45 @@ module _ (v : ℕ) (s : List ℕ) where
     pub metadata-counted : x ≡ listVersion v → shift k (λ _. listCounted) (rows .read (drop k s)) ≡ mapRead listFormIn (metadata v .read s)
     unfolding metadata
     metadata-counted e =
-        let form = form-is (h ∙ ap (λ (n : ℕ). done n k) e) (rw (eq-eqb (listVersion v) (listVersion v) refl)) ∙ ap (λ (n : ℕ). done n k) (counted-is (since 28 v)) in
+        let form = form-is (h ∙ ap (λ (n : ℕ). done n k) e) (rw (eq-eqb (listVersion v) (listVersion v) refl)) ∙ ap (λ (n : ℕ). done n k) (form-counted v) in
         tag-list metadataListShape listFormIn (λ t l. refl) (listForm v) isCounted rows s form refl
 
-    pub metadata-zero : (eqb x 0 && since 23 v) ≡ true → done listZero k ≡ mapRead listFormIn (metadata v .read s)
+    pub metadata-zero : isZeroForm v x ≡ true → done listZero k ≡ mapRead listFormIn (metadata v .read s)
     unfolding metadata
     metadata-zero t =
         let e : x ≡ 0 = eqb-true x 0 (and-yes (eqb x 0) (since 23 v) t .0) in
         let form = form-is h (rw t (or-true (eqb x (listVersion v)))) ∙ ap (λ (n : ℕ). done (formOf n) k) e in
         tag-alone metadataListShape listFormIn (λ t l. refl) (listForm v) isCounted rows s form refl
 
-    pub metadata-other : (x ≡ listVersion v → ⊥) → (eqb x 0 && since 23 v) ≡ false → refused fault.MetadataVersion 0 ≡ mapRead listFormIn (metadata v .read s)
+    pub metadata-other : (x ≡ listVersion v → ⊥) → isZeroForm v x ≡ false → refused fault.MetadataVersion 0 ≡ mapRead listFormIn (metadata v .read s)
     unfolding metadata
     metadata-other n t = tag-refused metadataListShape listFormIn (λ t l. refl) (listForm v) isCounted rows s (form-other h (rw (ne-eqb x (listVersion v) n) t))
 
 -- ---- what follows the metadata, by its byte
-abbrev byteOf24 : BlockFormat ℕ
-byteOf24 = refine (λ t. leb t 1) fault.TimerByte u8
-
 module _ (s : List ℕ) where
   abbrev timerRows : BlockFormat (List TimerRow)
   timerRows = listed 2 timerRow
 
   pub early-refused : {e : Fault} {p : ℕ} → u8 {ends = fault.Ends} .read s ≡ refused e p → refused e p ≡ mapRead timerByte (earlyTimers 24 .read s)
   unfolding earlyTimers refine
-  early-refused h = tag-refused timersShape timerByte (λ t l. refl) byteOf24 (λ t. eqb t 1) timerRows s (rw h)
+  early-refused h = tag-refused timersShape timerByte (λ t l. refl) timerByteField hasTimers timerRows s (rw h)
 
   module _ {b : ℕ} (h : u8 {ends = fault.Ends} .read s ≡ done b 1) where
     pub early-above : 1 < b → refused fault.TimerByte 0 ≡ mapRead timerByte (earlyTimers 24 .read s)
     unfolding earlyTimers refine
-    early-above k = tag-refused timersShape timerByte (λ t l. refl) byteOf24 (λ t. eqb t 1) timerRows s (rw (h, lt-leb b 1 k))
+    early-above k = tag-refused timersShape timerByte (λ t l. refl) timerByteField hasTimers timerRows s (rw (h, lt-leb b 1 k))
 
-    byte-is : {t : ℕ} → b ≡ t → leb t 1 ≡ true → byteOf24 .read s ≡ done t 1
+    byte-is : {t : ℕ} → b ≡ t → leb t 1 ≡ true → timerByteField .read s ≡ done t 1
     unfolding refine
     byte-is k e = rw (h, k, e)
 
     pub early-none : b ≡ 0 → done 0 1 ≡ mapRead timerByte (earlyTimers 24 .read s)
     unfolding earlyTimers refine
-    early-none k = tag-alone timersShape timerByte (λ t l. refl) byteOf24 (λ t. eqb t 1) timerRows s (byte-is k refl) refl
+    early-none k = tag-alone timersShape timerByte (λ t l. refl) timerByteField hasTimers timerRows s (byte-is k refl) refl
 
     pub early-some : b ≡ 1 → shift 1 (λ _. 1) (timerRows .read (drop 1 s)) ≡ mapRead timerByte (earlyTimers 24 .read s)
     unfolding earlyTimers refine
-    early-some k = tag-list timersShape timerByte (λ t l. refl) byteOf24 (λ t. eqb t 1) timerRows s (byte-is k refl) refl
+    early-some k = tag-list timersShape timerByte (λ t l. refl) timerByteField hasTimers timerRows s (byte-is k refl) refl
 
   -- in version 23
   pub byte-refused : {e : Fault} {p : ℕ} → u8 {ends = fault.Ends} .read s ≡ refused e p → refused e p ≡ mapRead timerByte (earlyTimers 23 .read s)

@@ -112,8 +112,11 @@ abbrev pub listVersion : ℕ → ℕ
 listVersion v = cond (since 28 v) 2 1
 
 -- Document 02, item 3: "From version 23 on, list version 0 means an empty list with no count."
+abbrev pub isZeroForm : ℕ → ℕ → Bool
+isZeroForm v n = eqb n 0 && since 23 v
+
 abbrev pub isListVersion : ℕ → ℕ → Bool
-isListVersion v n = eqb n (listVersion v) || (eqb n 0 && since 23 v)
+isListVersion v n = eqb n (listVersion v) || isZeroForm v n
 
 -- "the head carries which of the two forms was read, counted or 0"
 abbrev pub listCounted : ℕ
@@ -155,10 +158,20 @@ metadata v = into metadataListShape (tagged (listForm v) isCounted [] (listed 2 
 unfoldable pub objects : BlockFormat (List ObjectRow)
 objects = fixed 1 0 fault.ObjectVersion (listed 2 λ _. objectRow)
 
--- behind the metadata: version 24's timer byte and rows, version 23's 0, else nothing
+-- version 24's timer byte, and the rows that it has where it is 1
+abbrev pub timerByteField : BlockFormat ℕ
+timerByteField = refine (λ t. leb t 1) fault.TimerByte u8
+
+abbrev pub hasTimers : ℕ → Bool
+hasTimers byte = eqb byte 1
+
+abbrev pub timersOf24 : BlockFormat Timers
+timersOf24 = into timersShape (tagged timerByteField hasTimers [] (listed 2 timerRow))
+
+-- behind the metadata: version 24's timers, version 23's 0, else nothing
 unfoldable pub earlyTimers : ℕ → BlockFormat Timers
 earlyTimers v = only (before 25 v) noTimers
-    (cond (since 24 v) (into timersShape (tagged (refine (λ t. leb t 1) fault.TimerByte u8) (λ t. eqb t 1) [] (listed 2 timerRow)))
+    (cond (since 24 v) timersOf24
     (cond (since 23 v) (fixed 1 0 fault.ByteOf23 (nothing noTimers))
     (nothing noTimers)))
 

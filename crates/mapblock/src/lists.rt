@@ -11,15 +11,13 @@ use wire::fields::U16;
 use wire::fields::u8_at;
 use wire::fields::u16_at;
 ghost use mathlib.Core.Path.{_≡_};
-ghost use mathlib.Core.Bool.{_&&_};
 ghost use Prim.Native.Nat.{_≤_};
-ghost use lib.Dec.{eqb};
 ghost use lib.ListN.{length, drop};
 ghost use Rattle.wire.specs.Read.{mapRead, shift};
 ghost use Rattle.wire.specs.Formats.{number, fixed, listed};
 ghost use Rattle.wire.specs.Told.{short, toldU16In};
 ghost use Rattle.mapblock.specs.ListKinds.{rowAfter};
-ghost use Rattle.mapblock.specs.Layout.{since, listVersionBytes, listVersion, metadata, objects, earlyTimers, lateTimers};
+ghost use Rattle.mapblock.specs.Layout.{listVersionBytes, listVersion, isZeroForm, metadata, objects, earlyTimers, lateTimers};
 ghost use Rattle.mapblock.specs.Told.{toldReach, ended, toldTagged, listFormIn, timerByte};
 
 // The bytes before the rows of such a list: a byte and a count.
@@ -102,7 +100,7 @@ fn list_version_at(version: u8, s: &[u8]) -> U16
 
 // Tells whether a list version stands for a list of none, without a count.
 fn is_zero_form(version: u8, v: u16) -> bool
-    ensures { λ r. ⌜ r ≡ (eqb v 0 && since 23 version) ⌝ }
+    ensures { λ r. ⌜ r ≡ isZeroForm version v ⌝ }
 {
     (v == 0) & (23 <= version)
 }

@@ -4,10 +4,10 @@ use mathlib.Core.Path.{_≡_}
 use mathlib.Core.List.{List, _++_}
 use native.Mathlib.Omega.{arith}
 use denote.Ref.{now}
-use lib.Dec.{eqb}
 use lib.ListN.{length}
 use Rattle.wire.specs.Bytes.{toBE}
 use Rattle.wire.specs.Store.{PutAt}
+use Rattle.mapblock.specs.Layout.{hasTimers}
 use Rattle.block_writer.specs.Pieces.{listIf, earlyBytes}
 use Rattle.wire.proofs.Puts.{put-nothing, put-number, put-room, put-two}
 use Rattle.block_writer.proofs.PutPieces.{early-24, early-23, early-none}
@@ -19,7 +19,7 @@ abbrev bytes : tie.Start → List ℕ
 bytes s = let a = s .args in earlyBytes (a .head .version) (a .head .timer) (a .count) (now (a .rows))
 
 abbrev timers : tie.Start → List ℕ
-timers s = let a = s .args in listIf (eqb (a .head .timer) 1) (a .count) (now (a .rows))
+timers s = let a = s .args in listIf (hasTimers (a .head .timer)) (a .count) (now (a .rows))
 
 of-24 : (c : tie.Then1) → let s = c .before .before .before .before in bytes s ≡ toBE 1 (s .args .head .timer) ++ timers s
 of-24 c = let a = c .before .before .before .before .args in early-24 (a .head .version) (a .head .timer) (a .count) (now (a .rows)) (c .if1 .taken)
