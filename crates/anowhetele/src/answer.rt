@@ -7,7 +7,7 @@ use crate::numbers::DONE;
 use mapblock::fault::{Fault, refusal_number};
 
 #[repr(C)]
-#[derive(Drop)]
+#[derive(Clone, Copy)]
 pub struct AnowAnswer {
     pub number: u32,
     // The record of a sheet.

@@ -12,7 +12,7 @@ use wire::ranges::{NO_RANGE, Range};
 
 // The sections lie as four ranges, one after the other.
 #[repr(C)]
-#[derive(Drop)]
+#[derive(Clone, Copy)]
 pub struct AnowBlock {
     pub answer: AnowAnswer,
     pub head: Head,
@@ -69,7 +69,7 @@ pub extern "C" fn anow_sections(block: &[u8]) -> AnowBlock
 }
 
 #[repr(C)]
-#[derive(Drop)]
+#[derive(Clone, Copy)]
 pub struct AnowNode {
     pub answer: AnowAnswer,
     pub name: Range,

@@ -1,4 +1,6 @@
 // The library's face for a host: functions that C can call. Each promises the same definition as the operation behind it.
+#![tactic(auto)]
+
 pub mod answer;
 pub mod blocks;
 pub mod light;

@@ -9,14 +9,14 @@ use position::lot::Lot;
 use position::span::Span;
 
 #[repr(C)]
-#[derive(Drop)]
+#[derive(Clone, Copy)]
 pub struct AnowKey {
     pub number: u32,
     pub key: i64,
 }
 
 #[repr(C)]
-#[derive(Drop)]
+#[derive(Clone, Copy)]
 pub struct AnowCoordinates {
     pub number: u32,
     pub x: i32,
@@ -25,7 +25,7 @@ pub struct AnowCoordinates {
 }
 
 #[repr(C)]
-#[derive(Drop)]
+#[derive(Clone, Copy)]
 pub struct AnowInside {
     pub number: u32,
     pub inside: u32,

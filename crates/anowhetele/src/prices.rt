@@ -19,7 +19,7 @@ use pricing::sheet_price::price_sheet;
 use rates::check::{RatesAnswer, check_rates};
 
 #[repr(C)]
-#[derive(Drop)]
+#[derive(Clone, Copy)]
 pub struct AnowBill {
     pub answer: AnowAnswer,
     pub total: u64,

@@ -13,7 +13,7 @@ use wire::ranges::{NO_RANGE, Range};
 
 // ---- names
 #[repr(C)]
-#[derive(Drop)]
+#[derive(Clone, Copy)]
 pub struct AnowNameRow {
     pub answer: AnowAnswer,
     pub id: u32,
@@ -52,7 +52,7 @@ pub extern "C" fn anow_row_name(section: &[u8]) -> AnowNameRow
 
 // ---- metadata
 #[repr(C)]
-#[derive(Drop)]
+#[derive(Clone, Copy)]
 pub struct AnowMetadataRow {
     pub answer: AnowAnswer,
     pub position: u32,
@@ -105,7 +105,7 @@ pub extern "C" fn anow_row_metadata(version: u8, section: &[u8]) -> AnowMetadata
 
 // ---- static objects
 #[repr(C)]
-#[derive(Drop)]
+#[derive(Clone, Copy)]
 pub struct AnowObjectRow {
     pub answer: AnowAnswer,
     pub kind: u32,
@@ -153,7 +153,7 @@ pub extern "C" fn anow_row_object(section: &[u8]) -> AnowObjectRow
 
 // ---- timers
 #[repr(C)]
-#[derive(Drop)]
+#[derive(Clone, Copy)]
 pub struct AnowTimerRow {
     pub answer: AnowAnswer,
     pub position: u32,

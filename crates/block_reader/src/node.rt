@@ -49,7 +49,7 @@ fn find(names: &[u8], start: usize, id: usize) -> Range
 }
 
 // What is answered when the name of a node is asked.
-#[derive(Drop)]
+#[derive(Clone, Copy)]
 pub enum NodeNameAnswer {
     // Where the node's name stands in the block.
     Name(Range),

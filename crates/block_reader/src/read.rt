@@ -26,7 +26,7 @@ pub(crate) fn judge(block: &[u8]) -> ScanRead
 
 // ---- the reader
 // What the reader answers.
-#[derive(Drop)]
+#[derive(Clone, Copy)]
 pub enum ReadAnswer {
     Block { head: Head, sections: Sections },
     // A lent list is not of 4,096.
@@ -117,7 +117,7 @@ pub fn read(block: &[u8], param0: &mut [u16], param1: &mut [u8], param2: &mut [u
 
 // ---- the sections
 // What is answered when the sections of a block are asked.
-#[derive(Drop)]
+#[derive(Clone, Copy)]
 pub enum SectionsAnswer {
     Block { head: Head, sections: Sections },
     Refused { fault: Fault, offset: usize },

@@ -18,7 +18,7 @@ use wire::ranges::slice_of;
 
 // ---- names
 // What is answered when a row of names is asked.
-#[derive(Drop)]
+#[derive(Clone, Copy)]
 pub enum NameRowAnswer {
     // The row and its length.
     Row { row: NameFields, length: usize },
@@ -63,7 +63,7 @@ pub fn behind_name_row(rows: &[u8]) -> &[u8]
 
 // ---- metadata
 // What is answered when a row of metadata is asked.
-#[derive(Drop)]
+#[derive(Clone, Copy)]
 pub enum MetadataRowAnswer {
     Row { row: MetadataFields, length: usize },
     NoSuchRow,
@@ -136,7 +136,7 @@ pub fn behind_metadata_row(version: u8, rows: &[u8]) -> &[u8]
 
 // ---- static objects
 // What is answered when a row of static objects is asked.
-#[derive(Drop)]
+#[derive(Clone, Copy)]
 pub enum ObjectRowAnswer {
     Row { row: ObjectFields, length: usize },
     NoSuchRow,
@@ -180,7 +180,7 @@ pub fn behind_object_row(rows: &[u8]) -> &[u8]
 
 // ---- timers
 // What is answered when a row of timers is asked.
-#[derive(Drop)]
+#[derive(Clone, Copy)]
 pub enum TimerRowAnswer {
     Row { row: TimerFields, length: usize },
     NoSuchRow,

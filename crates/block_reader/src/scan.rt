@@ -35,7 +35,7 @@ const BESIDE_NAMES_LENGTH: usize = OPENING_LENGTH + WIDTHS_LENGTH;
 const NAME_ROWS_AT: usize = OPENING_LENGTH + NAMES_HEAD_LENGTH;
 
 // The fields of step 1.
-#[derive(Drop)]
+#[derive(Clone, Copy)]
 pub struct OpeningFields {
     pub version: u8,
     pub flags: u8,
@@ -43,7 +43,7 @@ pub struct OpeningFields {
 }
 
 // Step 1 and where it ends, or the fault and its place.
-#[derive(Drop)]
+#[derive(Clone, Copy)]
 pub enum OpeningRead {
     Fields {
         fields: OpeningFields,
@@ -106,7 +106,7 @@ fn opening(s: &[u8]) -> OpeningRead
 
 // What is read up to the end of the node data. Version 29's names stand in front, with their timestamp and number;
 // `lists` is where the param lists start.
-#[derive(Drop)]
+#[derive(Clone, Copy)]
 pub struct FrontFields {
     pub version: u8,
     pub flags: u8,
@@ -118,7 +118,7 @@ pub struct FrontFields {
 }
 
 // The front, or the fault and its place.
-#[derive(Drop)]
+#[derive(Clone, Copy)]
 pub enum FrontRead {
     Fields(FrontFields),
     Refused { fault: Fault, offset: usize },
@@ -200,7 +200,7 @@ fn front(s: &[u8], ids: &mut [u8; IDS]) -> FrontRead
 
 // ---- the rest: metadata, timers, static objects, the names before version 29
 // The lengths of the lists up to the static objects, the form of the metadata, and the timer byte.
-#[derive(Drop)]
+#[derive(Clone, Copy)]
 pub struct MiddleFields {
     pub metadata: usize,
     pub early: usize,
@@ -210,7 +210,7 @@ pub struct MiddleFields {
 }
 
 // Those lists, or the fault and its place.
-#[derive(Drop)]
+#[derive(Clone, Copy)]
 pub enum MiddleRead {
     Lists(MiddleFields),
     Refused { fault: Fault, offset: usize },
@@ -251,7 +251,7 @@ fn middle(version: u8, s: &[u8]) -> MiddleRead
 }
 
 // What a block's scan finds: the head, where the param lists start, and the sections.
-#[derive(Drop)]
+#[derive(Clone, Copy)]
 pub struct Scanned {
     pub head: Head,
     pub lists: usize,
@@ -259,7 +259,7 @@ pub struct Scanned {
 }
 
 // A block that is taken, with its length, or the fault and its place.
-#[derive(Drop)]
+#[derive(Clone, Copy)]
 pub enum ScanRead {
     Taken { scanned: Scanned, length: usize },
     Refused { fault: Fault, offset: usize },

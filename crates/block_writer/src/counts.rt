@@ -5,7 +5,7 @@ ghost use Rattle.block_writer.specs.Sections.{counts_in, told_counts};
 use crate::frames::{RowCount, SectionKind, row_count};
 
 // How many rows each section has.
-#[derive(Drop)]
+#[derive(Clone, Copy)]
 pub struct RowCounts {
     pub names: u16,
     pub metadata: u16,
@@ -14,7 +14,7 @@ pub struct RowCounts {
 }
 
 // The counts, or that a section is not made of whole rows.
-#[derive(Drop)]
+#[derive(Clone, Copy)]
 pub enum RowCountsRead {
     Rows(RowCounts),
     NotWhole,

@@ -10,7 +10,7 @@ use mapblock::objects::{ObjectRead, object_row};
 use mapblock::timers::TIMER_ROW_LENGTH;
 
 // The four sections.
-#[derive(Drop)]
+#[derive(Clone, Copy)]
 pub enum SectionKind {
     Names,
     Metadata,
@@ -19,7 +19,7 @@ pub enum SectionKind {
 }
 
 // The length of a row that is whole.
-#[derive(Drop)]
+#[derive(Clone, Copy)]
 pub enum Frame {
     Row(usize),
     NotWhole,
@@ -70,7 +70,7 @@ fn front_row(section: SectionKind, version: u8, s: &[u8]) -> Frame
 const MAX_ROWS: u16 = 65535;
 
 // How many rows a section has.
-#[derive(Drop)]
+#[derive(Clone, Copy)]
 pub enum RowCount {
     Rows(u16),
     NotWhole,

@@ -1,4 +1,6 @@
 // The MapBlock writer: from head, lists and sections to the bytes of a block.
+#![tactic(auto)]
+
 pub mod counts;
 pub mod fit;
 pub mod frames;

@@ -267,7 +267,7 @@ fn judge(
 }
 
 // How many rows the sections have and how long the block is, or why it is not written whatever the room.
-#[derive(Drop)]
+#[derive(Clone, Copy)]
 pub enum Measured {
     Fits { counts: RowCounts, length: usize },
     // The parts do not fit.

@@ -305,7 +305,7 @@ fn put_block(
 }
 
 // The length of what was written, or why nothing was.
-#[derive(Drop)]
+#[derive(Clone, Copy)]
 pub enum WriteAnswer {
     Written(usize),
     // The parts do not fit.

@@ -6,7 +6,7 @@ use position::key::Coordinates;
 use position::lot::Lot;
 
 // The first of a block's sixteen steps on each axis that lies in the lot, then the first behind it that does not.
-#[derive(Drop)]
+#[derive(Clone, Copy)]
 pub struct Clip {
     pub x0: usize,
     pub y0: usize,

@@ -3,7 +3,7 @@ ghost use Rattle.std.specs.Prelude.{◌≡◌};
 ghost use Rattle.mapblock.specs.Numbers.{refusal_number};
 
 // What may be wrong with a block, field by field.
-#[derive(Drop)]
+#[derive(Clone, Copy)]
 pub enum Fault {
     // The bytes end inside a field, or an inventory has no end line.
     Ends,
@@ -52,7 +52,7 @@ pub fn refusal_number(fault: Fault) -> u32
 }
 
 // How far a reading came, or the fault that stopped it and its place, both from the first byte it was given.
-#[derive(Drop)]
+#[derive(Clone, Copy)]
 pub enum Reach {
     End(usize),
     Refused { fault: Fault, offset: usize },

@@ -14,7 +14,7 @@ pub const LIST_ZERO: u8 = 1;
 
 // What a block says of itself beside its lists.
 #[repr(C)]
-#[derive(Drop)]
+#[derive(Clone, Copy)]
 pub struct Head {
     pub version: u8,
     pub flags: u8,
@@ -39,7 +39,7 @@ pub const NO_HEAD: Head = Head {
 
 // Where the rows of each list stand, without its count.
 #[repr(C)]
-#[derive(Drop)]
+#[derive(Clone, Copy)]
 pub struct Sections {
     pub names: Range,
     pub metadata: Range,

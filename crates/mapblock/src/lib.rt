@@ -1,4 +1,6 @@
 // MapBlocks of versions 22 to 29, unpacked: what a block is, and its rows, lists and node data in code.
+#![tactic(auto)]
+
 pub mod bound;
 pub mod fault;
 pub mod head;

@@ -40,7 +40,7 @@ fn fixed_list(kind: ListKind, version: u8, s: &[u8], value: u8, fault: Fault) ->
 }
 
 // A tag and where the list that it tells of ends, or the fault and its place.
-#[derive(Drop)]
+#[derive(Clone, Copy)]
 pub enum TaggedRead {
     List { tag: u8, length: usize },
     Refused { fault: Fault, offset: usize },

@@ -15,7 +15,7 @@ use wire::fields::{Run, U8, U16, U32, run16_at, run32_at, u8_at, u16_at, u32_at}
 use wire::ranges::{NO_RANGE, Range};
 
 // A row's numbers, and where its runs stand in the bytes it was read from. Type and content are version 22's, the others stand from 23 on.
-#[derive(Drop)]
+#[derive(Clone, Copy)]
 pub struct MetadataFields {
     pub position: u16,
     pub kind: u16,
@@ -26,7 +26,7 @@ pub struct MetadataFields {
 }
 
 // The front row with its length, or the fault and its place.
-#[derive(Drop)]
+#[derive(Clone, Copy)]
 pub enum MetadataRead {
     Row { row: MetadataFields, length: usize },
     Refused { fault: Fault, offset: usize },

@@ -14,14 +14,14 @@ use wire::fields::{Run, U8, U16, U32, run16_at, u8_at, u16_at, u32_at};
 use wire::ranges::Range;
 
 // A row's id, and where its name stands in the bytes it was read from.
-#[derive(Drop)]
+#[derive(Clone, Copy)]
 pub struct NameFields {
     pub id: u16,
     pub name: Range,
 }
 
 // The front row with its length, or the fault and its place.
-#[derive(Drop)]
+#[derive(Clone, Copy)]
 pub enum NameRead {
     Row { row: NameFields, length: usize },
     Refused { fault: Fault, offset: usize },
@@ -154,7 +154,7 @@ const LIST_VERSION_AT: usize = 4;
 const COUNT_AT: usize = 5;
 
 // Timestamp, number of rows, and where they end; or the fault and its place.
-#[derive(Drop)]
+#[derive(Clone, Copy)]
 pub enum NameMappingRead {
     Rows {
         timestamp: u32,

@@ -114,7 +114,7 @@ fn id_in(version: u8, s: &[u8], i: usize) -> usize
 }
 
 // The first node whose content id is not mapped.
-#[derive(Drop)]
+#[derive(Clone, Copy)]
 pub enum FirstUnmapped {
     None,
     At(usize),

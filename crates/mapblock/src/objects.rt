@@ -11,7 +11,7 @@ use wire::fields::{Run, S32, U8, run16_at, s32_at, u8_at};
 use wire::ranges::Range;
 
 // A row's numbers, and where its content stands in the bytes it was read from.
-#[derive(Drop)]
+#[derive(Clone, Copy)]
 pub struct ObjectFields {
     pub kind: u8,
     pub x: i32,
@@ -21,7 +21,7 @@ pub struct ObjectFields {
 }
 
 // The front row with its length, or the fault and its place.
-#[derive(Drop)]
+#[derive(Clone, Copy)]
 pub enum ObjectRead {
     Row { row: ObjectFields, length: usize },
     Refused { fault: Fault, offset: usize },

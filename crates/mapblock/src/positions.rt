@@ -14,7 +14,7 @@ pub const POSITION_LENGTH: usize = 2;
 const LAST_POSITION: u16 = 4095;
 
 // A position that was read, or its fault: it is refused at its own place, the row's first byte.
-#[derive(Drop)]
+#[derive(Clone, Copy)]
 pub enum PositionRead {
     At(u16),
     Refused(Fault),

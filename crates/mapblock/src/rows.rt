@@ -14,7 +14,7 @@ use crate::timers::{TIMER_ROW_LENGTH, TimerRead, timer_row};
 use wire::fields::{U16, u16_at};
 
 // The lists that are read by one loop.
-#[derive(Drop)]
+#[derive(Clone, Copy)]
 pub enum ListKind {
     Metadata,
     Objects,

@@ -10,7 +10,7 @@ use crate::positions::{POSITION_LENGTH, PositionRead, position};
 use wire::fields::{S32, s32_at};
 
 // A row's numbers.
-#[derive(Drop)]
+#[derive(Clone, Copy)]
 pub struct TimerFields {
     pub position: u16,
     pub timeout: i32,
@@ -24,7 +24,7 @@ pub const TIMER_ROW_LENGTH: usize = 10;
 pub const TIMER_ROW_LENGTH_BYTE: u8 = TIMER_ROW_LENGTH as u8;
 
 // The front row, or the fault and its place.
-#[derive(Drop)]
+#[derive(Clone, Copy)]
 pub enum TimerRead {
     Row(TimerFields),
     Refused { fault: Fault, offset: usize },

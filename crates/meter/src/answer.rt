@@ -1,7 +1,7 @@
 // What tallying a sheet answers.
 use sheet::records::RecordFault;
 
-#[derive(Drop)]
+#[derive(Clone, Copy)]
 pub enum SheetAnswer {
     // The tally's length.
     Tallied(usize),

@@ -17,7 +17,7 @@ use running_tally::state::empty;
 use tally::head::put_head;
 use wire::heads::HEAD_LENGTH;
 
-#[derive(Drop)]
+#[derive(Clone, Copy)]
 pub enum BlockAnswer {
     // The tally's length.
     Tallied(usize),

@@ -2,20 +2,20 @@
 ghost use Rattle.std.specs.Prelude.{◌<◌, ◌≡◌, true, nat_abs};
 ghost use Rattle.position.specs.Keys.{between, inside, all_inside, key_of, moved, is_key, lowered, join_of, split_of, told_join, told_split};
 
-#[derive(Drop)]
+#[derive(Clone, Copy)]
 pub struct Coordinates {
     pub x: i32,
     pub y: i32,
     pub z: i32,
 }
 
-#[derive(Drop)]
+#[derive(Clone, Copy)]
 pub enum JoinAnswer {
     Key(i64),
     OutOfRange,
 }
 
-#[derive(Drop)]
+#[derive(Clone, Copy)]
 pub enum SplitAnswer {
     At(Coordinates),
     OutOfRange,

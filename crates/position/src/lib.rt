@@ -1,4 +1,6 @@
 // Places and times: position keys, the nodes of a block, lots, spans and parts.
+#![tactic(auto)]
+
 pub mod key;
 pub mod lot;
 pub mod node;

@@ -6,7 +6,7 @@ use crate::key::is_between;
 
 // The least coordinate on each axis, then the greatest. It crosses to a host as it is.
 #[repr(C)]
-#[derive(Drop)]
+#[derive(Clone, Copy)]
 pub struct Lot {
     pub x0: i32,
     pub y0: i32,
@@ -16,7 +16,7 @@ pub struct Lot {
     pub z1: i32,
 }
 
-#[derive(Drop)]
+#[derive(Clone, Copy)]
 pub enum LotAnswer {
     Good(Lot),
     Bad,
@@ -54,14 +54,12 @@ impl Lot {
     // Makes a lot, if it is good. A constant has no contract of its own, so this one says what the whole world is.
     pub fn new(x0: i32, y0: i32, z0: i32, x1: i32, y1: i32, z1: i32) -> LotAnswer
         ensures told { told_lot result ≡ lot_of x0 y0 z0 x1 y1 z1 }
-        ensures* least { do
-          ⌜ ((← (⟦Lot::WORLD.x0⟧).entry) ≡ world.x0)
-              × ((← (⟦Lot::WORLD.y0⟧).entry) ≡ world.y0)
-              × ((← (⟦Lot::WORLD.z0⟧).entry) ≡ world.z0) ⌝ }
-        ensures* greatest { do
-          ⌜ ((← (⟦Lot::WORLD.x1⟧).entry) ≡ world.x1)
-              × ((← (⟦Lot::WORLD.y1⟧).entry) ≡ world.y1)
-              × ((← (⟦Lot::WORLD.z1⟧).entry) ≡ world.z1) ⌝ }
+        ensures least { (Lot.WORLD.x0 ≡ world.x0)
+            × (Lot.WORLD.y0 ≡ world.y0)
+            × (Lot.WORLD.z0 ≡ world.z0) }
+        ensures greatest { (Lot.WORLD.x1 ≡ world.x1)
+            × (Lot.WORLD.y1 ≡ world.y1)
+            × (Lot.WORLD.z1 ≡ world.z1) }
     {
         let l = Lot {
             x0,

@@ -5,7 +5,7 @@ ghost use Rattle.position.specs.Nodes.{axis_coordinate, node_coordinates_of, tol
 
 use crate::key::{Coordinates, are_inside};
 
-#[derive(Drop)]
+#[derive(Clone, Copy)]
 pub enum NodeCoordinatesAnswer {
     At(Coordinates),
     OutOfRange,

@@ -6,7 +6,7 @@ use crate::lot::Lot;
 use crate::span::Span;
 
 // Document 01's part.
-#[derive(Drop)]
+#[derive(Clone, Copy)]
 pub struct Part {
     pub lot: Lot,
     pub span: Span,

@@ -4,13 +4,13 @@ ghost use Rattle.position.specs.Spans.{good_span, in_span, all_time, span_of, to
 
 // `from` is inside, `until` is not. It crosses to a host as it is.
 #[repr(C)]
-#[derive(Drop)]
+#[derive(Clone, Copy)]
 pub struct Span {
     pub from: u32,
     pub until: u32,
 }
 
-#[derive(Drop)]
+#[derive(Clone, Copy)]
 pub enum SpanAnswer {
     Good(Span),
     Bad,
@@ -32,9 +32,8 @@ impl Span {
     // Makes a span, if it is good. A constant has no contract of its own, so this one says what all time is.
     pub fn new(from: u32, until: u32) -> SpanAnswer
         ensures told { told_span result ≡ span_of from until }
-        ensures* constant { do
-          ⌜ ((← (⟦Span::ALL_TIME.from⟧).entry) ≡ all_time.from)
-              × ((← (⟦Span::ALL_TIME.until⟧).entry) ≡ all_time.until) ⌝ }
+        ensures constant { (Span.ALL_TIME.from ≡ all_time.from)
+            × (Span.ALL_TIME.until ≡ all_time.until) }
     {
         let s = Span { from, until };
         if s.is_good() {

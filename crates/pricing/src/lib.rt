@@ -1,4 +1,6 @@
 // Prices: what the nodes that stand in a part of the world cost by a rate sheet.
+#![tactic(auto)]
+
 mod admission;
 pub mod answer;
 pub mod bill;

@@ -5,7 +5,7 @@ ghost use Rattle.rates.specs.Told.{told_rates};
 
 use crate::index::{IndexAnswer, SLOTS, index_rates};
 
-#[derive(Drop)]
+#[derive(Clone, Copy)]
 pub enum RatesAnswer {
     // The number of rows.
     Rates(u32),

@@ -1,4 +1,6 @@
 // The text of a tally and of a refusal, as sheetcount prints them.
+#![tactic(auto)]
+
 mod decimal;
 pub mod lines;
 pub mod refusal;

@@ -3,7 +3,7 @@ ghost use Rattle.std.specs.Prelude.{◌≡◌};
 ghost use Rattle.report.specs.Told.{length_put};
 
 // The text that was put, or why none was: the tally is malformed, or the buffer is too short.
-#[derive(Drop)]
+#[derive(Clone, Copy)]
 pub enum TextAnswer {
     // The text's length.
     Put(usize),

@@ -20,7 +20,7 @@ use wire::order::{Order, compare};
 use wire::store::{move_back, put_u64};
 
 // The sum of the counts at places of one name, and the index of the first place behind them.
-#[derive(Drop)]
+#[derive(Clone, Copy)]
 pub struct Group {
     pub count: u64,
     pub next: usize,
@@ -77,7 +77,7 @@ fn raise_row(buffer: &mut [u8], at: usize, size: usize, name: &[u8], count: u64)
 }
 
 // How many bytes and rows the new names take, or that there is no room for them.
-#[derive(Drop)]
+#[derive(Clone, Copy)]
 pub enum Raised {
     Missing { bytes: usize, rows: u64 },
     NoRoom,
@@ -137,7 +137,7 @@ fn move_front(buffer: &mut [u8], from: usize, to: usize, n: usize)
 }
 
 // The hole that moves through the rows: where the next row is read, and where it is written.
-#[derive(Drop)]
+#[derive(Clone, Copy)]
 pub struct Hole {
     pub read: usize,
     pub write: usize,

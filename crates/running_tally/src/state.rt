@@ -3,7 +3,7 @@ ghost use Rattle.std.specs.Prelude.{◌≡◌};
 ghost use Rattle.running_tally.specs.RunningTally.{none};
 
 // How many bytes the rows take and how many they are; or that they are longer than the buffer, and then for good.
-#[derive(Drop)]
+#[derive(Clone, Copy)]
 pub struct RunningTally {
     pub size: usize,
     pub rows: u64,

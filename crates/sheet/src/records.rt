@@ -18,7 +18,7 @@ pub const LENGTH_AT: usize = 8;
 pub const BLOCK_AT: usize = 12;
 
 // A record's key and the length of its block, or that it is not whole.
-#[derive(Drop)]
+#[derive(Clone, Copy)]
 pub enum FrameRead {
     Record { key: i64, length: usize },
     Misframed,
@@ -38,7 +38,7 @@ pub fn frame(s: &[u8]) -> FrameRead
 }
 
 // The last key that was taken, if any was.
-#[derive(Drop)]
+#[derive(Clone, Copy)]
 pub enum LastKey {
     Nothing,
     Key(i64),
@@ -55,14 +55,14 @@ fn is_rising(last: LastKey, key: i64) -> bool
 }
 
 // What may be wrong with a record, in the order in which it is judged.
-#[derive(Drop)]
+#[derive(Clone, Copy)]
 pub enum RecordFault {
     OutOfRange,
     NotRising,
     Block { fault: Fault, offset: usize },
 }
 
-#[derive(Drop)]
+#[derive(Clone, Copy)]
 pub enum RecordAnswer {
     // Where the block stands, and what the scan found in it.
     Taken { at: Coordinates, scanned: Scanned },

@@ -1,4 +1,6 @@
 // Counts the nodes of a sheet, name by name, from standard input to standard output: the whole world and all time.
+#![tactic(auto)]
+
 use libc::{STDERR_FILENO, STDIN_FILENO, STDOUT_FILENO};
 use sheetcount_lib::run;
 

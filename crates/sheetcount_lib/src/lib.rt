@@ -1,6 +1,8 @@
 // The program sheetcount, over descriptors that its caller names: it counts the nodes of a sheet, name by name, the whole world and all time.
 // What is read is judged, counted and put into words by the libraries below; no contract can say which bytes a read gives or a write takes, so
 // that part is held by runs, of sheetcount_runs.
+#![tactic(auto)]
+
 mod program;
 mod reading;
 

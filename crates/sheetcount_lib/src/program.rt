@@ -21,7 +21,7 @@ pub(crate) const MAX_BLOCK_LENGTH: usize = 49152;
 pub(crate) const MAX_TALLY_LENGTH: usize = 8192;
 
 // The length of a record's block, or why the block is not to be read.
-#[derive(Drop)]
+#[derive(Clone, Copy)]
 pub(crate) enum LengthRead {
     Block(usize),
     Misframed,

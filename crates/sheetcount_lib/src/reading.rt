@@ -19,7 +19,7 @@ use sheet::records::BLOCK_AT;
 use wire::heads::{HEAD_LENGTH, HeadRead};
 
 // How many bytes were read, which are fewer than were asked for only where the input ends; or that a read failed.
-#[derive(Drop)]
+#[derive(Clone, Copy)]
 enum BytesRead {
     Bytes(usize),
     Failed,
@@ -75,7 +75,7 @@ fn read_record(input: i32, bytes: &mut [u8]) -> BytesRead
 }
 
 // What came of reading a sheet: its answer, or that a read failed.
-#[derive(Drop)]
+#[derive(Clone, Copy)]
 pub(crate) enum SheetRead {
     Answer(SheetAnswer),
     Failed,
@@ -190,7 +190,7 @@ fn count_into(
 }
 
 // What a sheet came to: the answer and, where it is a tally, its bytes at the front of the output.
-#[derive(Drop)]
+#[derive(Clone, Copy)]
 pub(crate) struct SheetResult {
     pub read: SheetRead,
     pub out: [u8; MAX_TALLY_LENGTH],

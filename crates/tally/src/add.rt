@@ -22,7 +22,7 @@ fn insert_row(tail: &mut [u8], n: usize, name: &[u8], count: u64)
     put_row(tail, 0, name, count);
 }
 
-#[derive(Drop)]
+#[derive(Clone, Copy)]
 pub enum AddAnswer {
     // The tally's length now.
     Added(usize),

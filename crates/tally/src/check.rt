@@ -14,7 +14,7 @@ use crate::rows::{NAME_AT, ROW_OVERHEAD, RowRead, front_row};
 use wire::heads::{HEAD_LENGTH, HeadRead};
 use wire::order::{Order, compare};
 
-#[derive(Drop)]
+#[derive(Clone, Copy)]
 pub enum CheckAnswer {
     // The number of rows.
     Tally(u32),

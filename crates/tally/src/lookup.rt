@@ -6,7 +6,7 @@ use crate::rows::{NAME_AT, ROW_OVERHEAD, RowRead, front_row};
 use wire::order::{Order, compare};
 
 // Where a name stands among rows: its row's place and count, or the place where its row would be.
-#[derive(Drop)]
+#[derive(Clone, Copy)]
 pub enum Lookup {
     Present { at: usize, count: u64 },
     Absent(usize),

@@ -14,7 +14,7 @@ use wire::order::{Order, compare};
 use wire::store::{put_bytes, put_u64};
 
 // The next row of the sum of two lists of rows.
-#[derive(Drop)]
+#[derive(Clone, Copy)]
 pub enum SumRow {
     End,
     // Its count would be too large.
@@ -86,7 +86,7 @@ fn sum_row(x: &[u8], y: &[u8]) -> SumRow
 }
 
 // How many rows a sum has and how long they are, or that a count is too large.
-#[derive(Drop)]
+#[derive(Clone, Copy)]
 pub enum Measured {
     Rows { rows: u64, size: usize },
     TooMany,
@@ -176,7 +176,7 @@ fn put_rows(out: &mut [u8], a: &[u8], b: &[u8])
     }
 }
 
-#[derive(Drop)]
+#[derive(Clone, Copy)]
 pub enum MergeAnswer {
     // The length of the sum.
     Merged(usize),

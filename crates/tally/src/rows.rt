@@ -28,7 +28,7 @@ pub const MAX_COUNT: u64 = 18446744073709551615;
 pub const MAX_ROWS: u32 = 4294967295;
 
 // The length of the name and the count, or that no row stands there.
-#[derive(Drop)]
+#[derive(Clone, Copy)]
 pub enum RowRead {
     Row { size: usize, count: u64 },
     Malformed,
@@ -50,7 +50,7 @@ pub fn front_row(s: &[u8]) -> RowRead
     RowRead::Row { size: n, count }
 }
 
-#[derive(Drop)]
+#[derive(Clone, Copy)]
 pub enum RowAnswer {
     // The count, and the row's length.
     Row { count: u64, length: usize },

@@ -9,44 +9,44 @@ const HALF_32: u64 = 2147483648;
 pub(crate) const HALF_64: u64 = 9223372036854775808;
 
 // A field's value, or that the bytes end inside it.
-#[derive(Drop)]
+#[derive(Clone, Copy)]
 pub enum U8 {
     Value(u8),
     Ends,
 }
 
-#[derive(Drop)]
+#[derive(Clone, Copy)]
 pub enum U16 {
     Value(u16),
     Ends,
 }
 
-#[derive(Drop)]
+#[derive(Clone, Copy)]
 pub enum U32 {
     Value(u32),
     Ends,
 }
 
-#[derive(Drop)]
+#[derive(Clone, Copy)]
 pub enum U64 {
     Value(u64),
     Ends,
 }
 
-#[derive(Drop)]
+#[derive(Clone, Copy)]
 pub enum S32 {
     Value(i32),
     Ends,
 }
 
-#[derive(Drop)]
+#[derive(Clone, Copy)]
 pub enum S64 {
     Value(i64),
     Ends,
 }
 
 // A run of bytes behind its length: how many bytes it has, or the place in the field at which the bytes end.
-#[derive(Drop)]
+#[derive(Clone, Copy)]
 pub enum Run {
     Bytes(usize),
     Ends(usize),

@@ -19,7 +19,7 @@ pub const COUNT_AT: usize = 5;
 pub const HEAD_LENGTH: usize = 9;
 
 // The number that a head states, or that there is no head.
-#[derive(Drop)]
+#[derive(Clone, Copy)]
 pub enum HeadRead {
     Count(u32),
     Malformed,

@@ -1,4 +1,6 @@
 // Bytes and numbers in code, each proved against the formats of specs/.
+#![tactic(auto)]
+
 pub mod fields;
 pub mod heads;
 pub mod marks;

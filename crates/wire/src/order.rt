@@ -4,7 +4,7 @@ ghost use Rattle.wire.specs.Order.{order};
 
 use crate::fields::{U64, u64_at};
 
-#[derive(Drop)]
+#[derive(Clone, Copy)]
 pub enum Order {
     Before,
     Same,

@@ -3,7 +3,7 @@ ghost use Rattle.wire.specs.Ranges.{IsSlice};
 
 // A run of bytes in the caller's bytes. It crosses to a host as it is.
 #[repr(C)]
-#[derive(Drop)]
+#[derive(Clone, Copy)]
 pub struct Range {
     pub start: usize,
     pub length: usize,

@@ -30,7 +30,7 @@ pub(crate) fn head(version: u8, timer: u8, timestamp: u32) -> Head {
 }
 
 // Nodes that are all alike but for the first; what is not said of them is 0.
-#[derive(Drop)]
+#[derive(Clone, Copy)]
 pub(crate) struct Nodes {
     pub param0: u16,
     pub first_param0: u16,

@@ -1,5 +1,7 @@
 // Document 01's worked sums, the mistakes it has seen before, and document 02's fixed fields, list forms and prices: each is run through the
 // libraries, printed, and held to what the documents say. The sums that document 01 marks P are not run: worked_sums states them in one table.
+#![tactic(auto)]
+
 mod blocks;
 mod fixed_fields;
 mod list_forms;
