@@ -1,0 +1,13 @@
+use mathlib.Core.Path.{◌≡◌}
+use native.Mathlib.Omega.{arith}
+use lib.ListN.{length}
+use Rattle.wire.proofs.Headed.{head-put, head-not-put}
+use Rattle.wire.proofs.heads.put_head.Goals as goal
+
+pub returns-then-out-lt-HEAD_LENGTH : goal.returns-then-out-lt-HEAD_LENGTH
+returns-then-out-lt-HEAD_LENGTH c = let a = c.args in head-not-put a.mark.now ((let three₀ : length c.args.mark.now ≡ 3 = omega (arith, c.bytes-1.given) in three₀)) a.number a.out.now c.if-out-lt-HEAD_LENGTH.true
+
+pub returns : goal.returns
+returns c =
+    let a = c.args in
+    head-put a.mark.now ((let three₀ : length c.args.mark.now ≡ 3 = omega (arith, c.bytes-1.given) in three₀)) a.number a.out.now c.if-out-lt-HEAD_LENGTH.false c.put_bytes.ensures c.put_u16.ensures c.put_u32.ensures
