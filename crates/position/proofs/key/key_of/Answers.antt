@@ -9,8 +9,7 @@ use Rattle.wire.proofs.Ints.{plus-is, times-is, fits-int}
 use Rattle.position.specs.Keys.{all_inside, key_of}
 use Rattle.position.proofs.Ranges.{all-inside}
 use Rattle.position.proofs.Keys.{key-is}
-use Rattle.position.proofs.key.key_of.Statement.{statement}
-use Rattle.position.proofs.key.key_of.Tie as tie
+use Rattle.position.proofs.key.key_of.Goals as goal
 
 -- no step of the sum overflows
 fine : (x y z : ℤ) → all_inside x y z ≡ true → SFits w64 (z *ℤ pos 16_777_216) × SFits w64 (y *ℤ pos 4096) × SFits w64 (z *ℤ pos 16_777_216 +ℤ y *ℤ pos 4096) × SFits w64 (key_of x y z)
@@ -23,22 +22,19 @@ fine x y z e =
     let k = key-is x y z in
     (fits-int w64 _ (omega arith) (omega arith), fits-int w64 _ (omega arith) (omega arith), fits-int w64 _ (omega arith) (omega arith), fits-int w64 _ (omega arith) (omega arith))
 
-mul-result : tie.Need-overflow-mul-result
-mul-result c = search (rules, fine _ _ _ c.requires)
+pub overflow_mul-result : goal.overflow_mul-result
+overflow_mul-result c = search (rules, fine _ _ _ c.requires)
 
-mul-result-2 : tie.Need-overflow-mul-result-2
-mul-result-2 c = search (rules, fine _ _ _ c.requires)
+pub overflow_mul-result-2 : goal.overflow_mul-result-2
+overflow_mul-result-2 c = search (rules, fine _ _ _ c.requires)
 
-add-result : tie.Need-overflow-add-result
-add-result c = search (rules, fine _ _ _ c.requires)
+pub overflow_add-result : goal.overflow_add-result
+overflow_add-result c = search (rules, fine _ _ _ c.requires)
 
-add-result-2 : tie.Need-overflow-add-result-2
+pub overflow_add-result-2 : goal.overflow_add-result-2
 unfolding key_of
-add-result-2 c = search (rules, fine _ _ _ c.requires)
+overflow_add-result-2 c = search (rules, fine _ _ _ c.requires)
 
-returns : tie.Need-returns
+pub returns : goal.returns
 unfolding key_of
 returns c = search (rules, fine _ _ _ c.requires)
-
-pub key-of-spec : {M : Type 1} → statement M
-key-of-spec = tie.close (tie.spec mul-result mul-result-2 add-result add-result-2 returns)

@@ -12,8 +12,7 @@ use Rattle.position.specs.Keys.{inside}
 use Rattle.position.specs.Nodes.{axis_coordinate}
 use Rattle.position.proofs.Ranges.{inside-yes}
 use Rattle.position.proofs.Nodes.{node-is}
-use Rattle.position.proofs.node.axis_coordinate.Statement.{statement}
-use Rattle.position.proofs.node.axis_coordinate.Tie as tie
+use Rattle.position.proofs.node.axis_coordinate.Goals as goal
 
 -- no step overflows
 fine : (c : ℤ) (n : ℕ) → (inside c ≡ true) × (n < 16) → SFits w32 (c *ℤ pos 16) × SFits w32 (axis_coordinate c n) × (to_z w32 n ≡ pos n)
@@ -23,19 +22,13 @@ fine c n e =
     let s = node-is c n in
     (fits-int w32 _ (omega arith) (omega arith), fits-int w32 _ (omega arith) (omega arith), to_z_pos w32 n (omega arith))
 
-mul-result : tie.Need-overflow-mul-result
-mul-result c = search (rules, fine _ _ c.requires)
+pub overflow_mul-result : goal.overflow_mul-result
+overflow_mul-result c = search (rules, fine _ _ c.requires)
 
-cast-result : tie.Need-overflow-cast-result
-cast-result c = search rules
-
-add-result : tie.Need-overflow-add-result
+pub overflow_add-result : goal.overflow_add-result
 unfolding axis_coordinate
-add-result c = let f = fine c.args.c c.args.step c.requires in rw f.2 (search (rules, f))
+overflow_add-result c = let f = fine c.args.c c.args.step c.requires in rw f.2 (search (rules, f))
 
-returns : tie.Need-returns
+pub returns : goal.returns
 unfolding axis_coordinate
 returns c = let f = fine c.args.c c.args.step c.requires in rw f.2 (search (rules, f))
-
-pub axis-coordinate-spec : {M : Type 1} → statement M
-axis-coordinate-spec = tie.close (tie.spec mul-result cast-result add-result returns)

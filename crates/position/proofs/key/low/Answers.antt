@@ -1,4 +1,3 @@
-use borrow.Author.Rules.{rules}
 use Prim.Native.Nat.{ℕ, ◌<◌}
 use native.Mathlib.Omega.{arith}
 use mir.Syntax.{w32}
@@ -7,23 +6,16 @@ use mir.ValLaws.{to_z-of_z, to_z_pos}
 use Rattle.wire.proofs.Ints.{fits-int}
 use Rattle.position.specs.Keys.{lowered}
 use Rattle.position.proofs.Keys.{lowered_is}
-use Rattle.position.proofs.key.low.Statement.{statement}
-use Rattle.position.proofs.key.low.Tie as tie
+use Rattle.position.proofs.key.low.Goals as goal
 
 -- a lowered field does not overflow
 fits : (n : ℕ) → n < 4096 → SFits w32 (lowered n)
 fits n h = fits-int w32 (lowered n) (omega (arith, lowered_is n)) (omega (arith, lowered_is n))
 
-cast-result : tie.Need-overflow-cast-result
-cast-result c = search rules
-
-sub-result : tie.Need-overflow-sub-result
+pub overflow_sub-result : goal.overflow_sub-result
 unfolding lowered
-sub-result c = rw (to_z_pos w32 c.args.field (omega arith)) (fits c.args.field c.requires)
+overflow_sub-result c = rw (to_z_pos w32 c.args.field (omega arith)) (fits c.args.field c.requires)
 
-returns : tie.Need-returns
+pub returns : goal.returns
 unfolding lowered
 returns c = rw (to_z_pos w32 c.args.field (omega arith)) (to_z-of_z w32 _ (fits c.args.field c.requires))
-
-pub low-spec : {M : Type 1} → statement M
-low-spec = tie.close (tie.spec cast-result sub-result returns)
