@@ -1,0 +1,11 @@
+// The static library that a host links: each function of the face under its C name, with the same promise.
+#![tactic(auto)]
+
+pub mod blocks;
+pub mod light;
+pub mod metering;
+pub mod places;
+pub mod prices;
+pub mod rows;
+pub mod tallies;
+pub mod writing;
