@@ -1,4 +1,4 @@
-//! Links libanowhetele.a: from the folder that ANOWHETELE_LIB names, or from where `rt staticlib anowhetele` leaves it.
+//! Links libanowhetele.a: from the folder that ANOWHETELE_LIB names, or from where `tools/build library` leaves it.
 use std::env;
 use std::path::{Path, PathBuf};
 use std::process::exit;
@@ -14,7 +14,7 @@ fn main() {
     if !archive.is_file() {
         eprintln!("There is no {}.", archive.display());
         eprintln!(
-            "Run `rt staticlib anowhetele` in the repository's root, or name the archive's folder in ANOWHETELE_LIB."
+            "Run `tools/build library` in the repository's root, or name the archive's folder in ANOWHETELE_LIB."
         );
         exit(1);
     }

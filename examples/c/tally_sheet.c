@@ -1,6 +1,6 @@
 /* Tallies a sheet file: tally_sheet FILE [x0 y0 z0 x1 y1 z1 [from until]]. Without a lot it is the whole world, without a span all time.
  * It ends with 1 for a sheet that is refused, and with 2 where its words, its input or its output fail.
- * From the repository's root, after `rt staticlib anowhetele`:
+ * From the repository's root, after `tools/build library`:
  *     gcc -Wall -Wextra -O2 -I include examples/c/tally_sheet.c target/staticlib/libanowhetele.a -o target/tally_sheet */
 #include <inttypes.h>
 #include <stdio.h>
