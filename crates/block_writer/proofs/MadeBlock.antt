@@ -23,7 +23,7 @@ use Rattle.mapblock.specs.declared.head.Head.{Head}
 use Rattle.block_reader.proofs.ValidOk.{nodes-ok, slot_ok}
 use Rattle.mapblock.proofs.GoodRows.{either, fixed-ok}
 use Rattle.block_writer.specs.Frames.{name_frame, metadata_frame, timer_frame, section_rows}
-use Rattle.block_writer.specs.BlockParts.{BlockParts, head_fits, param0_fits, fits, given, made, rows_made, block_made, WellTyped}
+use Rattle.block_writer.specs.BlockParts.{BlockParts, head_fits, fits, given, made, rows_made, block_made, WellTyped}
 use Rattle.block_writer.specs.Judging.{mapping_on, mapping_front, mapping_behind, timers_late}
 use Rattle.block_writer.specs.Sections.{Rows, SectionRows}
 use Rattle.block_writer.specs.declared.counts.RowCounts.{RowCounts}

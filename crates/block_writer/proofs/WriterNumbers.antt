@@ -16,7 +16,6 @@ use Rattle.mapblock.specs.Layout.{all, is_version, steps}
 use Rattle.mapblock.specs.Block.{judged_whole, block, block_from, pieces_of, first_unmapped, judged, verdict}
 use Rattle.mapblock.specs.Numbers.{refusal_number}
 use Rattle.mapblock.specs.declared.fault.Fault.{Fault}
-use Rattle.mapblock.specs.declared.fault.Fault.TheVariants as fault
 use Rattle.block_writer.specs.BlockParts.{BlockParts, WellTyped, block_made}
 use Rattle.block_writer.specs.Write.{value_numbers, writer_numbers, judged_bytes, written_block, write_of}
 use Rattle.block_writer.specs.Theorems.{WriterNumbers}

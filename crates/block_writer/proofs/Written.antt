@@ -115,8 +115,8 @@ module _ (p : BlockParts) (c : RowCounts) (f : fits p ≡ true) (h : some c ≡ 
       refuses i room = written-by room ∙ ap (judged_bytes room ((block all).encode block_is)) (ended-refused (verdict all ((block all).encode block_is)) (i ∙ verdict_on-is))
 
       module _ {n : ℕ} (i : done tt n ≡ verdict_on) where
-        taken_as_lem : (b : Block) × (verdict all ((block all).encode block_is) ≡ done b n)
-        taken_as_lem = ended-done (verdict all ((block all).encode block_is)) (i ∙ verdict_on-is)
+        taken_as : (b : Block) × (verdict all ((block all).encode block_is) ≡ done b n)
+        taken_as = ended-done (verdict all ((block all).encode block_is)) (i ∙ verdict_on-is)
 
         size : n ≡ length (bytes_for p c)
         size = ((taken ((block all).encode block_is) taken_as.0 n (block-bytes p block_is held v parts_are)).0 taken_as.1).2 ∙ ap length bytes-are
@@ -130,7 +130,7 @@ module _ (p : BlockParts) (c : RowCounts) (f : fits p ≡ true) (h : some c ≡ 
         writes = record {
           long = size;
           in-room = λ room h. by-room room ∙ rw (le-leb (length (bytes_for p c)) room (omega (arith, size)));
-          no_room = λ room h. by-room room ∙ rw (lt-leb (length (bytes_for p c)) room (omega (arith, size)));
+          no-room = λ room h. by-room room ∙ rw (lt-leb (length (bytes_for p c)) room (omega (arith, size)));
         }
 
 -- ---- an answer, and what the buffer holds then

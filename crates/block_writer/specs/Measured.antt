@@ -17,7 +17,7 @@ bytes_for p counts = block_bytes p.head counts p.param0 p.param1 p.param2 p.name
 pub record Written (p : BlockParts) (counts : RowCounts) (n : ℕ) : Type 0 where
   pub long : n ≡ length (bytes_for p counts)
   pub in-room : (room : ℕ) → n ≤ room → write_of p room ≡ good (bytes_for p counts)
-  pub no_room_lem : (room : ℕ) → room < n → write_of p room ≡ plain no_room
+  pub no-room : (room : ℕ) → room < n → write_of p room ≡ plain no_room
 
 abbrev pub MeasuredAs : BlockParts → Measured → Type 0
 MeasuredAs p (measured.Fits counts n) = Written p counts n

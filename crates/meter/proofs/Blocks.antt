@@ -2,10 +2,9 @@
 use Rattle.std.proofs.Common.{◌≡◌, ℕ, zero, suc, ◌*◌, Bool, true, false, cond, eqb, List, [], ◌∷◌, length, refl, ap, ◌∙◌, arith, length-append, le-leb}
 use Rattle.wire.specs.Bytes.{Bytes, bytes-nil}
 use Rattle.mapblock.specs.Data.{NameRow}
-use Rattle.mapblock.specs.Block.{block, id_at}
+use Rattle.mapblock.specs.Block.{id_at}
 use Rattle.block_reader.specs.Questions.{name_of}
 use Rattle.mapblock.specs.Valid.{Each, NameGood, Valid}
-use Rattle.block_reader.proofs.Taken.{taken}
 use Rattle.tally.specs.Rows.{is_name, Canonical}
 use Rattle.position.specs.declared.part.Part.{Part}
 use Rattle.sheet.specs.Placed.{Placed}

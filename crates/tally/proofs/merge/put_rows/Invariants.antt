@@ -1,0 +1,11 @@
+-- The invariant: the rows that are written, with those that are left, make the sum. The measure: the bytes of both lists that are left.
+use Prim.Native.Nat.{◌+◌}
+use lib.ListN.{length}
+use Rattle.tally.proofs.PutSums.{Writing}
+use Rattle.tally.proofs.merge.put_rows.Given as goal
+
+abbrev pub invariant-loop-first : goal.invariant-loop-first
+invariant-loop-first l = Writing l.a l.b l.x l.y l.initial.out l.out l.at
+
+abbrev pub decreases-loop-first : goal.decreases-loop-first
+decreases-loop-first l = length l.x + length l.y
