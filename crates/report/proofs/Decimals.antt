@@ -47,13 +47,13 @@ digits-by (suc k) r n h f =
     go (suc (suc i)) f false e ih = ap₂ (λ (l : List ℕ) (d : ℕ). l ++ d ∷ []) (ih i f) (glyph-digit n)
 
 -- ---- what io's decimal writes
-module _ (n r : ℕ) (out : List ℕ) (h : n < 2 ^ 64) (w : IsPrefixLen r out × (IsDigitCount 10 1 n r × (take r out ≡ last_digits 10 r n))) where
+module _ (n r : ℕ) (out : List ℕ) (h : n < 2 ^ 64) (inside : IsPrefixLen r out) (count : IsDigitCount 10 1 n r) (digits : take r out ≡ last_digits 10 r n) where
   pub decimal-front : take r out ≡ decimal n
   unfolding decimal
-  decimal-front = w.1.1 ∙ digits-by 19 r n (omega arith) w.1.0
+  decimal-front = digits ∙ digits-by 19 r n (omega arith) count
 
   pub decimal-many : r ≡ length (decimal n)
-  decimal-many = w.0.1 ∙ ap length decimal-front
+  decimal-many = inside.1 ∙ ap length decimal-front
 
 -- ---- how many there are
 length-by : (k n : ℕ) → length (decimal_by k n) ≤ suc k

@@ -1,9 +1,7 @@
 -- What is printed of an answer.
-use denote.Enum.Declared.{tag_of}
-use types.Run.{OneOf, miss}
 use Prim.Native.Nat.{ℕ, ◌≤◌}
 use mathlib.Core.Path.{◌≡◌, refl, ap, sym, subst, ◌∙◌}
-use mathlib.Core.List.{List, [], ◌∷◌, ◌++◌}
+use mathlib.Core.List.{List, ◌++◌}
 use native.Mathlib.Omega.{arith}
 use lib.ListN.{length, take, drop, length-append}
 use lib.Seq.{take-append_seam}
@@ -21,7 +19,6 @@ use Rattle.meter.specs.Theorems.{whole-sheet}
 use Rattle.sheetcount_lib.specs.Program.{everything, max_tally_length, sheetcount_of}
 use Rattle.meter.specs.declared.answer.SheetAnswer.{SheetAnswer}
 use Rattle.meter.specs.declared.answer.SheetAnswer.TheVariants as sheets
-use Rattle.meter.specs.contracts.answer.SheetAnswer as answers
 use Rattle.meter.proofs.Exactness.{told-tallied, is-tally}
 use Rattle.sheetcount_lib.proofs.Sheetcount.{sheetcount}
 use Rattle.sheetcount_lib.specs.Reading.{CountedAs}
@@ -40,8 +37,8 @@ shown a r y x before after e z t l =
     rw (front, size) (record { inside = rw length-append (omega arith); same = take-append_seam x (drop (length x) before) })
 
 -- ---- a refusal
-pub no-tally : (r : SheetAnswer) → OneOf (1 ∷ 2 ∷ 3 ∷ 4 ∷ 5 ∷ 6 ∷ []) (tag_of answers.the_type r) → (n : ℕ) × (i : ℕ) × (o : ℕ) × (told_sheet r ≡ refusal n i o)
-no-tally (sheets.Tallied n) k = absurd (miss (1 ∷ 2 ∷ 3 ∷ 4 ∷ 5 ∷ 6 ∷ []) 0 tt k)
+pub no-tally : (r : SheetAnswer) → ((m : ℕ) → r ≡ sheets.Tallied m → ⊥) → (n : ℕ) × (i : ℕ) × (o : ℕ) × (told_sheet r ≡ refusal n i o)
+no-tally (sheets.Tallied n) k = absurd (k n refl)
 no-tally sheets.BadPart k = (_, _, _, refl)
 no-tally sheets.Misfit k = (_, _, _, refl)
 no-tally (sheets.Malformed i) k = (_, _, _, refl)

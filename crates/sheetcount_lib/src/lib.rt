@@ -1,5 +1,5 @@
-// The program sheetcount, over descriptors that its caller names: it counts the nodes of a sheet, name by name, the whole world and all time.
-// What is read is judged, counted and put into words by the libraries below; no contract can say which bytes a read gives or a write takes, so
+// The program sheetcount, over a reader and two writers that its caller gives: it counts the nodes of a sheet, name by name, the whole world and
+// all time. What is read is judged, counted and put into words by the libraries below; no contract can say which bytes a file gives or takes, so
 // that part is held by runs, of sheetcount_runs.
 #![tactic(auto)]
 
@@ -18,6 +18,7 @@ use reading::{SheetRead, count_sheet};
 use report::lines::tally_text;
 use report::refusal::refusal_text;
 use report::text::put_length;
+use std::io::{Read, Write};
 
 // ---- what is printed: inner functions of `run`, whose premises are a buffer for the text of this length and an output that holds what the
 // answer says
@@ -45,20 +46,19 @@ fn put_answer(answer: SheetAnswer, out: &[u8], text: &mut [u8]) -> usize
 }
 
 // Writes what is printed to `output` at once. Where that fails, some of it may have been written.
-fn print_answer(output: i32, errors: i32, answer: SheetAnswer, out: &[u8])
+fn print_answer(output: &mut impl Write, errors: &mut impl Write, answer: SheetAnswer, out: &[u8])
     requires { CountedAs out.now answer }
 {
     let mut text = [0u8; MAX_TEXT_LENGTH];
     let n = put_answer(answer, out, &mut text);
-    if !io::write_all(output, &text[..n]) {
-        io::write_all(errors, b"sheetcount: cannot write the result\n");
+    if output.write_all(&text[..n]).is_err() {
+        let _ = errors.write_all(b"sheetcount: cannot write the result\n");
     }
 }
 
 // Reads a sheet from `input`, a record at a time, and writes its tally, or the number and the record of its refusal, to `output`. Where the
-// input cannot be read, or the result not be written, one line on `errors` says so; if that line cannot be written either, nothing more can be
-// done, since the language has no exit status.
-pub fn run(input: i32, output: i32, errors: i32) {
+// input cannot be read, or the result not be written, one line on `errors` says so; if that line cannot be written either, nothing more is done.
+pub fn run(input: &mut impl Read, output: &mut impl Write, errors: &mut impl Write) {
     let counted = count_sheet(input);
     let read = counted.read;
     let out = counted.out;
@@ -67,7 +67,7 @@ pub fn run(input: i32, output: i32, errors: i32) {
             print_answer(output, errors, answer, &out);
         }
         SheetRead::Failed => {
-            io::write_all(errors, b"sheetcount: cannot read the input\n");
+            let _ = errors.write_all(b"sheetcount: cannot read the input\n");
         }
     }
 }

@@ -1,4 +1,4 @@
-// A sheet read from the descriptor `input`, a record at a time. All functions here but `read_bytes` and `count_sheet` are inner functions: their
+// A sheet read from the reader `input`, a record at a time. All functions here but `read_bytes` and `count_sheet` are inner functions: their
 // premises are buffers of the program's lengths and tables that are clear.
 ghost use Rattle.std.specs.Prelude.{◌≡◌, ◌+◌, ◌≤◌, length, take};
 ghost use Rattle.meter.specs.Counting.{by_one};
@@ -16,6 +16,7 @@ use meter::stream::{Progress, StartAnswer, Step, start};
 use position::part::Part;
 use sheet::head::sheet_head;
 use sheet::records::BLOCK_AT;
+use std::io::Read;
 use wire::heads::{HEAD_LENGTH, HeadRead};
 
 // How many bytes were read, which are fewer than were asked for only where the input ends; or that a read failed.
@@ -26,16 +27,14 @@ enum BytesRead {
 }
 
 // Reads until the buffer is full, the input ends or a read fails.
-fn read_bytes(input: i32, bytes: &mut [u8]) -> BytesRead
+fn read_bytes(input: &mut impl Read, bytes: &mut [u8]) -> BytesRead
     ensures { Within (length bytes.old) result }
 {
     let mut done = 0;
     while done < bytes.len() {
-        let got = libc::read(input, &mut bytes[done..]);
-        if got < 0 {
+        let Ok(more) = input.read(&mut bytes[done..]) else {
             return BytesRead::Failed;
-        }
-        let more = io::count(got, &bytes[done..]);
+        };
         if more == 0 {
             return BytesRead::Bytes(done);
         }
@@ -45,7 +44,7 @@ fn read_bytes(input: i32, bytes: &mut [u8]) -> BytesRead
 }
 
 // Reads a record's block of so many bytes to its place behind the first twelve. Tells how many bytes there are, with those.
-fn read_block(input: i32, size: usize, bytes: &mut [u8]) -> BytesRead
+fn read_block(input: &mut impl Read, size: usize, bytes: &mut [u8]) -> BytesRead
     requires { (length bytes.old ≡ longest) × (size ≤ max_block_length) }
     ensures told { Within (12 + size) result }
     ensures bytes { take 12 bytes.new ≡ take 12 bytes.old }
@@ -59,7 +58,7 @@ fn read_block(input: i32, size: usize, bytes: &mut [u8]) -> BytesRead
 
 // Reads a record to the front of a buffer: its first twelve bytes, which say how long its block is, and then the block, unless it is too
 // long; no byte behind it. Tells how many bytes there are.
-fn read_record(input: i32, bytes: &mut [u8]) -> BytesRead
+fn read_record(input: &mut impl Read, bytes: &mut [u8]) -> BytesRead
     requires { length bytes.old ≡ longest }
     ensures told { Within (length bytes.old) result }
     ensures inside { RecordWithin bytes.new result }
@@ -83,7 +82,7 @@ pub(crate) enum SheetRead {
 
 // Reads one byte more behind the last record, of which there is none in a sheet, and finishes.
 fn read_end(
-    input: i32,
+    input: &mut impl Read,
     progress: Progress,
     bytes: &mut [u8],
     out: &mut [u8],
@@ -101,7 +100,7 @@ fn read_end(
 
 // Reads and takes so many records, one behind the other, and then the end.
 fn take_all(
-    input: i32,
+    input: &mut impl Read,
     count: u32,
     progress: Progress,
     bytes: &mut [u8],
@@ -141,7 +140,7 @@ fn take_all(
 
 // Reads the head, which says how many records there are, then the records and the end.
 fn read_sheet(
-    input: i32,
+    input: &mut impl Read,
     progress: Progress,
     bytes: &mut [u8],
     out: &mut [u8],
@@ -168,7 +167,7 @@ fn read_sheet(
 
 // Reads a sheet and tallies it into the output.
 fn count_into(
-    input: i32,
+    input: &mut impl Read,
     bytes: &mut [u8],
     out: &mut [u8],
     spare: &mut [u8],
@@ -197,7 +196,7 @@ pub(crate) struct SheetResult {
 }
 
 // Reads a sheet and tallies it.
-pub(crate) fn count_sheet(input: i32) -> SheetResult
+pub(crate) fn count_sheet(input: &mut impl Read) -> SheetResult
     ensures { IfRead (CountedAs result.out) result.read }
 {
     // The tables come first, as in the tally of a sheet.

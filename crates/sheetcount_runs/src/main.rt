@@ -2,60 +2,80 @@
 // gives or a write takes; what is printed here is compared instead. The files, the arguments and what is to be printed are made by tests/sheets.
 #![tactic(auto)]
 
-use libc::STDOUT_FILENO;
 use sheetcount_lib::run;
+use std::fs::{File, OpenOptions};
+use std::io::{Error, ErrorKind, Read, Result, Write};
+use std::rt::Files;
+use std::{env, io};
+
+// What stands in for an input, an output or errors that are not open: each read and each write fails.
+#[derive(Drop)]
+struct Unopened;
+
+impl Read for Unopened {
+    fn read(&mut self, _buf: &mut [u8]) -> Result<usize> {
+        Err(Error::from(ErrorKind::Other))
+    }
+}
+
+impl Write for Unopened {
+    fn write(&mut self, _buf: &[u8]) -> Result<usize> {
+        Err(Error::from(ErrorKind::Other))
+    }
+
+    fn flush(&mut self) -> Result<()> {
+        Err(Error::from(ErrorKind::Other))
+    }
+}
 
 // Prints a line that says which run follows.
-fn say(name: &[u8]) {
-    io::write_all(STDOUT_FILENO, name);
-    io::write_all(STDOUT_FILENO, b"\n");
+fn say(rt: &impl Print, name: &str) {
+    let _ = rt.println(name);
 }
 
-// Runs the program over a file, or over a descriptor that is not open where there is no such file.
-fn run_file(name: &[u8], output: i32, errors: i32) {
-    let input = os::open_read(name);
-    run(input, output, errors);
-    libc::close(input);
+// Runs the program over a file, or over an input that is not open where there is no such file.
+fn run_file(rt: &impl Files, name: &str, output: &mut impl Write, errors: &mut impl Write) {
+    match File::open(rt, name) {
+        Ok(mut input) => run(&mut input, output, errors),
+        Err(_) => run(&mut Unopened, output, errors),
+    }
 }
 
-// Runs the program over the file that an argument names, and shows what it writes to either descriptor.
-fn run_argument(i: usize) {
-    let mut name = io::buffer();
-    let n = os::arg(i, &mut name);
-    say(&name[..n]);
-    run_file(&name[..n], STDOUT_FILENO, STDOUT_FILENO);
+// Runs the program over the file that an argument names, and shows what it writes to either stream.
+fn run_argument(rt: &(impl Files + Print), name: &str) {
+    say(rt, name);
+    run_file(rt, name, &mut io::writer(rt), &mut io::writer(rt));
 }
 
-// Runs the program with descriptors that are not open, to show what is written to the others.
-fn run_unopened() {
-    say(b"no errors");
-    run_file(b"one_record.sheet", STDOUT_FILENO, -1);
-    say(b"no output");
-    run_file(b"one_record.sheet", -1, STDOUT_FILENO);
-    say(b"neither output nor errors");
-    run_file(b"one_record.sheet", -1, -1);
-    say(b"neither input nor output");
-    run_file(b"missing.sheet", -1, STDOUT_FILENO);
-    say(b"neither input nor errors");
-    run_file(b"missing.sheet", STDOUT_FILENO, -1);
+// Runs the program with streams that are not open, to show what is written to the others.
+fn run_unopened(rt: &(impl Files + Print)) {
+    say(rt, "no errors");
+    run_file(rt, "one_record.sheet", &mut io::writer(rt), &mut Unopened);
+    say(rt, "no output");
+    run_file(rt, "one_record.sheet", &mut Unopened, &mut io::writer(rt));
+    say(rt, "neither output nor errors");
+    run_file(rt, "one_record.sheet", &mut Unopened, &mut Unopened);
+    say(rt, "neither input nor output");
+    run_file(rt, "missing.sheet", &mut Unopened, &mut io::writer(rt));
+    say(rt, "neither input nor errors");
+    run_file(rt, "missing.sheet", &mut io::writer(rt), &mut Unopened);
 }
 
 // Runs the program with a device that has no room for the result.
-fn run_full() {
-    say(b"a full device");
-    let full = os::open_append(b"/dev/full");
-    run_file(b"one_record.sheet", full, STDOUT_FILENO);
-    libc::close(full);
+fn run_full(rt: &(impl Files + Print)) {
+    say(rt, "a full device");
+    match OpenOptions::new().append(true).open(rt, "/dev/full") {
+        Ok(mut full) => run_file(rt, "one_record.sheet", &mut full, &mut io::writer(rt)),
+        Err(_) => run_file(rt, "one_record.sheet", &mut Unopened, &mut io::writer(rt)),
+    }
 }
 
 // Runs the program over the file of each argument, and then where nothing can be read or written.
-fn main() {
-    let count = os::arg_count();
-    let mut i = 1;
-    while i < count {
-        run_argument(i);
-        i += 1;
+fn main(rt: HostRuntime) -> Result<()> {
+    for name in env::args(&rt)?.skip(1) {
+        run_argument(&rt, name.as_str());
     }
-    run_unopened();
-    run_full();
+    run_unopened(&rt);
+    run_full(&rt);
+    Ok(())
 }

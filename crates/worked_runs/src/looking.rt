@@ -55,72 +55,84 @@ pub(crate) fn put_rows(version: u8, metadata: &[u8], timers: &[u8], out: &mut [u
 }
 
 // Shows a slice's bytes in hexadecimal digits, beside what is expected.
-fn bytes_line(asked: &[u8], slice: &[u8], expected: &[u8]) {
-    say(asked);
-    say_bytes(slice);
-    say(b"; ");
-    say_verdict(are_same(slice, expected));
+fn bytes_line(rt: &impl Print, asked: &[u8], slice: &[u8], expected: &[u8]) {
+    say(rt, asked);
+    say_bytes(rt, slice);
+    say(rt, b"; ");
+    say_verdict(rt, are_same(slice, expected));
 }
 
 // Shows a slice that is text, beside what is expected.
-fn text_line(asked: &[u8], slice: &[u8], expected: &[u8]) {
-    say(asked);
-    say_text(slice);
-    say(b"; ");
-    say_verdict(are_same(slice, expected));
+fn text_line(rt: &impl Print, asked: &[u8], slice: &[u8], expected: &[u8]) {
+    say(rt, asked);
+    say_text(rt, slice);
+    say(rt, b"; ");
+    say_verdict(rt, are_same(slice, expected));
 }
 
 // Shows the rows of names, and the slices handed back of them.
-fn names(block: &[u8]) {
+fn names(rt: &impl Print, block: &[u8]) {
     let rows = names_section(block);
     let rest = behind_name_row(rows);
-    bytes_line(b"names:", rows, &NAMES);
-    text_line(b"  front row: ", name_of(rows), b"air");
-    text_line(b"  behind it: ", name_of(rest), b"stone");
-    text_line(b"  behind the last: ", name_of(behind_name_row(rest)), b"");
-    text_line(b"  of node 0: ", node_name(block, 0), b"stone");
-    text_line(b"  of node 4095: ", node_name(block, 4095), b"air");
-    text_line(b"  of node 4096: ", node_name(block, 4096), b"");
+    bytes_line(rt, b"names:", rows, &NAMES);
+    text_line(rt, b"  front row: ", name_of(rows), b"air");
+    text_line(rt, b"  behind it: ", name_of(rest), b"stone");
+    text_line(
+        rt,
+        b"  behind the last: ",
+        name_of(behind_name_row(rest)),
+        b"",
+    );
+    text_line(rt, b"  of node 0: ", node_name(block, 0), b"stone");
+    text_line(rt, b"  of node 4095: ", node_name(block, 4095), b"air");
+    text_line(rt, b"  of node 4096: ", node_name(block, 4096), b"");
 }
 
 // Shows the rows of metadata from version 23 on.
-fn metadata(block: &[u8]) {
+fn metadata(rt: &impl Print, block: &[u8]) {
     let rows = metadata_section(block);
-    bytes_line(b"metadata:", rows, &METADATA_29);
-    text_line(b"  content: ", metadata_content_of(29, rows), b"");
+    bytes_line(rt, b"metadata:", rows, &METADATA_29);
+    text_line(rt, b"  content: ", metadata_content_of(29, rows), b"");
     bytes_line(
+        rt,
         b"  variables:",
         metadata_variables_of(29, rows),
         b"\x00\x04text\x00\x00\x00\x02hi\x01",
     );
     text_line(
+        rt,
         b"  inventory: ",
         metadata_inventory_of(29, rows),
         b"List main 0\nEndInventory\n",
     );
-    text_line(b"  behind it: ", behind_metadata_row(29, rows), b"");
+    text_line(rt, b"  behind it: ", behind_metadata_row(29, rows), b"");
 }
 
 // Shows a row of metadata of version 22.
-fn metadata_of_22(block: &[u8]) {
+fn metadata_of_22(rt: &impl Print, block: &[u8]) {
     let rows = metadata_section(block);
-    bytes_line(b"metadata in version 22:", rows, &METADATA_22);
-    text_line(b"  content: ", metadata_content_of(22, rows), b"chest");
-    text_line(b"  variables: ", metadata_variables_of(22, rows), b"");
-    text_line(b"  inventory: ", metadata_inventory_of(22, rows), b"");
-    text_line(b"  behind it: ", behind_metadata_row(22, rows), b"");
-    text_line(b"  timers, which 22 has not: ", timers_section(block), b"");
+    bytes_line(rt, b"metadata in version 22:", rows, &METADATA_22);
+    text_line(rt, b"  content: ", metadata_content_of(22, rows), b"chest");
+    text_line(rt, b"  variables: ", metadata_variables_of(22, rows), b"");
+    text_line(rt, b"  inventory: ", metadata_inventory_of(22, rows), b"");
+    text_line(rt, b"  behind it: ", behind_metadata_row(22, rows), b"");
+    text_line(
+        rt,
+        b"  timers, which 22 has not: ",
+        timers_section(block),
+        b"",
+    );
 }
 
 // Shows the rows of static objects and of timers.
-fn objects_and_timers(block: &[u8]) {
+fn objects_and_timers(rt: &impl Print, block: &[u8]) {
     let objects = objects_section(block);
     let timers = timers_section(block);
-    bytes_line(b"static objects:", objects, &OBJECTS);
-    text_line(b"  content: ", object_content_of(objects), b"lamp");
-    text_line(b"  behind it: ", behind_object_row(objects), b"");
-    bytes_line(b"timers:", timers, &TIMERS);
-    text_line(b"  behind it: ", behind_timer_row(timers), b"");
+    bytes_line(rt, b"static objects:", objects, &OBJECTS);
+    text_line(rt, b"  content: ", object_content_of(objects), b"lamp");
+    text_line(rt, b"  behind it: ", behind_object_row(objects), b"");
+    bytes_line(rt, b"timers:", timers, &TIMERS);
+    text_line(rt, b"  behind it: ", behind_timer_row(timers), b"");
 }
 
 // Gives the count in the front row of a tally, 0 where there is none.
@@ -133,100 +145,106 @@ fn count_of(rows: &[u8]) -> u64 {
 }
 
 // Shows the front row of a tally beside what is expected.
-fn row_line(asked: &[u8], rows: &[u8], name: &[u8], count: u64) {
+fn row_line(rt: &impl Print, asked: &[u8], rows: &[u8], name: &[u8], count: u64) {
     let told = tally::rows::name_of(rows);
     let n = count_of(rows);
-    say(asked);
-    say_text(told);
-    say(b" ");
-    say_number(n);
-    say(b"; ");
-    say_verdict(are_same(told, name) & (n == count));
+    say(rt, asked);
+    say_text(rt, told);
+    say(rt, b" ");
+    say_number(rt, n);
+    say(rt, b"; ");
+    say_verdict(rt, are_same(told, name) & (n == count));
 }
 
 // Shows the rows of a tally from the front.
-fn tally_rows(block: &[u8]) {
+fn tally_rows(rt: &impl Print, block: &[u8]) {
     let mut out = [0u8; 256];
     let answer = anow_tally_block(0, block, Lot::WORLD, Span::ALL_TIME, &mut out);
     let rows = rows_of(front(&out, answer.length as usize));
     let rest = behind_row(rows);
-    row_line(b"tally: front row ", rows, b"air", 4095);
-    row_line(b"  behind it ", rest, b"stone", 1);
-    row_line(b"  behind the last", behind_row(rest), b"", 0);
+    row_line(rt, b"tally: front row ", rows, b"air", 4095);
+    row_line(rt, b"  behind it ", rest, b"stone", 1);
+    row_line(rt, b"  behind the last", behind_row(rest), b"", 0);
 }
 
 // Shows where the node at an index of the block at (-1, 0, 0) stands, or the number of its refusal.
-fn node_line(asked: &[u8], index: usize, x: i32, y: i32, z: i32) {
-    say(asked);
+fn node_line(rt: &impl Print, asked: &[u8], index: usize, x: i32, y: i32, z: i32) {
+    say(rt, asked);
     match node_coordinates(Coordinates { x: -1, y: 0, z: 0 }, index) {
         NodeCoordinatesAnswer::At(at) => {
-            say_coordinate(b"x ", at.x);
-            say_coordinate(b", y ", at.y);
-            say_coordinate(b", z ", at.z);
-            say(b"; ");
-            say_verdict((at.x == x) & ((at.y == y) & (at.z == z)));
+            say_coordinate(rt, b"x ", at.x);
+            say_coordinate(rt, b", y ", at.y);
+            say_coordinate(rt, b", z ", at.z);
+            say(rt, b"; ");
+            say_verdict(rt, (at.x == x) & ((at.y == y) & (at.z == z)));
         }
-        NodeCoordinatesAnswer::OutOfRange => say(b"9\n"),
-        NodeCoordinatesAnswer::NoSuchNode => say(b"16\n"),
+        NodeCoordinatesAnswer::OutOfRange => say(rt, b"9\n"),
+        NodeCoordinatesAnswer::NoSuchNode => say(rt, b"16\n"),
     }
 }
 
 // Shows whether a node stands in a lot that is made of the ends of one axis, or that the lot is bad.
-fn lot_line(asked: &[u8], least: i32, greatest: i32, x: i32) {
-    say(asked);
+fn lot_line(rt: &impl Print, asked: &[u8], least: i32, greatest: i32, x: i32) {
+    say(rt, asked);
     match Lot::new(least, 0, 0, greatest, 15, 15) {
-        LotAnswer::Bad => say(b"10\n"),
+        LotAnswer::Bad => say(rt, b"10\n"),
         LotAnswer::Good(lot) => {
             if lot.has(x, 15, 15) {
-                say(b"inside\n");
+                say(rt, b"inside\n");
             } else {
-                say(b"outside\n");
+                say(rt, b"outside\n");
             }
         }
     }
 }
 
 // Shows whether a second lies in a span, or that the span is bad.
-fn span_line(asked: &[u8], from: u32, until: u32, second: u32) {
-    say(asked);
+fn span_line(rt: &impl Print, asked: &[u8], from: u32, until: u32, second: u32) {
+    say(rt, asked);
     match Span::new(from, until) {
-        SpanAnswer::Bad => say(b"10\n"),
+        SpanAnswer::Bad => say(rt, b"10\n"),
         SpanAnswer::Good(span) => {
             if span.has(second) {
-                say(b"inside\n");
+                say(rt, b"inside\n");
             } else {
-                say(b"outside\n");
+                say(rt, b"outside\n");
             }
         }
     }
 }
 
 // Shows nodes, lots and spans.
-fn positions() {
-    say(b"\nNodes, lots and spans\n");
-    node_line(b"node 0 of the block at (-1, 0, 0): ", 0, -16, 0, 0);
-    node_line(b"node 273: ", 273, -15, 1, 1);
-    node_line(b"node 4095: ", 4095, -1, 15, 15);
-    node_line(b"node 4096: ", 4096, 0, 0, 0);
-    lot_line(b"x -1 in a lot from -16 to -1: ", -16, -1, -1);
-    lot_line(b"x 0 in it: ", -16, -1, 0);
-    lot_line(b"a lot from -1 to -16: ", -1, -16, -1);
-    lot_line(b"a lot from -32769 on: ", -32769, -1, -1);
-    span_line(b"999999 in the span 0 to 1000000: ", 0, 1_000_000, 999_999);
-    span_line(b"1000000 in it: ", 0, 1_000_000, 1_000_000);
-    span_line(b"a span from 2 to 1: ", 2, 1, 1);
+fn positions(rt: &impl Print) {
+    say(rt, b"\nNodes, lots and spans\n");
+    node_line(rt, b"node 0 of the block at (-1, 0, 0): ", 0, -16, 0, 0);
+    node_line(rt, b"node 273: ", 273, -15, 1, 1);
+    node_line(rt, b"node 4095: ", 4095, -1, 15, 15);
+    node_line(rt, b"node 4096: ", 4096, 0, 0, 0);
+    lot_line(rt, b"x -1 in a lot from -16 to -1: ", -16, -1, -1);
+    lot_line(rt, b"x 0 in it: ", -16, -1, 0);
+    lot_line(rt, b"a lot from -1 to -16: ", -1, -16, -1);
+    lot_line(rt, b"a lot from -32769 on: ", -32769, -1, -1);
+    span_line(
+        rt,
+        b"999999 in the span 0 to 1000000: ",
+        0,
+        1_000_000,
+        999_999,
+    );
+    span_line(rt, b"1000000 in it: ", 0, 1_000_000, 1_000_000);
+    span_line(rt, b"a span from 2 to 1: ", 2, 1, 1);
 }
 
 // Shows all of it.
-pub(crate) fn run() {
+pub(crate) fn run(rt: &impl Print) {
     let mut room = [0u8; ROOM];
-    say(b"\nA block of version 29 with rows in every section\n");
+    say(rt, b"\nA block of version 29 with rows in every section\n");
     let n = put_rows(29, &METADATA_29, &TIMERS, &mut room);
-    names(front(&room, n));
-    metadata(front(&room, n));
-    objects_and_timers(front(&room, n));
-    tally_rows(front(&room, n));
+    names(rt, front(&room, n));
+    metadata(rt, front(&room, n));
+    objects_and_timers(rt, front(&room, n));
+    tally_rows(rt, front(&room, n));
     let m = put_rows(22, &METADATA_22, b"", &mut room);
-    metadata_of_22(front(&room, m));
-    positions();
+    metadata_of_22(rt, front(&room, m));
+    positions(rt);
 }

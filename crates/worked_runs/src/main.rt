@@ -14,11 +14,11 @@ mod sheets;
 mod shortest;
 
 // Runs the sums.
-fn main() {
-    shortest::run();
-    mistakes::run();
-    looking::run();
-    fixed_fields::run();
-    list_forms::run();
-    prices::run();
+fn main(rt: HostRuntime) {
+    shortest::run(&rt);
+    mistakes::run(&rt);
+    looking::run(&rt);
+    fixed_fields::run(&rt);
+    list_forms::run(&rt);
+    prices::run(&rt);
 }
