@@ -180,24 +180,51 @@ pub row-refused : (values : Bool) (v : ℕ) (s : List ℕ) {e : Fault} → (posi
 unfolding metadata_row_for iso ◌⨾◌
 row-refused values v s h = rw h
 
+-- the fields by themselves, up to version 22
+abbrev old_shape : (p u : BlockFormat ℕ) (c : BlockFormat (List ℕ)) (l : BlockFormat (List Variable)) (i : BlockFormat (List ℕ)) → BlockFormat MetadataRow
+old_shape p u c l i = into metadata_shape (p ▹ tail_by u c l i false)
+
+module _ (p u : BlockFormat ℕ) (c : BlockFormat (List ℕ)) (l : BlockFormat (List Variable)) (i : BlockFormat (List ℕ)) (s : List ℕ) {at : ℕ} (h : p.read s ≡ done at 2) where
+  old-kind : {e : Fault} {q : ℕ} → u.read (drop 2 s) ≡ refused e q → (old_shape p u c l i).read s ≡ refused e (2 + q)
+  unfolding iso ◌⨾◌ nothing
+  old-kind g = rw (h, g)
+
+  old-content : {kind : ℕ} {e : Fault} {q : ℕ} → u.read (drop 2 s) ≡ done kind 2 → c.read (drop 2 (drop 2 s)) ≡ refused e q → (old_shape p u c l i).read s ≡ refused e (2 + (2 + q))
+  unfolding iso ◌⨾◌ nothing
+  old-content g f = rw (h, g, f)
+
+  old-done : {kind n : ℕ} {a : List ℕ} → u.read (drop 2 s) ≡ done kind 2 → c.read (drop 2 (drop 2 s)) ≡ done a n
+      → (old_shape p u c l i).read s ≡ done record { position = at; kind = kind; content = a; variables = []; inventory = [] } (2 + (2 + (n + (0 + 0))))
+  unfolding iso ◌⨾◌ nothing
+  old-done g f = rw (h, g, f)
+
 module _ (values : Bool) (v : ℕ) (s : List ℕ) {at : ℕ} (h : (position_for values).read s ≡ done at 2) where
   -- version 22
   module _ (k : v < 23) where
+    old_is : {r : Read Fault MetadataRow} → (old_shape (position_for values) u16 (prefixed 2) (variable_list values v) inventory).read s ≡ r → map_read (metadata_fields v) r ≡ told values v s
+    unfolding metadata_row_for
+    old_is e = ap (map_read (metadata_fields v)) (sym (
+        ap (λ (b : Bool). (into metadata_shape (position_for values ▹ tail_by u16 (prefixed 2) (variable_list values v) inventory b)).read s) (lt-leb 23 v k) ∙ e))
+
     pub kind-ends : (num 2).read (drop 2 s) ≡ refused fault.Ends 0 → refused fault.Ends 2 ≡ told values v s
-    unfolding metadata_row_for iso ◌⨾◌
-    kind-ends g = rw (h, lt-leb 23 v k, g)
+    kind-ends g = old_is (old-kind (position_for values) u16 (prefixed 2) (variable_list values v) inventory s h g)
 
     pub content-ends : {kind p : ℕ} → (num 2).read (drop 2 s) ≡ done kind 2 → (text 2).read (drop 4 s) ≡ refused fault.Ends p → refused fault.Ends (4 + p) ≡ told values v s
-    unfolding metadata_row_for iso ◌⨾◌
-    content-ends {p = p} g f = let z : 4 + p ≡ 2 + (2 + p) = omega arith in rw (h, lt-leb 23 v k, g, drop-drop 2 2 s, f) (ap (refused fault.Ends) z)
+    content-ends {p = p} g f =
+        let z : 4 + p ≡ 2 + (2 + p) = omega arith in
+        ap (refused fault.Ends) z ∙ old_is (old-content (position_for values) u16 (prefixed 2) (variable_list values v) inventory s h g (ap (text 2).read (drop-drop 2 2 s) ∙ f))
+
+    old-fields : (at kind n : ℕ) (a : List ℕ) → length a ≡ n
+        → metadata_fields v record { position = at; kind = kind; content = a; variables = []; inventory = [] } ≡ record { position = at; kind = kind; content = range_at 6 n; variables = 0; rows = no_range; inventory = no_range }
+    old-fields at kind n a e = rw (lt-leb 23 v k, e)
 
     pub content-done : {kind n : ℕ} → (num 2).read (drop 2 s) ≡ done kind 2 → (text 2).read (drop 4 s) ≡ done (take n (drop 2 (drop 4 s))) (2 + n)
         → done record { position = at; kind = kind; content = range_at 6 n; variables = 0; rows = no_range; inventory = no_range } (6 + n) ≡ told values v s
-    unfolding metadata_row_for iso ◌⨾◌ nothing
-    content-done {n = n} g f =
+    content-done {kind = kind} {n = n} g f =
         let z : 6 + n ≡ 2 + (2 + (2 + n + (0 + 0))) = omega arith in
         let l : n ≤ length (drop 2 (drop 4 s)) = rw length-drop (omega (arith, within (text 2) (drop 4 s) f)) in
-        rw (h, lt-leb 23 v k, g, drop-drop 2 2 s, f, length-take-le n (drop 2 (drop 4 s)) l, lt-leb 23 v k, z)
+        rw (← old-fields at kind n (take n (drop 2 (drop 4 s))) (length-take-le n (drop 2 (drop 4 s)) l), z)
+        (old_is (old-done (position_for values) u16 (prefixed 2) (variable_list values v) inventory s h g (ap (text 2).read (drop-drop 2 2 s) ∙ f)))
 
 -- ---- from version 23 on
 abbrev new_row : ℕ → List Variable × List ℕ → MetadataRow
