@@ -18,7 +18,7 @@ use Rattle.wire.proofs.Answers.{no-good}
 use Rattle.wire.specs.Formats.{◌▹◌, into, listed, behind, fixed, u16, u32, prefixed, only}
 use Rattle.mapblock.specs.Inventory.{BlockFormat, inventory}
 use Rattle.mapblock.specs.Data.{Variable, MetadataRow, MetadataList, ObjectRow, Timers, Front, Rest, Block, no_mapping, no_timers, metadata_shape, steps_shape}
-use Rattle.mapblock.specs.Layout.{since, before, all, new_position, variable, metadata_row, width, unmapped, nodes, name_mapping, list_version_bytes, is_list_version, is_counted, list_form, metadata, has_timers, timers_of24, early_timers, objects, late_timers, front, rest, steps}
+use Rattle.mapblock.specs.Layout.{since, before, all, new_position, variable, metadata_row, width, nodes, name_mapping, list_version_bytes, is_list_version, is_counted, list_form, metadata, has_timers, timers_of24, early_timers, objects, late_timers, front, rest, steps}
 use Rattle.mapblock.specs.Block.{judged_whole, block_from, block, first_unmapped, judged, verdict}
 use Rattle.mapblock.specs.Numbers.{refusal_number}
 use Rattle.block_reader.specs.FixedFields.{FixedField, Differs, ExactlyWhere, front_version, content_width, params_width, metadata_version, private_byte, timer_byte, object_version, mapping_version_in_front, mapping_version_behind, timer_row_length, GivenExactlyWhere}

@@ -46,18 +46,18 @@ seen_same seen also (r ∷ l) = rw (row-bytes seen r, row-bytes also r, seen_sam
 
 -- ---- a row that was read
 module _ (s : List ℕ) {row : NameFields} {n : ℕ} (h : done row n ≡ map_read name_fields ((name_row all []).read s)) where
-  row_read_lem : (r : NameRow) × ((name_row all []).read s ≡ done r n) × (name_fields r ≡ row)
-  row_read_lem = map-done name_fields ((name_row all []).read s) row n (sym h)
+  found_row : (r : NameRow) × ((name_row all []).read s ≡ done r n) × (name_fields r ≡ row)
+  found_row = map-done name_fields ((name_row all []).read s) row n (sym h)
 
   pub row-start : row.name.start ≡ 4
-  row-start = sym (ap (λ (x : NameFields). x.name.start) row_read.2)
+  row-start = sym (ap (λ (x : NameFields). x.name.start) found_row.2)
 
   pub row_inside : n ≤ length s
-  row_inside = ends-in (name_row all []) row_read.1
+  row_inside = ends-in (name_row all []) found_row.1
 
   pub row-size : Bytes s → n ≡ 4 + row.name.length
   row-size w =
-      let x = row_read_lem in
+      let x = found_row in
       ((name_row all []).backward s x.0 n w x.1).ends ∙ row-length [] x.0 ∙ ap (λ (y : NameFields). 4 + y.name.length) x.2
 
 -- its name's bytes stand behind the id and the length
@@ -117,7 +117,7 @@ pub first-row : (s : List ℕ) {row : NameFields} {n : ℕ} → Bytes s → done
 unfolding rows_read
 first-row [] w h = not_done (sym (h ∙ ap (map_read name_fields) nothing-there))
 first-row (x ∷ s) {row} {n} w h =
-    let y = row_read_lem (x ∷ s) h in
+    let y = found_row (x ∷ s) h in
     let size : 4 + length y.0.name ≡ n = ap (λ (z : NameFields). 4 + z.name.length) y.2 ∙ sym (row-size (x ∷ s) h w) in
     record {
       row = y.0;

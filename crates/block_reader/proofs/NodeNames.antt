@@ -97,7 +97,7 @@ module _ {names rest : List ℕ} {start at id : ℕ} (f : Finding names rest sta
         let other : id ≡ y.row.id → ⊥ = λ z. e (sym (ap (λ (z : NameFields). z.id) y.fields) ∙ sym z) in
         let place : at + n ≡ at + 4 + length y.row.name = omega (arith, y.size) in
         let on : name_range_of (all_rows (drop n rest)) (at + n) id ≡ name_range_of (y.row ∷ all_rows (drop n rest)) at id = rw (ne_eqb id y.row.id other, place) in
-        rw (rest-is n rest) record {
+        subst (λ (l : List ℕ). Finding names l start (at + n) id) (sym (rest-is n rest)) record {
           left = on ∙ ap (λ (m : List NameRow). name_range_of m at id) (sym y.rows) ∙ f.left;
           size = rw length-drop (omega (arith, f.size, row_inside rest k));
           bytes = bytes_drop n rest f.bytes;
