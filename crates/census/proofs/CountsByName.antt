@@ -99,6 +99,7 @@ over-one k (r ∷ l) d = go (eqb k r.id) refl (over-one k l d.1)
 
 -- a mapped id gives what its own name weighs
 over-own : (v : List ℕ → ℕ) (k : ℕ) (l : List NameRow) → Distinct row_id l → Has row_id k l → over (by_name v) (λ i. bit (eqb k i)) l ≡ v (name_of l k)
+over-own v k [] d h = elim h [ ]
 over-own v k (r ∷ l) d h = go (eqb k r.id) refl h (over-own v k l d.1)
   where
     go : (b : Bool) → eqb k r.id ≡ b → (r.id ≡ k) ⊎ Has row_id k l → (Has row_id k l → over (by_name v) (λ i. bit (eqb k i)) l ≡ v (name_of l k))
