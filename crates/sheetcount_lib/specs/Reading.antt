@@ -1,4 +1,4 @@
--- What the answers of reading say. No contract can say which bytes a read gives, or that one fails, so they say that there are bytes s of which
+-- What the answers of reading say. No contract can say which bytes a file gives, or that a read fails, so they say that there are bytes s of which
 -- they are true, unless a read failed.
 use Rattle.std.specs.Prelude.{ℕ, ◌+◌, ◌≤◌, ◌≡◌, List, length, take}
 use Rattle.wire.specs.Bytes.{Bytes}

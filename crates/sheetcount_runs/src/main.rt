@@ -1,5 +1,5 @@
-// Runs sheetcount over the files that its arguments name, and where nothing can be read or written. No contract can say which bytes a read
-// gives or a write takes; what is printed here is compared instead. The files, the arguments and what is to be printed are made by tests/sheets.
+// Runs sheetcount over the files that its arguments name, and where nothing can be read or written. No contract can say which bytes a file
+// gives or takes; what is printed here is compared instead. The files, the arguments and what is to be printed are made by tests/sheets.
 #![tactic(auto)]
 
 use sheetcount_lib::run;
