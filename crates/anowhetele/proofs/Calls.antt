@@ -38,8 +38,8 @@ use Rattle.meter.specs.SheetTally.{fitted_sheet, tally_sheet_of}
 use Rattle.rates.specs.Rates.{rates_of, check_rates_of}
 use Rattle.pricing.specs.Bills.{bill_of}
 use Rattle.pricing.specs.Pricing.{price_block_of, price_sheet_of}
-use Rattle.anowhetele.specs.Calls.{Call, numbers_of, CallNumbers, NeverThree, key-join, key_split, lot-has, span-has, read, sections, row-name, row-metadata, row-object, row-timer, node-name, write, tally-check, tally-add, tally-merge, tally-block, tally-sheet, rates-check, price-block, price-sheet}
-use Rattle.anowhetele.specs.Places.{asked, lot_has, span_has}
+use Rattle.anowhetele.specs.Calls.{Call, numbers_of, CallNumbers, NeverThree, key_join, key_split, lot_has, span_has, read, sections, row_name, row_metadata, row_object, row_timer, node_name, write, tally_check, tally_add, tally_merge, tally_block, tally_sheet, rates_check, price_block, price_sheet}
+use Rattle.anowhetele.specs.Places as places
 
 -- ---- what the calls share
 -- a key; 9 is among the numbers
@@ -92,8 +92,8 @@ tallied-numbers numbers many small room l =
 
 -- ---- the calls
 -- behind more numbers
-block_in_lem : (more : List ℕ) (r : Read Fault Block) → RefusedWith (more ++ block_numbers) (block_answer r)
-block_in_lem more r = with-more more block_numbers (block_answer r) (block-answer-numbers r)
+block-in : (more : List ℕ) (r : Read Fault Block) → RefusedWith (more ++ block_numbers) (block_answer r)
+block-in more r = with-more more block_numbers (block_answer r) (block-answer-numbers r)
 
 block-of-in : (more s : List ℕ) → RefusedWith (more ++ block_numbers) (block_of s)
 block-of-in more s = with-more more block_numbers (block_of s) (block-numbers s)
@@ -102,7 +102,7 @@ join-numbers : (x y z : ℤ) → RefusedWith (out_of_range ∷ []) (join_of x y 
 unfolding join_of
 join-numbers x y z = with-cond (out_of_range ∷ []) (all_inside x y z) (good (key_of x y z)) (plain out_of_range) tt refl
 
-asked-numbers : (fit has : Bool) → RefusedWith (bad_part ∷ []) (asked fit has)
+asked-numbers : (fit has : Bool) → RefusedWith (bad_part ∷ []) (places.asked fit has)
 asked-numbers fit has = with-cond (bad_part ∷ []) fit (good has) (plain bad_part) tt refl
 
 read-numbers : (s : List ℕ) (lists : Nodes) → RefusedWith (parts_misfit ∷ block_numbers) (read_into s lists)
@@ -161,7 +161,7 @@ tally-sheet-numbers s p room spare =
     let numbers = more ++ block_numbers in
     with-cond numbers (good_part p) _ (plain bad_part)
     (with-cond numbers (leb room spare) _ (plain parts_misfit)
-    (with-then numbers (sheet_of s) _ (sheet-numbers numbers refl refl (block_in_lem more) s) (λ l. fitted-numbers numbers refl refl room (tally_of by_one (nodes_in p l)) (length l)))
+    (with-then numbers (sheet_of s) _ (sheet-numbers numbers refl refl (block-in more) s) (λ l. fitted-numbers numbers refl refl room (tally_of by_one (nodes_in p l)) (length l)))
     refl)
     refl
 
@@ -185,54 +185,54 @@ price-sheet-numbers s r p =
     with-cond numbers (good_part p) _ (plain bad_part)
     (with-some numbers rates_malformed (rates_of r) _ refl
     (λ rs.
-    with-then numbers (sheet_of s) _ (sheet-numbers numbers refl refl (block_in_lem more) s)
+    with-then numbers (sheet_of s) _ (sheet-numbers numbers refl refl (block-in more) s)
     (λ l. let b = bill_of rs (nodes_in p l) in with-cond numbers (leb b.total max_count) (good b) (refusal too_many (length l) 0) tt refl)))
     refl
 
 pub call-numbers : CallNumbers
-call-numbers (key-join x y z) = with-map (numbers_of (key-join x y z)) _ (join_of x y z) (join-numbers x y z)
+call-numbers (key_join x y z) = with-map (numbers_of (key_join x y z)) _ (join_of x y z) (join-numbers x y z)
 call-numbers (key_split k) = with-map (numbers_of (key_split k)) _ (split_of k) (split-numbers (out_of_range ∷ []) refl k)
-call-numbers (lot-has l x y z) = with-map (numbers_of (lot-has l x y z)) _ (lot_has l x y z) (asked-numbers (good_lot l) (in_lot l x y z))
-call-numbers (span-has s t) = with-map (numbers_of (span-has s t)) _ (span_has s t) (asked-numbers (good_span s) (in_span s t))
+call-numbers (lot_has l x y z) = with-map (numbers_of (lot_has l x y z)) _ (places.lot_has l x y z) (asked-numbers (good_lot l) (in_lot l x y z))
+call-numbers (span_has s t) = with-map (numbers_of (span_has s t)) _ (places.span_has s t) (asked-numbers (good_span s) (in_span s t))
 call-numbers (read s lists) = with-map (numbers_of (read s lists)) _ (read_into s lists) (read-numbers s lists)
 call-numbers (sections s) = with-map (numbers_of (sections s)) _ (sections_of s) (with-map block_numbers shown (block_of s) (block-numbers s))
-call-numbers (row-name s) = with-map (numbers_of (row-name s)) _ (name_row_of s) (row-numbers.name s)
-call-numbers (row-metadata v s) = with-map (numbers_of (row-metadata v s)) _ (metadata_row_of v s) (row-numbers.metadata v s)
-call-numbers (row-object s) = with-map (numbers_of (row-object s)) _ (object_row_of s) (row-numbers.object s)
-call-numbers (row-timer s) = with-map (numbers_of (row-timer s)) _ (timer_row_of s) (row-numbers.timer s)
-call-numbers (node-name s i) = with-map (numbers_of (node-name s i)) _ (node_name_of s i) (node-numbers s i)
+call-numbers (row_name s) = with-map (numbers_of (row_name s)) _ (name_row_of s) (row-numbers.name s)
+call-numbers (row_metadata v s) = with-map (numbers_of (row_metadata v s)) _ (metadata_row_of v s) (row-numbers.metadata v s)
+call-numbers (row_object s) = with-map (numbers_of (row_object s)) _ (object_row_of s) (row-numbers.object s)
+call-numbers (row_timer s) = with-map (numbers_of (row_timer s)) _ (timer_row_of s) (row-numbers.timer s)
+call-numbers (node_name s i) = with-map (numbers_of (node_name s i)) _ (node_name_of s i) (node-numbers s i)
 call-numbers (write p h room) = with-map (numbers_of (write p h room)) _ (write_of p room) (writer-numbers p room h)
-call-numbers (tally-check s) = with-map (numbers_of (tally-check s)) _ (check_of one s) (check-numbers s)
-call-numbers (tally-add s n r) = with-map (numbers_of (tally-add s n r)) _ (add_of one s n r) (add-numbers s n r)
-call-numbers (tally-merge room s t) = with-map (numbers_of (tally-merge room s t)) _ (merge_of one room s t) (merge-numbers room s t)
-call-numbers (tally-block k s p room) = with-map (numbers_of (tally-block k s p room)) _ (tally_block_of by_one k s p room) (tally-block-numbers k s p room)
-call-numbers (tally-sheet s p room spare) = with-map (numbers_of (tally-sheet s p room spare)) _ (tally_sheet_of by_one s p room spare) (tally-sheet-numbers s p room spare)
-call-numbers (rates-check s) = with-map (numbers_of (rates-check s)) _ (check_rates_of s) (rates-check-numbers s)
-call-numbers (price-block k s r p) = with-map (numbers_of (price-block k s r p)) _ (price_block_of k s r p) (price-block-numbers k s r p)
-call-numbers (price-sheet s r p) = with-map (numbers_of (price-sheet s r p)) _ (price_sheet_of s r p) (price-sheet-numbers s r p)
+call-numbers (tally_check s) = with-map (numbers_of (tally_check s)) _ (check_of one s) (check-numbers s)
+call-numbers (tally_add s n r) = with-map (numbers_of (tally_add s n r)) _ (add_of one s n r) (add-numbers s n r)
+call-numbers (tally_merge room s t) = with-map (numbers_of (tally_merge room s t)) _ (merge_of one room s t) (merge-numbers room s t)
+call-numbers (tally_block k s p room) = with-map (numbers_of (tally_block k s p room)) _ (tally_block_of by_one k s p room) (tally-block-numbers k s p room)
+call-numbers (tally_sheet s p room spare) = with-map (numbers_of (tally_sheet s p room spare)) _ (tally_sheet_of by_one s p room spare) (tally-sheet-numbers s p room spare)
+call-numbers (rates_check s) = with-map (numbers_of (rates_check s)) _ (check_rates_of s) (rates-check-numbers s)
+call-numbers (price_block k s r p) = with-map (numbers_of (price_block k s r p)) _ (price_block_of k s r p) (price-block-numbers k s r p)
+call-numbers (price_sheet s r p) = with-map (numbers_of (price_sheet s r p)) _ (price_sheet_of s r p) (price-sheet-numbers s r p)
 
 -- ---- 3
-not_three : (c : Call) → is_one_of 3 (numbers_of c) ≡ false
-not_three (key-join x y z) = refl
-not_three (key_split k) = refl
-not_three (lot-has l x y z) = refl
-not_three (span-has s t) = refl
-not_three (read s lists) = refl
-not_three (sections s) = refl
-not_three (row-name s) = refl
-not_three (row-metadata v s) = refl
-not_three (row-object s) = refl
-not_three (row-timer s) = refl
-not_three (node-name s i) = refl
-not_three (write p h room) = refl
-not_three (tally-check s) = refl
-not_three (tally-add s n r) = refl
-not_three (tally-merge room s t) = refl
-not_three (tally-block k s p room) = refl
-not_three (tally-sheet s p room spare) = refl
-not_three (rates-check s) = refl
-not_three (price-block k s r p) = refl
-not_three (price-sheet s r p) = refl
+not-three : (c : Call) → is_one_of 3 (numbers_of c) ≡ false
+not-three (key_join x y z) = refl
+not-three (key_split k) = refl
+not-three (lot_has l x y z) = refl
+not-three (span_has s t) = refl
+not-three (read s lists) = refl
+not-three (sections s) = refl
+not-three (row_name s) = refl
+not-three (row_metadata v s) = refl
+not-three (row_object s) = refl
+not-three (row_timer s) = refl
+not-three (node_name s i) = refl
+not-three (write p h room) = refl
+not-three (tally_check s) = refl
+not-three (tally_add s n r) = refl
+not-three (tally_merge room s t) = refl
+not-three (tally_block k s p room) = refl
+not-three (tally_sheet s p room spare) = refl
+not-three (rates_check s) = refl
+not-three (price_block k s r p) = refl
+not-three (price_sheet s r p) = refl
 
 pub never-three : NeverThree
-never-three c r o h = no_true (sym (not_three c) ∙ subst (RefusedWith (numbers_of c)) h (call-numbers c))
+never-three c r o h = no_true (sym (not-three c) ∙ subst (RefusedWith (numbers_of c)) h (call-numbers c))

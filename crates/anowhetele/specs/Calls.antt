@@ -19,79 +19,79 @@ use Rattle.meter.specs.Tallying.{tally_block_of}
 use Rattle.meter.specs.SheetTally.{tally_sheet_of}
 use Rattle.rates.specs.Rates.{check_rates_of}
 use Rattle.pricing.specs.Pricing.{price_block_of, price_sheet_of}
-use Rattle.anowhetele.specs.Places.{lot_has, span_has}
+use Rattle.anowhetele.specs.Places as places
 
 -- Every call that can be refused, with what it is given. Of a lent buffer the length matters, a room, and of the lists that a block is read into
 -- what they hold before.
 pub data Call : Type 0 where
-  key-join : ℤ → ℤ → ℤ → Call
+  key_join : ℤ → ℤ → ℤ → Call
   key_split : ℤ → Call
-  lot-has : Lot → ℤ → ℤ → ℤ → Call
-  span-has : Span → ℕ → Call
+  lot_has : Lot → ℤ → ℤ → ℤ → Call
+  span_has : Span → ℕ → Call
   read : List ℕ → Nodes → Call
   sections : List ℕ → Call
-  row-name : List ℕ → Call
-  row-metadata : ℕ → List ℕ → Call
-  row-object : List ℕ → Call
-  row-timer : List ℕ → Call
-  node-name : List ℕ → ℕ → Call
+  row_name : List ℕ → Call
+  row_metadata : ℕ → List ℕ → Call
+  row_object : List ℕ → Call
+  row_timer : List ℕ → Call
+  node_name : List ℕ → ℕ → Call
   write : (p : BlockParts) → WellTyped p → ℕ → Call
-  tally-check : List ℕ → Call
-  tally-add : List ℕ → ℕ → TallyRow one → Call
-  tally-merge : ℕ → List ℕ → List ℕ → Call
-  tally-block : ℤ → List ℕ → Part → ℕ → Call
-  tally-sheet : List ℕ → Part → ℕ → ℕ → Call
-  rates-check : List ℕ → Call
-  price-block : ℤ → List ℕ → List ℕ → Part → Call
-  price-sheet : List ℕ → List ℕ → Part → Call
+  tally_check : List ℕ → Call
+  tally_add : List ℕ → ℕ → TallyRow one → Call
+  tally_merge : ℕ → List ℕ → List ℕ → Call
+  tally_block : ℤ → List ℕ → Part → ℕ → Call
+  tally_sheet : List ℕ → Part → ℕ → ℕ → Call
+  rates_check : List ℕ → Call
+  price_block : ℤ → List ℕ → List ℕ → Part → Call
+  price_sheet : List ℕ → List ℕ → Part → Call
 
 -- an answer but for what it gives
 abbrev pub without_value : {A : Type 0} → Answer A → Answer (Unit {0})
 without_value a = map_answer (λ _. tt) a
 
 abbrev pub call_answer : Call → Answer (Unit {0})
-call_answer (key-join x y z) = without_value (join_of x y z)
+call_answer (key_join x y z) = without_value (join_of x y z)
 call_answer (key_split k) = without_value (split_of k)
-call_answer (lot-has l x y z) = without_value (lot_has l x y z)
-call_answer (span-has s t) = without_value (span_has s t)
+call_answer (lot_has l x y z) = without_value (places.lot_has l x y z)
+call_answer (span_has s t) = without_value (places.span_has s t)
 call_answer (read s lists) = without_value (read_into s lists)
 call_answer (sections s) = without_value (sections_of s)
-call_answer (row-name s) = without_value (name_row_of s)
-call_answer (row-metadata v s) = without_value (metadata_row_of v s)
-call_answer (row-object s) = without_value (object_row_of s)
-call_answer (row-timer s) = without_value (timer_row_of s)
-call_answer (node-name s i) = without_value (node_name_of s i)
+call_answer (row_name s) = without_value (name_row_of s)
+call_answer (row_metadata v s) = without_value (metadata_row_of v s)
+call_answer (row_object s) = without_value (object_row_of s)
+call_answer (row_timer s) = without_value (timer_row_of s)
+call_answer (node_name s i) = without_value (node_name_of s i)
 call_answer (write p h room) = without_value (write_of p room)
-call_answer (tally-check s) = without_value (check_of one s)
-call_answer (tally-add s n r) = without_value (add_of one s n r)
-call_answer (tally-merge room s t) = without_value (merge_of one room s t)
-call_answer (tally-block k s p room) = without_value (tally_block_of by_one k s p room)
-call_answer (tally-sheet s p room spare) = without_value (tally_sheet_of by_one s p room spare)
-call_answer (rates-check s) = without_value (check_rates_of s)
-call_answer (price-block k s r p) = without_value (price_block_of k s r p)
-call_answer (price-sheet s r p) = without_value (price_sheet_of s r p)
+call_answer (tally_check s) = without_value (check_of one s)
+call_answer (tally_add s n r) = without_value (add_of one s n r)
+call_answer (tally_merge room s t) = without_value (merge_of one room s t)
+call_answer (tally_block k s p room) = without_value (tally_block_of by_one k s p room)
+call_answer (tally_sheet s p room spare) = without_value (tally_sheet_of by_one s p room spare)
+call_answer (rates_check s) = without_value (check_rates_of s)
+call_answer (price_block k s r p) = without_value (price_block_of k s r p)
+call_answer (price_sheet s r p) = without_value (price_sheet_of s r p)
 
 abbrev pub numbers_of : Call → List ℕ
-numbers_of (key-join x y z) = out_of_range ∷ []
+numbers_of (key_join x y z) = out_of_range ∷ []
 numbers_of (key_split k) = out_of_range ∷ []
-numbers_of (lot-has l x y z) = bad_part ∷ []
-numbers_of (span-has s t) = bad_part ∷ []
+numbers_of (lot_has l x y z) = bad_part ∷ []
+numbers_of (span_has s t) = bad_part ∷ []
 numbers_of (read s lists) = parts_misfit ∷ block_numbers
 numbers_of (sections s) = block_numbers
-numbers_of (row-name s) = name_row_numbers
-numbers_of (row-metadata v s) = metadata_row_numbers
-numbers_of (row-object s) = object_row_numbers
-numbers_of (row-timer s) = timer_row_numbers
-numbers_of (node-name s i) = no_such ∷ block_numbers
+numbers_of (row_name s) = name_row_numbers
+numbers_of (row_metadata v s) = metadata_row_numbers
+numbers_of (row_object s) = object_row_numbers
+numbers_of (row_timer s) = timer_row_numbers
+numbers_of (node_name s i) = no_such ∷ block_numbers
 numbers_of (write p h room) = writer_numbers
-numbers_of (tally-check s) = tally_malformed ∷ []
-numbers_of (tally-add s n r) = parts_misfit ∷ tally_malformed ∷ too_many ∷ no_room ∷ []
-numbers_of (tally-merge room s t) = tally_malformed ∷ too_many ∷ no_room ∷ []
-numbers_of (tally-block k s p room) = bad_part ∷ out_of_range ∷ no_room ∷ block_numbers
-numbers_of (tally-sheet s p room spare) = bad_part ∷ parts_misfit ∷ sheet_malformed ∷ out_of_range ∷ no_room ∷ too_many ∷ block_numbers
-numbers_of (rates-check s) = rates_malformed ∷ []
-numbers_of (price-block k s r p) = bad_part ∷ rates_malformed ∷ out_of_range ∷ block_numbers
-numbers_of (price-sheet s r p) = bad_part ∷ rates_malformed ∷ sheet_malformed ∷ out_of_range ∷ too_many ∷ block_numbers
+numbers_of (tally_check s) = tally_malformed ∷ []
+numbers_of (tally_add s n r) = parts_misfit ∷ tally_malformed ∷ too_many ∷ no_room ∷ []
+numbers_of (tally_merge room s t) = tally_malformed ∷ too_many ∷ no_room ∷ []
+numbers_of (tally_block k s p room) = bad_part ∷ out_of_range ∷ no_room ∷ block_numbers
+numbers_of (tally_sheet s p room spare) = bad_part ∷ parts_misfit ∷ sheet_malformed ∷ out_of_range ∷ no_room ∷ too_many ∷ block_numbers
+numbers_of (rates_check s) = rates_malformed ∷ []
+numbers_of (price_block k s r p) = bad_part ∷ rates_malformed ∷ out_of_range ∷ block_numbers
+numbers_of (price_sheet s r p) = bad_part ∷ rates_malformed ∷ sheet_malformed ∷ out_of_range ∷ too_many ∷ block_numbers
 
 -- A call is refused with one of its numbers, or not at all.
 abbrev pub CallNumbers : Type 0

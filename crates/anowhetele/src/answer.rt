@@ -1,13 +1,15 @@
 // What a call comes back with.
 ghost use Rattle.std.specs.Prelude.{◌≡◌};
 ghost use Rattle.mapblock.specs.Numbers.{refusal_number};
+ghost use Rattle.sheet.specs.Records.{fault_number, fault_offset};
 ghost use Rattle.anowhetele.specs.Answers.{done_with, refused_with};
 
-use crate::numbers::DONE;
-use mapblock::fault::{Fault, refusal_number};
+use crate::numbers::{DONE, OUT_OF_RANGE, SHEET_MALFORMED};
+use mapblock::fault::{Refusal, refusal_number};
+use sheet::records::RecordFault;
 
 #[repr(C)]
-#[derive(Clone, Copy)]
+#[derive(Clone, Copy, Debug, PartialEq, Eq, Hash)]
 pub struct AnowAnswer {
     pub number: u32,
     // The record of a sheet.
@@ -22,14 +24,12 @@ pub(crate) fn done(length: usize) -> AnowAnswer
     ensures { result ≡ done_with length }
 {
     AnowAnswer {
-        number: DONE,
-        index: 0,
-        offset: 0,
         length: length as u64,
+        ..plain(DONE)
     }
 }
 
-// Makes a refusal that has neither record nor offset.
+// Makes an answer that has neither record nor offset nor length: a refusal, where the number is not 0.
 pub(crate) fn plain(number: u32) -> AnowAnswer
     ensures { result ≡ refused_with number 0 0 }
 {
@@ -41,26 +41,38 @@ pub(crate) fn plain(number: u32) -> AnowAnswer
     }
 }
 
-// Makes the refusal of a fault in a block or a row, at its place.
-pub(crate) fn refused(fault: Fault, offset: usize) -> AnowAnswer
-    ensures { result ≡ refused_with (refusal_number fault) 0 offset }
+// Makes a refusal in a sheet: that of the record at an index.
+pub(crate) fn in_record(number: u32, index: u32) -> AnowAnswer
+    ensures { result ≡ refused_with number index 0 }
 {
     AnowAnswer {
-        number: refusal_number(fault),
-        index: 0,
-        offset: offset as u64,
-        length: 0,
+        index,
+        ..plain(number)
     }
 }
 
-// Makes a refusal in a sheet: that of the record at an index.
-pub(crate) fn in_record(number: u32, index: u32, offset: usize) -> AnowAnswer
-    ensures { result ≡ refused_with number index offset }
+// A fault in a block or a row is refused at its place.
+impl From<Refusal> for AnowAnswer {
+    ghost from_gives = { λ r a. a ≡ refused_with (refusal_number r.fault) 0 r.offset };
+
+    fn from(refusal: Refusal) -> AnowAnswer {
+        AnowAnswer {
+            offset: refusal.offset as u64,
+            ..plain(refusal_number(refusal.fault))
+        }
+    }
+}
+
+// Makes the refusal of the record at an index.
+pub(crate) fn record_refused(fault: RecordFault, index: u32) -> AnowAnswer
+    ensures { result ≡ refused_with (fault_number fault) index (fault_offset fault) }
 {
-    AnowAnswer {
-        number,
-        index,
-        offset: offset as u64,
-        length: 0,
+    match fault {
+        RecordFault::OutOfRange => in_record(OUT_OF_RANGE, index),
+        RecordFault::NotRising => in_record(SHEET_MALFORMED, index),
+        RecordFault::Block(refusal) => AnowAnswer {
+            index,
+            ..AnowAnswer::from(refusal)
+        },
     }
 }

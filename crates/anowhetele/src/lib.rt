@@ -1,4 +1,4 @@
-// The library's face for a host: functions that C can call. Each promises the same definition as the operation behind it.
+// The library's functions for a host. Each promises the same definition as the operation behind it; the crate anowhetele_c exports them to C.
 #![tactic(auto)]
 
 pub mod answer;

@@ -1,19 +1,31 @@
 // Rows from the front of a section.
-ghost use Rattle.std.specs.Prelude.{◌≡◌};
+ghost use Rattle.std.specs.Prelude.{◌≡◌, ⊤, Err};
+ghost use Rattle.block_reader.specs.AskedRows.{told_row_answer};
 ghost use Rattle.block_reader.specs.RowQuestions.{name_row_of, metadata_row_of, object_row_of, timer_row_of};
+ghost use Rattle.anowhetele.specs.Answers.{handed, nothing_written};
 ghost use Rattle.anowhetele.specs.Rows.{no_name, no_metadata, no_object, no_timer, handed_name, handed_metadata, handed_object, handed_timer};
 
-use crate::answer::{AnowAnswer, done, plain, refused};
+use crate::answer::{AnowAnswer, done, plain};
 use crate::numbers::NO_SUCH;
 use block_reader::row_questions::{
-    MetadataRowAnswer, NameRowAnswer, ObjectRowAnswer, TimerRowAnswer, metadata_row_of,
-    name_row_of, object_row_of, timer_row_of,
+    RowError, metadata_row_of, name_row_of, object_row_of, timer_row_of,
 };
 use wire::ranges::{NO_RANGE, Range};
 
+impl From<RowError> for AnowAnswer {
+    ghost from_gives = { λ e a. a ≡ handed (nothing_written (told_row_answer {A = ⊤} (Err e))) };
+
+    fn from(error: RowError) -> AnowAnswer {
+        match error {
+            RowError::NoSuchRow => plain(NO_SUCH),
+            RowError::Refused(refusal) => refusal.into(),
+        }
+    }
+}
+
 // ---- names
 #[repr(C)]
-#[derive(Clone, Copy)]
+#[derive(Clone, Copy, Debug, PartialEq, Eq, Hash)]
 pub struct AnowNameRow {
     pub answer: AnowAnswer,
     pub id: u32,
@@ -32,27 +44,22 @@ fn no_name(answer: AnowAnswer) -> AnowNameRow
 }
 
 // Tells of the front row of names.
-#[unsafe(no_mangle)]
-pub extern "C" fn anow_row_name(section: &[u8]) -> AnowNameRow
+pub fn anow_row_name(section: &[u8]) -> AnowNameRow
     ensures { result ≡ handed_name (name_row_of section.now) }
 {
     match name_row_of(section) {
-        NameRowAnswer::Row { row, length: n } => {
-            let name = row.name;
-            AnowNameRow {
-                answer: done(n),
-                id: row.id as u32,
-                name,
-            }
-        }
-        NameRowAnswer::NoSuchRow => no_name(plain(NO_SUCH)),
-        NameRowAnswer::Refused { fault, offset } => no_name(refused(fault, offset)),
+        Ok((row, length)) => AnowNameRow {
+            answer: done(length),
+            id: u32::from(row.id),
+            name: row.name,
+        },
+        Err(error) => no_name(error.into()),
     }
 }
 
 // ---- metadata
 #[repr(C)]
-#[derive(Clone, Copy)]
+#[derive(Clone, Copy, Debug, PartialEq, Eq, Hash)]
 pub struct AnowMetadataRow {
     pub answer: AnowAnswer,
     pub position: u32,
@@ -79,33 +86,26 @@ fn no_metadata(answer: AnowAnswer) -> AnowMetadataRow
 }
 
 // Tells of the front row of metadata.
-#[unsafe(no_mangle)]
-pub extern "C" fn anow_row_metadata(version: u8, section: &[u8]) -> AnowMetadataRow
+pub fn anow_row_metadata(version: u8, section: &[u8]) -> AnowMetadataRow
     ensures { result ≡ handed_metadata (metadata_row_of version section.now) }
 {
     match metadata_row_of(version, section) {
-        MetadataRowAnswer::Row { row, length: n } => {
-            let content = row.content;
-            let rows = row.rows;
-            let inventory = row.inventory;
-            AnowMetadataRow {
-                answer: done(n),
-                position: row.position as u32,
-                kind: row.kind as u32,
-                variables: row.variables,
-                content,
-                rows,
-                inventory,
-            }
-        }
-        MetadataRowAnswer::NoSuchRow => no_metadata(plain(NO_SUCH)),
-        MetadataRowAnswer::Refused { fault, offset } => no_metadata(refused(fault, offset)),
+        Ok((row, length)) => AnowMetadataRow {
+            answer: done(length),
+            position: u32::from(row.position),
+            kind: u32::from(row.kind),
+            variables: row.variables,
+            content: row.content,
+            rows: row.rows,
+            inventory: row.inventory,
+        },
+        Err(error) => no_metadata(error.into()),
     }
 }
 
 // ---- static objects
 #[repr(C)]
-#[derive(Clone, Copy)]
+#[derive(Clone, Copy, Debug, PartialEq, Eq, Hash)]
 pub struct AnowObjectRow {
     pub answer: AnowAnswer,
     pub kind: u32,
@@ -130,30 +130,25 @@ fn no_object(answer: AnowAnswer) -> AnowObjectRow
 }
 
 // Tells of the front row of static objects.
-#[unsafe(no_mangle)]
-pub extern "C" fn anow_row_object(section: &[u8]) -> AnowObjectRow
+pub fn anow_row_object(section: &[u8]) -> AnowObjectRow
     ensures { result ≡ handed_object (object_row_of section.now) }
 {
     match object_row_of(section) {
-        ObjectRowAnswer::Row { row, length: n } => {
-            let content = row.content;
-            AnowObjectRow {
-                answer: done(n),
-                kind: row.kind as u32,
-                x: row.x,
-                y: row.y,
-                z: row.z,
-                content,
-            }
-        }
-        ObjectRowAnswer::NoSuchRow => no_object(plain(NO_SUCH)),
-        ObjectRowAnswer::Refused { fault, offset } => no_object(refused(fault, offset)),
+        Ok((row, length)) => AnowObjectRow {
+            answer: done(length),
+            kind: u32::from(row.kind),
+            x: row.x,
+            y: row.y,
+            z: row.z,
+            content: row.content,
+        },
+        Err(error) => no_object(error.into()),
     }
 }
 
 // ---- timers
 #[repr(C)]
-#[derive(Clone, Copy)]
+#[derive(Clone, Copy, Debug, PartialEq, Eq, Hash)]
 pub struct AnowTimerRow {
     pub answer: AnowAnswer,
     pub position: u32,
@@ -174,18 +169,16 @@ fn no_timer(answer: AnowAnswer) -> AnowTimerRow
 }
 
 // Tells of the front row of timers.
-#[unsafe(no_mangle)]
-pub extern "C" fn anow_row_timer(section: &[u8]) -> AnowTimerRow
+pub fn anow_row_timer(section: &[u8]) -> AnowTimerRow
     ensures { result ≡ handed_timer (timer_row_of section.now) }
 {
     match timer_row_of(section) {
-        TimerRowAnswer::Row { row, length: n } => AnowTimerRow {
-            answer: done(n),
-            position: row.position as u32,
+        Ok((row, length)) => AnowTimerRow {
+            answer: done(length),
+            position: u32::from(row.position),
             timeout: row.timeout,
             elapsed: row.elapsed,
         },
-        TimerRowAnswer::NoSuchRow => no_timer(plain(NO_SUCH)),
-        TimerRowAnswer::Refused { fault, offset } => no_timer(refused(fault, offset)),
+        Err(error) => no_timer(error.into()),
     }
 }

@@ -1,17 +1,28 @@
 // The writer.
-ghost use Rattle.std.specs.Prelude.{length};
+ghost use Rattle.std.specs.Prelude.{◌≡◌, Err, length};
 ghost use Rattle.block_writer.specs.BlockParts.{block_parts};
-ghost use Rattle.block_writer.specs.Write.{write_of};
-ghost use Rattle.anowhetele.specs.Answers.{Handed};
+ghost use Rattle.block_writer.specs.Write.{told_write, write_of};
+ghost use Rattle.anowhetele.specs.Answers.{Handed, handed};
 
-use crate::answer::{AnowAnswer, done, plain, refused};
+use crate::answer::{AnowAnswer, done, plain};
 use crate::numbers::{NO_ROOM, PARTS_MISFIT};
-use block_writer::write::{WriteAnswer, write};
+use block_writer::write::{WriteError, write};
 use mapblock::head::Head;
 
+impl From<WriteError> for AnowAnswer {
+    ghost from_gives = { λ e a. a ≡ handed (told_write (Err e)) };
+
+    fn from(error: WriteError) -> AnowAnswer {
+        match error {
+            WriteError::Misfit => plain(PARTS_MISFIT),
+            WriteError::Refused(refusal) => refusal.into(),
+            WriteError::NoRoom => plain(NO_ROOM),
+        }
+    }
+}
+
 // Writes a block from its head, its lists and its sections.
-#[unsafe(no_mangle)]
-pub extern "C" fn anow_write(
+pub fn anow_write(
     head: Head,
     param0: &[u16],
     param1: &[u8],
@@ -27,12 +38,8 @@ pub extern "C" fn anow_write(
         names.now metadata.now objects.now timers.now)
         (length out.old)) }
 {
-    match write(
+    write(
         head, param0, param1, param2, names, metadata, objects, timers, out,
-    ) {
-        WriteAnswer::Written(n) => done(n),
-        WriteAnswer::Misfit => plain(PARTS_MISFIT),
-        WriteAnswer::Refused { fault, offset } => refused(fault, offset),
-        WriteAnswer::NoRoom => plain(NO_ROOM),
-    }
+    )
+    .map_or_else(AnowAnswer::from, done)
 }

@@ -4,7 +4,6 @@ ghost use Rattle.block_reader.specs.Questions.{lists, sections_of, node_name_of}
 ghost use Rattle.anowhetele.specs.Blocks.{handed_block, HandedRead, handed_node};
 
 use anowhetele::blocks::{AnowBlock, AnowNode};
-use block_reader::read::sections;
 
 // Reads a block into the three lent lists, and tells its head and where its sections are.
 #[unsafe(no_mangle)]

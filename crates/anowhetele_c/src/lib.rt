@@ -1,4 +1,4 @@
-// The static library that a host links: each function of the face under its C name, with the same promise.
+// The static library that a host links: each function of the crate `anowhetele` under the same name, exported to C, with the same promise.
 #![tactic(auto)]
 
 pub mod blocks;

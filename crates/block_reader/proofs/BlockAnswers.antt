@@ -1,17 +1,15 @@
 -- What is answered of a whole block: its sections, and the lists that the reader fills.
 use Prim.Native.Nat.{ℕ, zero, suc, ◌+◌, ◌-◌, ◌*◌, ◌≤◌}
-use mathlib.Core.Path.{◌≡◌, refl, ap, sym, subst, subst⁻¹, fun_ext, ◌∙◌}
+use mathlib.Core.Path.{◌≡◌, refl, ap, sym, subst, fun_ext, ◌∙◌}
 use mathlib.Core.List.{List, append-nil}
-use mathlib.Core.Bool.{Bool, true, false}
+use mathlib.Core.Bool.{Bool, true}
 use native.Mathlib.Omega.{arith}
-use lib.Dec.{eqb}
 use lib.ListN.{length, get_or, take, drop, replicate, drop_of_length-le}
-use borrow.Author.Tests.{eqb-true, eq-eqb}
-use Rattle.wire.proofs.Tests.{three-yes}
+use borrow.Author.Tests.{eq-eqb}
 use Rattle.wire.proofs.Lists.{rest-is}
 use Rattle.wire.specs.Bytes.{Bytes}
 use Rattle.wire.specs.Read.{Read, done, refused, map_read, map-done, map-refused}
-use Rattle.wire.specs.Answer.{Answer, good, refusal, plain, map_answer, lent, parts_misfit}
+use Rattle.wire.specs.Answer.{Answer, good, refusal, map_answer, lent}
 use Rattle.mapblock.specs.Data.{Block, Nodes}
 use Rattle.mapblock.specs.Layout.{all, width}
 use Rattle.mapblock.specs.Block.{verdict}
@@ -19,13 +17,11 @@ use Rattle.mapblock.specs.Params.{lists_of}
 use Rattle.block_reader.specs.Sections.{scanned_of}
 use Rattle.mapblock.specs.Table.{free_in}
 use Rattle.mapblock.specs.Numbers.{refusal_number}
-use Rattle.block_reader.specs.Questions.{are_whole, block_answer, block_of, shown, sections_of, read_of, lists, ListsHold, section_ranges_of}
+use Rattle.block_reader.specs.Questions.{are_whole, block_answer, block_of, shown, sections_of, read_of, lists, ListsHold}
 use Rattle.mapblock.specs.declared.fault.Fault.{Fault}
-use Rattle.wire.specs.declared.ranges.Range.{Range}
-use Rattle.mapblock.specs.declared.head.Sections.{Sections}
 use Rattle.block_reader.specs.declared.scan.Scanned.{Scanned}
 use Rattle.block_reader.proofs.Taken.{taken-read}
-use Rattle.block_reader.proofs.SectionsThere.{lists-inside, lists-there, sections-are-rows}
+use Rattle.block_reader.proofs.SectionsThere.{lists-inside, lists-there}
 
 -- ---- what the scan told
 pub zeros-at : (n i : ℕ) → ◌≡◌ {A = ℕ} (get_or (replicate n 0) i 0) 0
@@ -77,36 +73,8 @@ module _ (s : List ℕ) where
   pub sections-told : {w : Scanned} → TakenAs s w → good (w.head, w.sections) ≡ sections_of s
   sections-told k = ap (λ (y : Scanned). good (y.head, y.sections)) (sym k.shows) ∙ sym (ap (map_answer shown) k.answer)
 
-  -- the sections lie in the bytes
-  abbrev Inside : Range → Type 0
-  Inside p = p.start + p.length ≤ length s
-
-  pub record AllInside (x : Sections) : Type 0 where
-    pub names : Inside x.names
-    pub metadata : Inside x.metadata
-    pub objects : Inside x.objects
-    pub timers : Inside x.timers
-
-  inside-by : (r : Read Fault Block) → verdict all s ≡ r → Bytes s → AllInside (section_ranges_of (map_answer shown (block_answer r)))
-  inside-by (done b n) e y =
-      let k = sections-are-rows s b n y e in
-      record { names = k.names.inside; metadata = k.metadata.inside; objects = k.objects.inside; timers = k.timers.inside }
-  inside-by (refused f p) e y = record { names = omega arith; metadata = omega arith; objects = omega arith; timers = omega arith }
-
-  pub ranges-inside : {x : Sections} → Bytes s → x ≡ section_ranges_of (sections_of s) → AllInside x
-  unfolding block_of
-  ranges-inside y h = subst⁻¹ AllInside h (inside-by (verdict all s) refl y)
-
 -- ---- the reader; a, b and c are the lengths of the lists lent
-pub whole-are : {a b c : ℕ} → are_whole a b c ≡ true → (a ≡ 4096) × (b ≡ 4096) × (c ≡ 4096)
-whole-are {a} {b} {c} h =
-    let x = three-yes (eqb a 4096) (eqb b 4096) (eqb c 4096) h in
-    (eqb-true a 4096 x.0, eqb-true b 4096 x.1, eqb-true c 4096 x.2)
-
 module _ (s : List ℕ) (a b c : ℕ) where
-  pub read-misfit : are_whole a b c ≡ false → read_of s a b c ≡ plain parts_misfit
-  read-misfit h = rw h
-
   pub read-block : {r : Answer Block} → are_whole a b c ≡ true → block_of s ≡ r → read_of s a b c ≡ r
   read-block h k = rw h k
 

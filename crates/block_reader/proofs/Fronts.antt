@@ -18,15 +18,16 @@ use Rattle.mapblock.specs.Layout.{is_version, unused, width, opening, name_mappi
 use Rattle.mapblock.specs.Params.{lists_of}
 use Rattle.block_reader.specs.Scan.{opening_on, opening_is, FrontIs, FrontTold}
 use Rattle.mapblock.specs.Table.{free_in, unmarked, front_rows, NamesMarked, NameMappingMarked}
-use Rattle.mapblock.specs.Told.{ended, shown_mapping}
+use Rattle.mapblock.specs.Told.{ended, names_head, shown_mapping}
 use Rattle.mapblock.specs.declared.fault.Fault.{Fault}
 use Rattle.mapblock.specs.declared.fault.Fault.TheVariants as fault
 use Rattle.block_reader.specs.declared.scan.OpeningFields.{OpeningFields}
-use Rattle.block_reader.specs.declared.scan.FrontRead.TheVariants as fronts
 use Rattle.mapblock.proofs.Leaves.{told_in}
 use Rattle.mapblock.proofs.Readings.{num, ended-done, ended-refused, within-ended}
 use Rattle.mapblock.proofs.Entries.{nodes-done}
 use Rattle.block_reader.proofs.ListLengths.{num-length, name-mapping-length, name-mapping-rows, name-mapping-front}
+use Rattle.std.specs.Prelude.{Err}
+use Rattle.mapblock.specs.declared.names.NamesHead.{NamesHead}
 
 -- ---- step 1
 module _ (s : List ℕ) where
@@ -104,7 +105,7 @@ module _ (free : ℕ → Bool) (s : List ℕ) where
 
 -- ---- the front before version 29, told; t is the table
 module _ (t s : List ℕ) {o : OpeningFields} {at : ℕ} (h : opening.read s ≡ done (opening_is o) at) (l : o.version < 29) where
-  pub plain-stops : {e : Fault} {p : ℕ} → refused e p ≡ ended ((nodes o.version).read (drop at s)) → FrontTold t t s (fronts.Refused e (at + p))
+  pub plain-stops : {e : Fault} {p : ℕ} → refused e p ≡ ended ((nodes o.version).read (drop at s)) → FrontTold t t s (Err (record { fault = e; offset = (at + p) }))
   plain-stops k = (plain-refused (free_in t) s h l (ended-refused _ k), refl)
 
   pub plain-told : {n : ℕ} → length t ≡ 65536 → Bytes s → done tt n ≡ ended ((nodes o.version).read (drop at s))
@@ -140,21 +141,21 @@ pub record NamesRead (t u s : List ℕ) (o : OpeningFields) (at time count n : �
 
 module _ (t u s : List ℕ) {o : OpeningFields} {at : ℕ} (h : opening.read s ≡ done (opening_is o) at) (l : 29 ≤ o.version)
     (m : NameMappingMarked t u ((name_mapping (free_in t)).read (drop at s))) where
-  pub names-stop : {e : Fault} {p : ℕ} → refused e p ≡ map_read shown_mapping ((name_mapping (free_in t)).read (drop at s)) → FrontTold t u s (fronts.Refused e (at + p))
+  pub names-stop : {e : Fault} {p : ℕ} → refused e p ≡ map_read shown_mapping ((name_mapping (free_in t)).read (drop at s)) → FrontTold t u s (Err (record { fault = e; offset = (at + p) }))
   names-stop {e} {p} k =
       let x = map-refused shown_mapping ((name_mapping (free_in t)).read (drop at s)) e p (sym k) in
       (named-refused (free_in t) s h l x, rw x at m)
 
-  pub names-read : {time count n : ℕ} → done (time, count) n ≡ map_read shown_mapping ((name_mapping (free_in t)).read (drop at s)) → NamesRead t u s o at time count n
+  pub names-read : {time count n : ℕ} → done (names_head time count) n ≡ map_read shown_mapping ((name_mapping (free_in t)).read (drop at s)) → NamesRead t u s o at time count n
   names-read {time} {count} {n} k =
-      let x = map-done shown_mapping ((name_mapping (free_in t)).read (drop at s)) (time, count) n (sym k) in
-      let c : length x.0.names ≡ count = ap (λ (y : ℕ × ℕ). y.1) x.2 in
+      let x = map-done shown_mapping ((name_mapping (free_in t)).read (drop at s)) (names_head time count) n (sym k) in
+      let c : length x.0.names ≡ count = ap (λ (y : NamesHead). y.count) x.2 in
       record {
         opens = h;
         new = l;
         sv = x.0;
         reads = x.1;
-        times = ap (λ (y : ℕ × ℕ). y.0) x.2;
+        times = ap (λ (y : NamesHead). y.timestamp) x.2;
         counts = c;
         marked = rw x.1 at m;
         rows = ap₂ front_rows (sym c) (sym (drop-drop 7 at s)) ∙ name-mapping-front (free_in t) (drop at s) x.1;
@@ -176,7 +177,7 @@ module _ {t u s : List ℕ} {o : OpeningFields} {at time count n : ℕ} (w : Nam
 
   -- z is the table with the marks taken off again
   pub named-stops : {z : List ℕ} {e : Fault} {p : ℕ} → refused e p ≡ nodes_there → z ≡ unmarked u (front_rows count (drop (at + 7) s))
-      → FrontTold t z s (fronts.Refused e (at + n + p))
+      → FrontTold t z s (Err (record { fault = e; offset = (at + n + p) }))
   named-stops g e =
       (named-stopped (free_in t) s w.opens w.new w.reads (ended-refused _ g), e ∙ ap (unmarked u) w.rows ∙ w.marked.undone)
 

@@ -3,6 +3,7 @@ pub mod EndLines
 pub mod Zeros
 pub mod ListLengths
 -- The scan.
+pub mod Refusals
 pub mod Fronts
 pub mod Verdicts
 pub mod ReadUpTo

@@ -1,12 +1,13 @@
 -- The name of a node: where it stands, and the walk that finds it.
 use Prim.Native.Nat.{ℕ, ◌+◌, ◌-◌, ◌<◌, ◌≤◌}
-use mathlib.Core.Path.{◌≡◌, refl, ap, sym, subst, ◌∙◌}
+use mathlib.Core.Path.{◌≡◌, ap, sym, subst, ◌∙◌}
 use mathlib.Core.List.{List, [], ◌∷◌, ◌++◌, append_assoc}
 use mathlib.Core.Bool.{Bool, true, false, cond}
 use native.Mathlib.Omega.{arith}
 use lib.Dec.{eqb}
 use lib.ListN.{length, take, drop, length-append, length-drop, take-append-drop}
 use lib.Seq.{length-take-le}
+use Rattle.std.proofs.lemmas.List.{length-take}
 use borrow.Author.Tests.{eq-eqb, ne_eqb, le-leb, lt-leb}
 use Rattle.wire.proofs.Lists.{rest-is}
 use Rattle.wire.specs.Bytes.{Bytes, bytes_drop}
@@ -70,14 +71,15 @@ very-bytes s b n w h i k =
     spot-holds s (id_at b i) (take p.start s) (drop p.length (drop p.start s)) [] b.names p.start (split_at s p x) (sym (length-take-le p.start s start))
 
 -- ---- the walk over the rows of names
+-- a range has at most so many bytes as it tells
+pub bytes-within : (s : List ℕ) (p : Range) → length (bytes_in s p) ≤ p.length
+bytes-within s p = omega (arith, length-take p.length (drop p.start s))
+
 -- What is left of the rows has the name at the same place as all of them.
 pub record Finding (names rest : List ℕ) (start at id : ℕ) : Type 0 where
   pub left : name_range_of (all_rows rest) at id ≡ name_range_of (all_rows names) start id
   pub size : at + length rest ≡ start + length names
   pub bytes : Bytes rest
-
-pub finding-start : (names : List ℕ) (start id : ℕ) → Bytes names → Finding names names start start id
-finding-start names start id w = record { left = refl; size = refl; bytes = w }
 
 module _ {names rest : List ℕ} {start at id : ℕ} (f : Finding names rest start at id) where
   pub finding-none : all_rows rest ≡ [] → range_at at 0 ≡ name_range_of (all_rows names) start id
@@ -104,9 +106,6 @@ module _ {names rest : List ℕ} {start at id : ℕ} (f : Finding names rest sta
         }
 
 -- ---- the answers
-pub within-length : (s : List ℕ) (p : Range) → p.start + p.length ≤ length s → length (bytes_in s p) ≡ p.length
-within-length s p h = length-take-le p.length (drop p.start s) (rw length-drop (omega arith))
-
 module _ {s : List ℕ} {w : Scanned} (k : TakenAs s w) (y : Bytes s) where
   -- the section of names
   pub names-run : NameRun (bytes_in s w.sections.names) k.b.names
@@ -115,10 +114,13 @@ module _ {s : List ℕ} {w : Scanned} (k : TakenAs s w) (y : Bytes s) where
     good = ((taken s k.b k.n y).0 k.reads).0.names.each;
   }
 
+  pub names_inside : w.sections.names.start + w.sections.names.length ≤ length s
+  names_inside = subst (λ (x : Scanned). x.sections.names.start + x.sections.names.length ≤ length s) k.shows (sections-are-rows s k.b k.n y k.reads).names.inside
+
   -- an id's name among the rows that stand there
-  pub spot_in : (names : List ℕ) (id : ℕ) {p : Range} → names ≡ bytes_in s w.sections.names → p ≡ name_range_of (all_rows names) w.sections.names.start id
+  pub spot_in : (id : ℕ) {p : Range} → p ≡ name_range_of (all_rows (bytes_in s w.sections.names)) w.sections.names.start id
       → p ≡ name_range_of k.b.names w.sections.names.start id
-  spot_in names id e h = h ∙ ap (λ (l : List NameRow). name_range_of l w.sections.names.start id) (ap all_rows e ∙ all-run names-run)
+  spot_in id h = h ∙ ap (λ (l : List NameRow). name_range_of l w.sections.names.start id) (all-run names-run)
 
   module _ (i : ℕ) where
     pub node-none : 4096 ≤ i → plain no_such ≡ node_name_of s i

@@ -47,7 +47,7 @@ early-empty : (v : ℕ) (k : Timers) → 25 ≤ v → length ((early_timers v).e
 unfolding early_timers nothing
 early-empty v k h = rw (le-leb 25 v h)
 
-module _ (t u s : List ℕ) (w : FrontFields) (F : FrontIs t u s w) where
+module _ {t u s : List ℕ} {w : FrontFields} (F : FrontIs t u s w) where
   abbrev v : ℕ
   v = w.version
 
@@ -61,7 +61,7 @@ module _ (t u s : List ℕ) (w : FrontFields) (F : FrontIs t u s w) where
   pub front_read : (front (free_in t)).read s ≡ done x w.end
   front_read = F.reads ∙ ap (λ (q : Opening). done (front_of q F.x.mapping F.x.nodes) w.end) F.opened
 
-  module _ (m : MiddleFields) (M : MiddleIs w.version (drop w.end s) m) (b : Bytes s) where
+  module _ {m : MiddleFields} (M : MiddleIs w.version (drop w.end s) m) (b : Bytes s) where
     abbrev y : MiddleRows
     y = M.x
 

@@ -14,12 +14,12 @@ use Rattle.mapblock.specs.declared.fault.Fault.{Fault}
 use Rattle.mapblock.specs.declared.head.Head.{Head}
 use Rattle.wire.specs.declared.ranges.Range.{Range}
 use Rattle.mapblock.specs.declared.head.Sections.{Sections}
-use Rattle.block_reader.specs.declared.read.ReadAnswer.{ReadAnswer}
-use Rattle.block_reader.specs.declared.read.ReadAnswer.TheVariants as read
-use Rattle.block_reader.specs.declared.read.SectionsAnswer.{SectionsAnswer}
-use Rattle.block_reader.specs.declared.read.SectionsAnswer.TheVariants as looked
-use Rattle.block_reader.specs.declared.node.NodeNameAnswer.{NodeNameAnswer}
-use Rattle.block_reader.specs.declared.node.NodeNameAnswer.TheVariants as nodes
+use Rattle.std.specs.Prelude.{Ok, Err, Result}
+use Rattle.mapblock.specs.declared.fault.Refusal.{Refusal}
+use Rattle.block_reader.specs.declared.read.ReadError.{ReadError}
+use Rattle.block_reader.specs.declared.node.NodeNameError.{NodeNameError}
+use Rattle.block_reader.specs.declared.read.ReadError.TheVariants as read_errors
+use Rattle.block_reader.specs.declared.node.NodeNameError.TheVariants as name_errors
 
 -- the block, or the number and place of its fault
 abbrev pub block_answer : Read Fault Block → Answer Block
@@ -98,16 +98,16 @@ pub record NameRun (s : List ℕ) (l : List NameRow) : Type 0 where
   pub good : Each NameGood l
 
 -- ---- what the code's answers say
-abbrev pub told_read : ReadAnswer → Answer (Head × Sections)
-told_read (read.Block h s) = good (h, s)
-told_read read.Misfit = plain parts_misfit
-told_read (read.Refused f p) = refusal (refusal_number f) 0 p
+abbrev pub told_read : Result (Head × Sections) ReadError → Answer (Head × Sections)
+told_read (Ok (h, s)) = good (h, s)
+told_read (Err read_errors.Misfit) = plain parts_misfit
+told_read (Err (read_errors.Refused w)) = refusal (refusal_number w.fault) 0 w.offset
 
-abbrev pub told_sections : SectionsAnswer → Answer (Head × Sections)
-told_sections (looked.Block h s) = good (h, s)
-told_sections (looked.Refused f p) = refusal (refusal_number f) 0 p
+abbrev pub told_sections : Result (Head × Sections) Refusal → Answer (Head × Sections)
+told_sections (Ok (h, s)) = good (h, s)
+told_sections (Err w) = refusal (refusal_number w.fault) 0 w.offset
 
-abbrev pub told_node_name : NodeNameAnswer → Answer Range
-told_node_name (nodes.Name p) = good p
-told_node_name nodes.NoSuchNode = plain no_such
-told_node_name (nodes.Refused f p) = refusal (refusal_number f) 0 p
+abbrev pub told_node_name : Result Range NodeNameError → Answer Range
+told_node_name (Ok p) = good p
+told_node_name (Err name_errors.NoSuchNode) = plain no_such
+told_node_name (Err (name_errors.Refused w)) = refusal (refusal_number w.fault) 0 w.offset

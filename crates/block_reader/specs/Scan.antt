@@ -13,17 +13,11 @@ use Rattle.mapblock.specs.Table.{free_in, Tabled, front_rows, NamesMarked}
 use Rattle.mapblock.specs.declared.fault.Fault.{Fault}
 use Rattle.wire.specs.declared.ranges.Range.{Range}
 use Rattle.block_reader.specs.declared.scan.OpeningFields.{OpeningFields}
-use Rattle.block_reader.specs.declared.scan.OpeningRead.{OpeningRead}
-use Rattle.block_reader.specs.declared.scan.OpeningRead.TheVariants as openings
 use Rattle.block_reader.specs.declared.scan.FrontFields.{FrontFields}
-use Rattle.block_reader.specs.declared.scan.FrontRead.{FrontRead}
-use Rattle.block_reader.specs.declared.scan.FrontRead.TheVariants as fronts
 use Rattle.block_reader.specs.declared.scan.MiddleFields.{MiddleFields}
-use Rattle.block_reader.specs.declared.scan.MiddleRead.{MiddleRead}
-use Rattle.block_reader.specs.declared.scan.MiddleRead.TheVariants as middles
 use Rattle.block_reader.specs.declared.scan.Scanned.{Scanned}
-use Rattle.block_reader.specs.declared.scan.ScanRead.{ScanRead}
-use Rattle.block_reader.specs.declared.scan.ScanRead.TheVariants as scans
+use Rattle.std.specs.Prelude.{Ok, Err, Result}
+use Rattle.mapblock.specs.declared.fault.Refusal.{Refusal}
 
 -- ---- step 1
 abbrev pub opening_on : ℕ → ℕ → ℕ → Opening
@@ -32,9 +26,9 @@ opening_on v flags lighting = record { version = v; flags = flags; lighting = li
 abbrev pub opening_is : OpeningFields → Opening
 opening_is o = opening_on o.version o.flags o.lighting
 
-abbrev pub told_opening : OpeningRead → Read Fault Opening
-told_opening (openings.Fields o n) = done (opening_is o) n
-told_opening (openings.Refused f p) = refused f p
+abbrev pub told_opening : Result (OpeningFields × ℕ) Refusal → Read Fault Opening
+told_opening (Ok (o, n)) = done (opening_is o) n
+told_opening (Err w) = refused w.fault w.offset
 
 -- ---- up to the node data
 -- the bytes of a timestamp with its names, in front or not
@@ -54,9 +48,9 @@ pub record FrontIs (t u s : List ℕ) (w : FrontFields) : Type 0 where
   pub marked : NamesMarked t u x.mapping.names
   pub rows : front_rows w.count (drop 11 s) ≡ x.mapping.names
 
-abbrev pub FrontTold : List ℕ → List ℕ → List ℕ → FrontRead → Type 0
-FrontTold t u s (fronts.Fields w) = FrontIs t u s w
-FrontTold t u s (fronts.Refused f p) = ((front (free_in t)).read s ≡ refused f p) × (u ≡ t)
+abbrev pub FrontTold : List ℕ → List ℕ → List ℕ → Result FrontFields Refusal → Type 0
+FrontTold t u s (Ok w) = FrontIs t u s w
+FrontTold t u s (Err w) = ((front (free_in t)).read s ≡ refused w.fault w.offset) × (u ≡ t)
 
 -- ---- metadata, what follows it, static objects
 pub record MiddleRows : Type 0 where
@@ -84,9 +78,9 @@ pub record MiddleIs (v : ℕ) (s : List ℕ) (w : MiddleFields) : Type 0 where
   pub form : x.metadata.form ≡ w.form
   pub timer : x.early.byte ≡ w.timer
 
-abbrev pub MiddleTold : ℕ → List ℕ → MiddleRead → Type 0
-MiddleTold v s (middles.Lists w) = MiddleIs v s w
-MiddleTold v s (middles.Refused f p) = (middle v).read s ≡ refused f p
+abbrev pub MiddleTold : ℕ → List ℕ → Result MiddleFields Refusal → Type 0
+MiddleTold v s (Ok w) = MiddleIs v s w
+MiddleTold v s (Err w) = (middle v).read s ≡ refused w.fault w.offset
 
 -- ---- all but the late timers
 -- what stands in a list before its rows
@@ -140,6 +134,3 @@ pub record ReadUpTo (free : ℕ → Bool) (s : List ℕ) (w : Scanned) (at : ℕ
   pub inside : at ≤ length s
 
 -- ---- the whole
-abbrev pub told_scan : ScanRead → Read Fault Scanned
-told_scan (scans.Taken w n) = done w n
-told_scan (scans.Refused f p) = refused f p

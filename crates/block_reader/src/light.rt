@@ -6,5 +6,5 @@ ghost use Rattle.block_reader.specs.Light.{light_count};
 pub fn light_count(lighting: u16) -> u32
     ensures { result ≡ light_count lighting }
 {
-    12 - u16::count_ones(lighting & 4095)
+    12 - (lighting & 4095).count_ones()
 }

@@ -1,50 +1,52 @@
 // The reader, and the sections of a block.
 ghost use Rattle.std.specs.Prelude.{◌≡◌, ◌+◌, ◌*◌, ◌≤◌, length, drop};
+ghost use Rattle.mapblock.specs.Told.{told_reading};
 ghost use Rattle.wire.specs.Read.{map_read};
 ghost use Rattle.mapblock.specs.Layout.{all, width};
 ghost use Rattle.mapblock.specs.Block.{verdict};
 ghost use Rattle.mapblock.specs.Params.{entries};
 ghost use Rattle.block_reader.specs.Sections.{scanned_of};
 ghost use Rattle.wire.specs.Ranges.{IsSlice};
-ghost use Rattle.block_reader.specs.Scan.{told_scan};
 ghost use Rattle.block_reader.specs.Questions.{are_whole, lists, ReadInto, sections_of, section_ranges_of, told_read, told_sections};
 
-use crate::scan::{ScanRead, scan};
-use mapblock::fault::Fault;
+use crate::scan::{Scanned, scan};
+use mapblock::fault::Refusal;
 use mapblock::head::{Head, NO_SECTIONS, Sections};
 use mapblock::nodes::{IDS, NODES, width};
 use wire::ranges::slice_of;
-use wire::store::put_bytes;
 
 // Judges a block by itself: all ids are free.
-pub(crate) fn judge(block: &[u8]) -> ScanRead
-    ensures { told_scan result ≡ map_read scanned_of (verdict all block.now) }
+pub(crate) fn judge(block: &[u8]) -> Result<(Scanned, usize), Refusal>
+    ensures { told_reading result ≡ map_read scanned_of (verdict all block.now) }
 {
     let mut ids = [0u8; IDS];
     scan(block, &mut ids)
 }
 
-// ---- the reader
-// What the reader answers.
-#[derive(Clone, Copy)]
-pub enum ReadAnswer {
-    Block { head: Head, sections: Sections },
+// Why a block is not read into the lent lists.
+#[derive(Clone, Copy, Debug, PartialEq, Eq, Hash)]
+pub enum ReadError {
     // A lent list is not of 4,096.
     Misfit,
-    Refused { fault: Fault, offset: usize },
+    Refused(Refusal),
+}
+
+impl From<Refusal> for ReadError {
+    ghost use Rattle.std.specs.Prelude.{◌≡◌};
+    ghost use Rattle.block_reader.specs.declared.read.ReadError.TheVariants.{Refused};
+
+    ghost from_gives = { λ w e. e ≡ Refused w };
+
+    fn from(refusal: Refusal) -> ReadError {
+        ReadError::Refused(refusal)
+    }
 }
 
 // Tells whether each of three lists has an entry for every node.
 pub fn are_whole(a: usize, b: usize, c: usize) -> bool
     ensures { result ≡ are_whole a b c }
 {
-    if a != NODES {
-        return false;
-    }
-    if b != NODES {
-        return false;
-    }
-    c == NODES
+    a == NODES && b == NODES && c == NODES
 }
 
 // Puts the entries of two bytes at the front into a lent list.
@@ -52,10 +54,8 @@ fn fill16(s: &[u8], out: &mut [u16])
     requires { 2 * length out.old ≤ length s.now }
     ensures { out.new ≡ entries 2 (length out.old) s.now }
 {
-    let mut i: usize = 0;
-    while i < out.len() {
-        out[i] = s[2 * i] as u16 * 256 + s[2 * i + 1] as u16;
-        i += 1;
+    for (i, entry) in out.iter_mut().enumerate() {
+        *entry = u16::from_be_bytes([s[2 * i], s[2 * i + 1]]);
     }
 }
 
@@ -64,10 +64,8 @@ fn fill8(s: &[u8], out: &mut [u16])
     requires { length out.old ≤ length s.now }
     ensures { out.new ≡ entries 1 (length out.old) s.now }
 {
-    let mut i: usize = 0;
-    while i < out.len() {
-        out[i] = s[i] as u16;
-        i += 1;
+    for (i, entry) in out.iter_mut().enumerate() {
+        *entry = u16::from(s[i]);
     }
 }
 
@@ -80,111 +78,80 @@ fn fill(version: u8, s: &[u8], param0: &mut [u16], param1: &mut [u8], param2: &m
     ensures param2 { param2.new
         ≡ entries 1 4096 (drop (4096 * width version + 4096) s.now) }
 {
-    let entry = width(version);
     if version < 24 {
         fill8(s, param0);
     } else {
         fill16(s, param0);
     }
-    put_bytes(param1, 0, &s[NODES * entry..NODES * entry + NODES]);
-    put_bytes(
-        param2,
-        0,
-        &s[NODES * entry + NODES..NODES * entry + 2 * NODES],
-    );
+    let at = NODES * width(version);
+    param1.copy_from_slice(&s[at..at + NODES]);
+    param2.copy_from_slice(&s[at + NODES..at + 2 * NODES]);
 }
 
 // Fills the three lent lists of a block that is taken, and tells its head and where its sections are. A refusal leaves the lists as they were.
-pub fn read(block: &[u8], param0: &mut [u16], param1: &mut [u8], param2: &mut [u8]) -> ReadAnswer
+pub fn read(
+    block: &[u8],
+    param0: &mut [u16],
+    param1: &mut [u8],
+    param2: &mut [u8],
+) -> Result<(Head, Sections), ReadError>
     ensures { ReadInto block.now (told_read result)
         (lists param0.old param1.old param2.old)
         (lists param0.new param1.new param2.new) }
 {
     if !are_whole(param0.len(), param1.len(), param2.len()) {
-        return ReadAnswer::Misfit;
+        return Err(ReadError::Misfit);
     }
-    match judge(block) {
-        ScanRead::Refused { fault, offset } => ReadAnswer::Refused { fault, offset },
-        ScanRead::Taken { scanned, length: _ } => {
-            let head = scanned.head;
-            let lists = scanned.lists;
-            let sections = scanned.sections;
-            fill(head.version, &block[lists..], param0, param1, param2);
-            ReadAnswer::Block { head, sections }
-        }
-    }
-}
-
-// ---- the sections
-// What is answered when the sections of a block are asked.
-#[derive(Clone, Copy)]
-pub enum SectionsAnswer {
-    Block { head: Head, sections: Sections },
-    Refused { fault: Fault, offset: usize },
+    let (scanned, _) = judge(block)?;
+    fill(
+        scanned.head.version,
+        &block[scanned.lists..],
+        param0,
+        param1,
+        param2,
+    );
+    Ok((scanned.head, scanned.sections))
 }
 
 // Tells the head of a block, and where its sections are.
-pub fn sections(block: &[u8]) -> SectionsAnswer
+pub fn sections(block: &[u8]) -> Result<(Head, Sections), Refusal>
     ensures { told_sections result ≡ sections_of block.now }
 {
-    match judge(block) {
-        ScanRead::Refused { fault, offset } => SectionsAnswer::Refused { fault, offset },
-        ScanRead::Taken { scanned, length: _ } => {
-            let head = scanned.head;
-            let sections = scanned.sections;
-            SectionsAnswer::Block { head, sections }
-        }
-    }
+    let (scanned, _) = judge(block)?;
+    Ok((scanned.head, scanned.sections))
 }
 
 // Tells where the sections are: nowhere in a block that is refused.
 fn section_ranges(block: &[u8]) -> Sections
     ensures { result ≡ section_ranges_of (sections_of block.now) }
 {
-    match sections(block) {
-        SectionsAnswer::Block {
-            head: _,
-            sections: ranges,
-        } => ranges,
-        SectionsAnswer::Refused {
-            fault: _,
-            offset: _,
-        } => NO_SECTIONS,
-    }
+    sections(block).map_or(NO_SECTIONS, |(_, ranges)| ranges)
 }
 
 // Gives the rows of names as a slice of the block, empty when it is refused.
 pub fn names_section(block: &[u8]) -> &[u8]
     ensures { IsSlice block.entry (section_ranges_of (sections_of block.now)).names result }
 {
-    let ranges = section_ranges(block);
-    let names = ranges.names;
-    slice_of(block, names)
+    slice_of(block, section_ranges(block).names)
 }
 
 // Gives the rows of metadata in the same way.
 pub fn metadata_section(block: &[u8]) -> &[u8]
     ensures { IsSlice block.entry (section_ranges_of (sections_of block.now)).metadata result }
 {
-    let ranges = section_ranges(block);
-    let metadata = ranges.metadata;
-    slice_of(block, metadata)
+    slice_of(block, section_ranges(block).metadata)
 }
 
 // Gives the rows of static objects in the same way.
 pub fn objects_section(block: &[u8]) -> &[u8]
     ensures { IsSlice block.entry (section_ranges_of (sections_of block.now)).objects result }
 {
-    let ranges = section_ranges(block);
-    let objects = ranges.objects;
-    slice_of(block, objects)
+    slice_of(block, section_ranges(block).objects)
 }
 
 // Gives the rows of timers in the same way.
 pub fn timers_section(block: &[u8]) -> &[u8]
     ensures { IsSlice block.entry (section_ranges_of (sections_of block.now)).timers result }
 {
-    let ranges = section_ranges(block);
-    let timers = ranges.timers;
-    slice_of(block, timers)
+    slice_of(block, section_ranges(block).timers)
 }

@@ -1,23 +1,23 @@
 // One walk over a block judges it and tells where things are; reader, sections and node questions stand on it.
-ghost use Rattle.std.specs.Prelude.{◌≡◌, List, Bool, ℕ, ◌+◌, ◌-◌, ◌<◌, ◌≤◌, drop};
+ghost use Rattle.std.specs.Prelude.{◌≡◌, List, Bool, ℕ, ◌+◌, ◌-◌, ◌<◌, ◌≤◌, length, drop};
+ghost use Rattle.mapblock.specs.Told.{told_reading};
 ghost use Rattle.wire.specs.Read.{done, map_read};
 ghost use Rattle.mapblock.specs.Layout.{opening};
 ghost use Rattle.mapblock.specs.Block.{verdict};
 ghost use Rattle.wire.specs.Ranges.{range_at, InReach};
 ghost use Rattle.block_reader.specs.Sections.{scanned_of};
 ghost use Rattle.mapblock.specs.Table.{free_in};
-ghost use Rattle.block_reader.specs.Scan.{opening_on, opening_is, told_opening, FrontTold, FrontIs, MiddleTold, MiddleIs, metadata_head, early_head, Sized, without_late_timers, with_late_timers_at, ReadUpTo, told_scan};
+ghost use Rattle.block_reader.specs.Scan.{opening_is, told_opening, FrontTold, FrontIs, MiddleTold, MiddleIs, metadata_head, early_head, Sized, without_late_timers, with_late_timers_at, ReadUpTo};
 
-use mapblock::fault::{Fault, Reach};
+use mapblock::fault::{Fault, Refusal, behind};
 use mapblock::head::{Head, LIST_COUNTED, NO_LIGHTING, Sections, is_version};
 use mapblock::lists::{
-    LIST_HEAD_LENGTH, TaggedRead, early_timers, late_timers, list_version_length, metadata_list,
-    object_list,
+    LIST_HEAD_LENGTH, early_timers, late_timers, list_version_length, metadata_list, object_list,
 };
-use mapblock::names::{NAMES_HEAD_LENGTH, NameMappingRead, name_mapping, sized, unmark};
-use mapblock::nodes::{FirstUnmapped, IDS, WIDTHS_LENGTH, first_unmapped, node_data, width};
+use mapblock::names::{NAMES_HEAD_LENGTH, NamesHead, name_mapping, unmark};
+use mapblock::nodes::{IDS, WIDTHS_LENGTH, first_unmapped, node_data, width};
 use mapblock::rows::COUNT_LENGTH;
-use wire::fields::{U8, U16, u8_at, u16_at};
+use wire::fields::number_at;
 use wire::ranges::Range;
 
 // ---- the front: head, the names of version 29, node data
@@ -35,78 +35,40 @@ const BESIDE_NAMES_LENGTH: usize = OPENING_LENGTH + WIDTHS_LENGTH;
 const NAME_ROWS_AT: usize = OPENING_LENGTH + NAMES_HEAD_LENGTH;
 
 // The fields of step 1.
-#[derive(Clone, Copy)]
+#[derive(Clone, Copy, Debug, PartialEq, Eq, Hash)]
 pub struct OpeningFields {
     pub version: u8,
     pub flags: u8,
     pub lighting: u16,
 }
 
-// Step 1 and where it ends, or the fault and its place.
-#[derive(Clone, Copy)]
-pub enum OpeningRead {
-    Fields {
-        fields: OpeningFields,
-        length: usize,
-    },
-    Refused {
-        fault: Fault,
-        offset: usize,
-    },
-}
-
-// Makes the answer of step 1 from its fields and its end.
-fn opened(version: u8, flags: u8, lighting: u16, end: usize) -> OpeningRead
-    ensures { told_opening result ≡ done (opening_on version flags lighting) end }
-{
-    let fields = OpeningFields {
-        version,
-        flags,
-        lighting,
-    };
-    OpeningRead::Fields {
-        fields,
-        length: end,
-    }
-}
-
 // Reads step 1: version, flags, and from version 27 on the lighting.
-fn opening(s: &[u8]) -> OpeningRead
+fn opening(s: &[u8]) -> Result<(OpeningFields, usize), Refusal>
     ensures { told_opening result ≡ opening.read s.now }
 {
-    let U8::Value(version) = u8_at(s, 0) else {
-        return OpeningRead::Refused {
-            fault: Fault::Ends,
-            offset: 0,
-        };
-    };
+    let version = number_at::<u8>(s, 0).ok_or(Refusal::ends(0))?;
     if !is_version(version) {
-        return OpeningRead::Refused {
+        return Err(Refusal {
             fault: Fault::Version,
             offset: 0,
-        };
+        });
     }
-    let U8::Value(flags) = u8_at(s, FLAGS_AT) else {
-        return OpeningRead::Refused {
-            fault: Fault::Ends,
-            offset: FLAGS_AT,
-        };
+    let flags = number_at::<u8>(s, FLAGS_AT).ok_or(Refusal::ends(FLAGS_AT))?;
+    let unlit = OpeningFields {
+        version,
+        flags,
+        lighting: NO_LIGHTING,
     };
     if version < 27 {
-        return opened(version, flags, NO_LIGHTING, LIGHTING_AT);
+        return Ok((unlit, LIGHTING_AT));
     }
-    match u16_at(s, LIGHTING_AT) {
-        U16::Ends => OpeningRead::Refused {
-            fault: Fault::Ends,
-            offset: LIGHTING_AT,
-        },
-        U16::Value(lighting) => opened(version, flags, lighting, OPENING_LENGTH),
-    }
+    let lighting = number_at::<u16>(s, LIGHTING_AT).ok_or(Refusal::ends(LIGHTING_AT))?;
+    Ok((OpeningFields { lighting, ..unlit }, OPENING_LENGTH))
 }
 
 // What is read up to the end of the node data. Version 29's names stand in front, with their timestamp and number;
 // `lists` is where the param lists start.
-#[derive(Clone, Copy)]
+#[derive(Clone, Copy, Debug, PartialEq, Eq, Hash)]
 pub struct FrontFields {
     pub version: u8,
     pub flags: u8,
@@ -117,90 +79,67 @@ pub struct FrontFields {
     pub end: usize,
 }
 
-// The front, or the fault and its place.
-#[derive(Clone, Copy)]
-pub enum FrontRead {
-    Fields(FrontFields),
-    Refused { fault: Fault, offset: usize },
+// Reads the front before version 29, where the node data stands at once behind step 1.
+fn plain_front(s: &[u8], fields: OpeningFields, at: usize) -> Result<FrontFields, Refusal>
+    requires { (fields.version < 29) × (opening.read s.now ≡ done (opening_is fields) at) }
+    ensures { (t : List ℕ) → length t ≡ 65536 → FrontTold t t s.now result }
+{
+    let n = behind(at, node_data(fields.version, &s[at..]))?;
+    Ok(FrontFields {
+        version: fields.version,
+        flags: fields.flags,
+        lighting: fields.lighting,
+        timestamp: 0,
+        count: 0,
+        lists: at + WIDTHS_LENGTH,
+        end: at + n,
+    })
 }
 
-// Reads the front before version 29, where the node data stands at once behind step 1.
-fn plain_front(s: &[u8], fields: OpeningFields, at: usize, ids: &[u8; IDS]) -> FrontRead
-    requires { (fields.version < 29) × (opening.read s.now ≡ done (opening_is fields) at) }
-    ensures { FrontTold ids.now ids.now s.now result }
+// Reads the front in version 29, where timestamp and names stand before the node data. The names' ids stay marked, unless the front is refused.
+fn named_front(
+    s: &[u8],
+    fields: OpeningFields,
+    at: usize,
+    ids: &mut [u8; IDS],
+) -> Result<FrontFields, Refusal>
+    requires { (29 ≤ fields.version) × (opening.read s.now ≡ done (opening_is fields) at) }
+    ensures { FrontTold ids.old ids.new s.now result }
 {
-    sized(ids);
-    match node_data(fields.version, &s[at..]) {
-        Reach::Refused { fault, offset } => FrontRead::Refused {
-            fault,
-            offset: at + offset,
-        },
-        Reach::End(n) => FrontRead::Fields(FrontFields {
+    let (NamesHead { timestamp, count }, n) = behind(at, name_mapping(&s[at..], ids))?;
+    let start = at + n;
+    match node_data(fields.version, &s[start..]) {
+        Err(refusal) => {
+            unmark(&s[at + NAMES_HEAD_LENGTH..], count, ids);
+            Err(refusal.behind(start))
+        }
+        Ok(m) => Ok(FrontFields {
             version: fields.version,
             flags: fields.flags,
             lighting: fields.lighting,
-            timestamp: 0,
-            count: 0,
-            lists: at + WIDTHS_LENGTH,
-            end: at + n,
+            timestamp,
+            count,
+            lists: start + WIDTHS_LENGTH,
+            end: start + m,
         }),
     }
 }
 
-// Reads the front in version 29, where timestamp and names stand before the node data. The names' ids stay marked, unless the front is refused.
-fn named_front(s: &[u8], fields: OpeningFields, at: usize, ids: &mut [u8; IDS]) -> FrontRead
-    requires { (29 ≤ fields.version) × (opening.read s.now ≡ done (opening_is fields) at) }
-    ensures { FrontTold ids.old ids.new s.now result }
-{
-    match name_mapping(&s[at..], ids) {
-        NameMappingRead::Refused { fault, offset } => FrontRead::Refused {
-            fault,
-            offset: at + offset,
-        },
-        NameMappingRead::Rows {
-            timestamp,
-            count,
-            length: n,
-        } => match node_data(fields.version, &s[at + n..]) {
-            Reach::Refused { fault, offset } => {
-                unmark(&s[at + NAMES_HEAD_LENGTH..], count, ids);
-                FrontRead::Refused {
-                    fault,
-                    offset: at + n + offset,
-                }
-            }
-            Reach::End(m) => FrontRead::Fields(FrontFields {
-                version: fields.version,
-                flags: fields.flags,
-                lighting: fields.lighting,
-                timestamp,
-                count,
-                lists: at + n + WIDTHS_LENGTH,
-                end: at + n + m,
-            }),
-        },
-    }
-}
-
 // Reads the front, steps 1 to 4.
-fn front(s: &[u8], ids: &mut [u8; IDS]) -> FrontRead
+fn front(s: &[u8], ids: &mut [u8; IDS]) -> Result<FrontFields, Refusal>
     ensures { FrontTold ids.old ids.new s.now result }
 {
-    match opening(s) {
-        OpeningRead::Refused { fault, offset } => FrontRead::Refused { fault, offset },
-        OpeningRead::Fields { fields, length: n } => {
-            if fields.version < 29 {
-                plain_front(s, fields, n, ids)
-            } else {
-                named_front(s, fields, n, ids)
-            }
-        }
+    let (fields, n) = opening(s)?;
+    if fields.version < 29 {
+        plain_front(s, fields, n)
+    } else {
+        named_front(s, fields, n, ids)
     }
 }
 
 // ---- the rest: metadata, timers, static objects, the names before version 29
 // The lengths of the lists up to the static objects, the form of the metadata, and the timer byte.
-#[derive(Clone, Copy)]
+#[derive(Clone, Copy, Debug, PartialEq, Eq, Hash)]
 pub struct MiddleFields {
     pub metadata: usize,
     pub early: usize,
@@ -209,60 +148,29 @@ pub struct MiddleFields {
     pub timer: u8,
 }
 
-// Those lists, or the fault and its place.
-#[derive(Clone, Copy)]
-pub enum MiddleRead {
-    Lists(MiddleFields),
-    Refused { fault: Fault, offset: usize },
-}
-
 // Reads the lists up to the static objects, steps 5 and 6.
-fn middle(version: u8, s: &[u8]) -> MiddleRead
+fn middle(version: u8, s: &[u8]) -> Result<MiddleFields, Refusal>
     ensures { MiddleTold version s.now result }
 {
-    match metadata_list(version, s) {
-        TaggedRead::Refused { fault, offset } => MiddleRead::Refused { fault, offset },
-        TaggedRead::List {
-            tag: form,
-            length: metadata,
-        } => match early_timers(version, &s[metadata..]) {
-            TaggedRead::Refused { fault, offset } => MiddleRead::Refused {
-                fault,
-                offset: metadata + offset,
-            },
-            TaggedRead::List {
-                tag: timer,
-                length: early,
-            } => match object_list(version, &s[metadata + early..]) {
-                Reach::Refused { fault, offset } => MiddleRead::Refused {
-                    fault,
-                    offset: metadata + early + offset,
-                },
-                Reach::End(objects) => MiddleRead::Lists(MiddleFields {
-                    metadata,
-                    early,
-                    objects,
-                    form,
-                    timer,
-                }),
-            },
-        },
-    }
+    let (form, metadata) = metadata_list(version, s)?;
+    let (timer, early) = behind(metadata, early_timers(version, &s[metadata..]))?;
+    let at = metadata + early;
+    let objects = behind(at, object_list(version, &s[at..]))?;
+    Ok(MiddleFields {
+        metadata,
+        early,
+        objects,
+        form,
+        timer,
+    })
 }
 
 // What a block's scan finds: the head, where the param lists start, and the sections.
-#[derive(Clone, Copy)]
+#[derive(Clone, Copy, Debug, PartialEq, Eq, Hash)]
 pub struct Scanned {
     pub head: Head,
     pub lists: usize,
     pub sections: Sections,
-}
-
-// A block that is taken, with its length, or the fault and its place.
-#[derive(Clone, Copy)]
-pub enum ScanRead {
-    Taken { scanned: Scanned, length: usize },
-    Refused { fault: Fault, offset: usize },
 }
 
 // Gives where the rows of a list stand, behind its head; `size` is the length of the list.
@@ -338,139 +246,109 @@ fn with_late_timers(scanned: Scanned, at: usize, n: usize) -> Scanned
     requires { (25 ≤ scanned.head.version → 3 ≤ n) × InReach (at + n) }
     ensures { result ≡ with_late_timers_at scanned at n }
 {
-    let head = scanned.head;
-    if head.version < 25 {
+    if scanned.head.version < 25 {
         return scanned;
     }
-    let before = scanned.sections;
-    let names = before.names;
-    let metadata = before.metadata;
-    let objects = before.objects;
     let timers = rows_of(at, LIST_HEAD_LENGTH, n);
     Scanned {
-        head,
-        lists: scanned.lists,
         sections: Sections {
-            names,
-            metadata,
-            objects,
             timers,
+            ..scanned.sections
         },
+        ..scanned
     }
 }
 
 // Judges the end: the late timers, that no bytes follow, and that every id is mapped.
-fn ending(s: &[u8], scanned: Scanned, at: usize, ids: &[u8; IDS]) -> ScanRead
+fn ending(
+    s: &[u8],
+    scanned: Scanned,
+    at: usize,
+    ids: &[u8; IDS],
+) -> Result<(Scanned, usize), Refusal>
     requires { (free : ℕ → Bool) × ReadUpTo free s.now scanned at ids.now }
-    ensures { (free : ℕ → Bool) → ReadUpTo free s.now scanned at ids.now → told_scan result
+    ensures { (free : ℕ → Bool) → ReadUpTo free s.now scanned at ids.now → told_reading result
         ≡ map_read scanned_of (verdict free s.now) }
 {
-    let head = scanned.head;
-    let version = head.version;
+    let version = scanned.head.version;
     let lists = scanned.lists;
-    match late_timers(version, &s[at..]) {
-        Reach::Refused { fault, offset } => ScanRead::Refused {
-            fault,
-            offset: at + offset,
-        },
-        Reach::End(n) => {
-            if at + n < s.len() {
-                return ScanRead::Refused {
-                    fault: Fault::BytesAfter,
-                    offset: at + n,
-                };
-            }
-            match first_unmapped(version, &s[lists..], ids) {
-                FirstUnmapped::At(i) => ScanRead::Refused {
-                    fault: Fault::IdUnmapped,
-                    offset: lists + width(version) * i,
-                },
-                FirstUnmapped::None => ScanRead::Taken {
-                    scanned: with_late_timers(scanned, at, n),
-                    length: at + n,
-                },
-            }
-        }
+    let n = behind(at, late_timers(version, &s[at..]))?;
+    let end = at + n;
+    if end < s.len() {
+        return Err(Refusal {
+            fault: Fault::BytesAfter,
+            offset: end,
+        });
     }
+    if let Some(i) = first_unmapped(version, &s[lists..], ids) {
+        return Err(Refusal {
+            fault: Fault::IdUnmapped,
+            offset: lists + width(version) * i,
+        });
+    }
+    Ok((with_late_timers(scanned, at, n), end))
 }
 
 // Judges what follows the static objects before version 29: timestamp and names, then the end.
-fn names_behind(s: &[u8], front: FrontFields, middle: MiddleFields, ids: &mut [u8; IDS]) -> ScanRead
+fn names_behind(
+    s: &[u8],
+    front: FrontFields,
+    middle: MiddleFields,
+    ids: &mut [u8; IDS],
+) -> Result<(Scanned, usize), Refusal>
     requires { (front.version < 29) × ((t : List ℕ) × FrontIs t ids.old s.now front)
         × MiddleIs front.version (drop front.end s.now) middle }
-    ensures told { (t : List ℕ) → FrontIs t ids.old s.now front → told_scan result
+    ensures told { (t : List ℕ) → FrontIs t ids.old s.now front → told_reading result
         ≡ map_read scanned_of (verdict (free_in t) s.now) }
     ensures ids { ids.new ≡ ids.old }
 {
     let at = front.end + middle.metadata + middle.early + middle.objects;
-    match name_mapping(&s[at..], ids) {
-        NameMappingRead::Refused { fault, offset } => ScanRead::Refused {
-            fault,
-            offset: at + offset,
-        },
-        NameMappingRead::Rows {
-            timestamp,
-            count,
-            length: n,
-        } => {
-            let scanned = without_late_timers(
-                front,
-                middle,
-                timestamp,
-                rows_of(at, NAMES_HEAD_LENGTH, n),
-            );
-            let r = ending(s, scanned, at + n, ids);
-            unmark(&s[at + NAMES_HEAD_LENGTH..], count, ids);
-            r
-        }
-    }
+    let (NamesHead { timestamp, count }, n) = behind(at, name_mapping(&s[at..], ids))?;
+    let names = rows_of(at, NAMES_HEAD_LENGTH, n);
+    let scanned = without_late_timers(front, middle, timestamp, names);
+    let r = ending(s, scanned, at + n, ids);
+    unmark(&s[at + NAMES_HEAD_LENGTH..], count, ids);
+    r
 }
 
 // Judges what follows the node data.
-fn behind_front(s: &[u8], front: FrontFields, ids: &mut [u8; IDS]) -> ScanRead
+fn behind_front(
+    s: &[u8],
+    front: FrontFields,
+    ids: &mut [u8; IDS],
+) -> Result<(Scanned, usize), Refusal>
     requires { (t : List ℕ) × FrontIs t ids.old s.now front }
-    ensures told { (t : List ℕ) → FrontIs t ids.old s.now front → told_scan result
+    ensures told { (t : List ℕ) → FrontIs t ids.old s.now front → told_reading result
         ≡ map_read scanned_of (verdict (free_in t) s.now) }
     ensures ids { ids.new ≡ ids.old }
 {
     let end = front.end;
-    match middle(front.version, &s[end..]) {
-        MiddleRead::Refused { fault, offset } => ScanRead::Refused {
-            fault,
-            offset: end + offset,
-        },
-        MiddleRead::Lists(lists) => {
-            if front.version < 29 {
-                return names_behind(s, front, lists, ids);
-            }
-            let names = rows_of(
-                OPENING_LENGTH,
-                NAMES_HEAD_LENGTH,
-                front.lists - BESIDE_NAMES_LENGTH,
-            );
-            let scanned = without_late_timers(front, lists, front.timestamp, names);
-            ending(
-                s,
-                scanned,
-                end + lists.metadata + lists.early + lists.objects,
-                ids,
-            )
-        }
+    let lists = behind(end, middle(front.version, &s[end..]))?;
+    if front.version < 29 {
+        return names_behind(s, front, lists, ids);
     }
+    let names = rows_of(
+        OPENING_LENGTH,
+        NAMES_HEAD_LENGTH,
+        front.lists - BESIDE_NAMES_LENGTH,
+    );
+    let scanned = without_late_timers(front, lists, front.timestamp, names);
+    ending(
+        s,
+        scanned,
+        end + lists.metadata + lists.early + lists.objects,
+        ids,
+    )
 }
 
 // Judges a block. The table tells which ids are free, all of them where it is clear, and comes back as it was; so one table serves many blocks.
-pub fn scan(s: &[u8], ids: &mut [u8; IDS]) -> ScanRead
-    ensures told { told_scan result ≡ map_read scanned_of (verdict (free_in ids.old) s.now) }
+pub fn scan(s: &[u8], ids: &mut [u8; IDS]) -> Result<(Scanned, usize), Refusal>
+    ensures told { told_reading result ≡ map_read scanned_of (verdict (free_in ids.old) s.now) }
     ensures ids { ids.new ≡ ids.old }
 {
-    match front(s, ids) {
-        FrontRead::Refused { fault, offset } => ScanRead::Refused { fault, offset },
-        FrontRead::Fields(fields) => {
-            let r = behind_front(s, fields, ids);
-            // Version 29's names are unmarked; before it there are none here.
-            unmark(&s[NAME_ROWS_AT..], fields.count, ids);
-            r
-        }
-    }
+    let fields = front(s, ids)?;
+    let r = behind_front(s, fields, ids);
+    // Version 29's names are unmarked; before it there are none here.
+    unmark(&s[NAME_ROWS_AT..], fields.count, ids);
+    r
 }

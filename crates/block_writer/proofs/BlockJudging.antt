@@ -53,19 +53,19 @@ module _ (h : Head) (l : List NameRow) (k : List TimerRow) where
   }
 
   module _ {t : List ℕ} (g : h.version < 29) (w : Settled (name_mapping (free_in t)) (mapping_on h l)) where
-    pub ending-refused : {u : List ℕ} {e : Fault} {p : ℕ} {z : Read Fault (Unit {0})} → MappingJudged t u (mapping_on h l) z → z ≡ refused e p → EndingJudged t u h l k z
-    ending-refused x i = record {
-      judged = λ free same. i ∙ rw (same g, lt-leb 29 h.version g) (judged-refused (name_mapping (free_in t)) (λ _. late_timers h.version) (mapping_on h l) (timers_late h k) w (sym i ∙ x.judged));
-      marks = λ n _ f. not_done (sym i ∙ f);
+    pub ending-refused : {u : List ℕ} {e : Fault} {p : ℕ} → MappingJudged t u (mapping_on h l) (refused e p) → EndingJudged t u h l k (refused e p)
+    ending-refused x = record {
+      judged = λ free same. rw (same g, lt-leb 29 h.version g) (judged-refused (name_mapping (free_in t)) (λ _. late_timers h.version) (mapping_on h l) (timers_late h k) w x.judged);
+      marks = λ n _ f. not_done f;
       kept = λ f. absurd (omega arith);
     }
 
-    pub ending-on : {u : List ℕ} {n : ℕ} {z r q : Read Fault (Unit {0})} → MappingJudged t u (mapping_on h l) z → z ≡ done tt n → r ≡ verdict_on (late_timers h.version) (timers_late h k)
+    pub ending-on : {u : List ℕ} {n : ℕ} {r q : Read Fault (Unit {0})} → MappingJudged t u (mapping_on h l) (done tt n) → r ≡ verdict_on (late_timers h.version) (timers_late h k)
         → q ≡ shift n (λ u. u) r → EndingJudged t u h l k q
-    ending-on {n = n} x i e f = record {
+    ending-on {n = n} x e f = record {
       judged = λ free same.
-          f ∙ rw (same g, lt-leb 29 h.version g) (judged-on (name_mapping (free_in t)) (λ _. late_timers h.version) (mapping_on h l) (timers_late h k) w (sym i ∙ x.judged) e);
-      marks = λ _ _ _. x.marks n i;
+          f ∙ rw (same g, lt-leb 29 h.version g) (judged-on (name_mapping (free_in t)) (λ _. late_timers h.version) (mapping_on h l) (timers_late h k) w x.judged e);
+      marks = λ _ _ _. x.marks n refl;
       kept = λ f. absurd (omega arith);
     }
 
@@ -101,32 +101,33 @@ module _ (h : Head) (l : List NameRow) (m : List MetadataRow) (o : List ObjectRo
   unfolding rest
   rest-by free e = e ∙ sym (verdict_on-into rest_shape (metadata v ▹ early_timers v ▹ objects ▹ ending free v) (rest_on h l m o k))
 
-  pub rest-no-metadata : {t : List ℕ} {e : Fault} {p : ℕ} {z : Read Fault (Unit {0})} → z ≡ verdict_on (metadata v) list → z ≡ refused e p → RestJudged t t h l m o k z
-  rest-no-metadata y i = record {
-    judged = λ free _. rest-by free (i ∙ judged-refused (metadata v) (λ _. early_timers v ▹ objects ▹ ending free v) list (early, (o, end)) sm (sym i ∙ y));
-    marks = λ n _ f. not_done (sym i ∙ f);
+  pub rest-no-metadata : {t : List ℕ} {e : Fault} {p : ℕ} → refused e p ≡ verdict_on (metadata v) list → RestJudged t t h l m o k (refused e p)
+  rest-no-metadata y = record {
+    judged = λ free _. rest-by free (judged-refused (metadata v) (λ _. early_timers v ▹ objects ▹ ending free v) list (early, (o, end)) sm y);
+    marks = λ n _ f. not_done f;
     kept = λ _. refl;
   }
 
-  module _ {a : ℕ} (x : done tt a ≡ verdict_on (metadata v) list) (se : Settled (early_timers v) early) where
-    pub rest-no-early : {t : List ℕ} {e : Fault} {p : ℕ} {z q : Read Fault (Unit {0})} → z ≡ verdict_on (early_timers v) early → z ≡ refused e p → q ≡ shift a (λ u. u) z
-        → RestJudged t t h l m o k q
-    rest-no-early y i f = record {
-      judged = λ free _.
-          rest-by free (f
-          ∙ judged-on (metadata v) (λ _. early_timers v ▹ objects ▹ ending free v) list (early, (o, end)) sm x
-          (i ∙ judged-refused (early_timers v) (λ _. objects ▹ ending free v) early (o, end) se (sym i ∙ y)));
-      marks = λ n _ g. not_done (sym (f ∙ ap (shift a (λ u. u)) i) ∙ g);
-      kept = λ _. refl;
-    }
+  module _ {a : ℕ} (x : done tt a ≡ verdict_on (metadata v) list) (se : Settled (early_timers v) early) {r : Read Fault (Unit {0})} (y : r ≡ verdict_on (early_timers v) early) where
+    pub rest-no-early : {t : List ℕ} {e : Fault} {p : ℕ} → refused e p ≡ shift a (λ u. u) r → RestJudged t t h l m o k (refused e p)
+    rest-no-early {e = e} {p = p} f =
+        let i = (shift-refused a (λ u. u) r e p (sym f)).1 in
+        record {
+          judged = λ free _.
+              rest-by free (f
+              ∙ judged-on (metadata v) (λ _. early_timers v ▹ objects ▹ ending free v) list (early, (o, end)) sm x
+              (i ∙ judged-refused (early_timers v) (λ _. objects ▹ ending free v) early (o, end) se (sym i ∙ y)));
+          marks = λ n _ g. not_done g;
+          kept = λ _. refl;
+        }
 
-    module _ {d c : ℕ} (y : done tt d ≡ verdict_on (early_timers v) early) (so : Settled objects o × (done tt c ≡ verdict_on objects o)) where
-      pub rest-on : {t u : List ℕ} {at : ℕ} {z q : Read Fault (Unit {0})} → at ≡ a + d + c → EndingJudged t u h l k z → q ≡ shift at (λ u. u) z → RestJudged t u h l m o k q
-      rest-on {at = at} {z = z} e w f = record {
+    module _ {b c : ℕ} (i : done tt b ≡ shift a (λ u. u) r) (so : Settled objects o × (done tt c ≡ verdict_on objects o)) where
+      pub rest-on : {t u : List ℕ} {at : ℕ} {z q : Read Fault (Unit {0})} → at ≡ b + c → EndingJudged t u h l k z → q ≡ shift at (λ u. u) z → RestJudged t u h l m o k q
+      rest-on {at = at} {z = z} e w f = let j = shift-done a (λ u. u) r tt b (sym i) in record {
         judged = λ free same.
-            rest-by free (f ∙ ap (λ (n : ℕ). shift n (λ u. u) z) e ∙ shift-thrice a d c z
+            rest-by free (f ∙ ap (λ (n : ℕ). shift n (λ u. u) z) (e ∙ ap (λ (n : ℕ). n + c) (sym j.4)) ∙ shift-thrice a j.1 c z
             ∙ judged-on (metadata v) (λ _. early_timers v ▹ objects ▹ ending free v) list (early, (o, end)) sm x
-            (judged-on (early_timers v) (λ _. objects ▹ ending free v) early (o, end) se y
+            (judged-on (early_timers v) (λ _. objects ▹ ending free v) early (o, end) se (sym j.2 ∙ y)
             (judged-on objects (λ _. ending free v) o end so.0 so.1 (w.judged free same))));
         marks = λ n g i. let q = shift-done at (λ u. u) z tt n (sym f ∙ i) in w.marks q.1 g q.2;
         kept = w.kept;
@@ -174,28 +175,27 @@ module _ (h : Head) (l : List NameRow) (n : Nodes) (ok : opening.Ok (opening_on 
     }
 
     module _ {t u : List ℕ} (g : 29 ≤ h.version) (w : Settled (name_mapping (free_in t)) (mapping_on h l)) {z : Read Fault (Unit {0})} (x : MappingJudged t u (mapping_on h l) z) where
-      module _ {q : Read Fault (Unit {0})} (y : q ≡ shift k (λ u. u) z) where
-        pub front-refused : {i : Fault} {p : ℕ} → q ≡ refused i p → FrontJudged t u h l n q
-        front-refused {i} {p} j =
-            let o = shift-refused k (λ u. u) z i p (sym y ∙ j) in
-            record {
-              judged =
-                  y ∙ ap (shift k (λ u. u)) o.1
-                  ∙ front_by (free_in t) (refused i o.0) e (rw (le-leb 29 h.version g) (judged-refused (name_mapping (free_in t)) (λ _. nodes h.version) (mapping_on h l) n w (sym o.1 ∙ x.judged)));
-              marks = λ _ _ r. not_done (sym j ∙ r);
-              kept = λ r. absurd (omega arith);
-            }
+      pub front-refused : {i : Fault} {p : ℕ} → refused i p ≡ shift k (λ u. u) z → FrontJudged t u h l n (refused i p)
+      front-refused {i} {p} y =
+          let o = shift-refused k (λ u. u) z i p (sym y) in
+          record {
+            judged =
+                y ∙ ap (shift k (λ u. u)) o.1
+                ∙ front_by (free_in t) (refused i o.0) e (rw (le-leb 29 h.version g) (judged-refused (name_mapping (free_in t)) (λ _. nodes h.version) (mapping_on h l) n w (sym o.1 ∙ x.judged)));
+            marks = λ _ _ r. not_done r;
+            kept = λ r. absurd (omega arith);
+          }
 
-        pub front-named : {m : ℕ} → q ≡ done tt m → FrontJudged t u h l n (done tt (m + (2 + d)))
-        front-named {m} j =
-            let o = shift-done k (λ u. u) z tt m (sym y ∙ j) in
-            record {
-              judged =
-                  ap (λ (i : ℕ). done tt (i + (2 + d))) (sym o.4) ∙ ap (done tt) (add_assoc k o.1 (2 + d))
-                  ∙ front_by (free_in t) (done tt (o.1 + (2 + d))) e (rw (le-leb 29 h.version g) (judged-on (name_mapping (free_in t)) (λ _. nodes h.version) (mapping_on h l) n w (sym o.2 ∙ x.judged) lists-verdict_on));
-              marks = λ _ _ _. x.marks o.1 o.2;
-              kept = λ r. absurd (omega arith);
-            }
+      pub front-named : {m : ℕ} → done tt m ≡ shift k (λ u. u) z → FrontJudged t u h l n (done tt (m + (2 + d)))
+      front-named {m} y =
+          let o = shift-done k (λ u. u) z tt m (sym y) in
+          record {
+            judged =
+                ap (λ (i : ℕ). done tt (i + (2 + d))) (sym o.4) ∙ ap (done tt) (add_assoc k o.1 (2 + d))
+                ∙ front_by (free_in t) (done tt (o.1 + (2 + d))) e (rw (le-leb 29 h.version g) (judged-on (name_mapping (free_in t)) (λ _. nodes h.version) (mapping_on h l) n w (sym o.2 ∙ x.judged) lists-verdict_on));
+            marks = λ _ _ _. x.marks o.1 o.2;
+            kept = λ r. absurd (omega arith);
+          }
 
 -- ---- the whole
 module _ (b : Block) (w : Settled (block all) b) where

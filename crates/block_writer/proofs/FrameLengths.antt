@@ -9,6 +9,8 @@ use lib.Dec.{leb}
 use lib.ListN.{length, drop, length-drop, drop_of_length-le}
 use lib.Seq.{drop-drop}
 use borrow.Author.Tests.{le-leb, lt-leb, leb-true, leb-false}
+use Rattle.std.specs.Bool.{then_some}
+use Rattle.wire.specs.Told.{option_of}
 use Rattle.wire.specs.Read.{Read, done, refused, bind, map_read, shift}
 use Rattle.wire.specs.Format.{◌⨾◌, next, pair, iso, ends-in}
 use Rattle.wire.specs.Formats.{◌▹◌, u16, s32, signed}
@@ -124,15 +126,19 @@ module _ (s : List ℕ) where
       ∙ skip u16 (s32 ▹ s32) 2 s (number-width 2) (begins s32 s32 (s32-width []))
       ∙ ap (map (λ m. 2 + m)) last
 
-  pub timer-short : length s < 10 → none ≡ Long timer_frame s
+  timer-short : length s < 10 → none ≡ Long timer_frame s
   timer-short h =
       let k : length (drop 6 s) < 4 = rw length-drop (omega arith) in
       sym (timer-length ∙ rw (s32-width (drop 6 s), lt-leb 4 (length (drop 6 s)) k))
 
-  pub timer-whole : 10 ≤ length s → some 10 ≡ Long timer_frame s
+  timer-whole : 10 ≤ length s → some 10 ≡ Long timer_frame s
   timer-whole h =
       let k : 4 ≤ length (drop 6 s) = rw length-drop (omega arith) in
       sym (timer-length ∙ rw (s32-width (drop 6 s), le-leb 4 (length (drop 6 s)) k))
+
+  pub timer-told : (b : Bool) → leb 10 (length s) ≡ b → option_of (then_some b 10) ≡ Long timer_frame s
+  timer-told true e = timer-whole (leb-true 10 (length s) e)
+  timer-told false e = timer-short (leb-false 10 (length s) e)
 
 -- ---- any section
 pub of-section : {k j : SectionKind} (v : ℕ) (s : List ℕ) {o : Option ℕ} → k ≡ j → o ≡ Long (frame_of j v) s → o ≡ Long (frame_of k v) s

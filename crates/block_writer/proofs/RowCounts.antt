@@ -3,13 +3,13 @@ use Prim.Native.Nat.{ℕ, suc, ◌+◌, ◌-◌, ◌<◌, ◌≤◌}
 use mathlib.Core.Path.{◌≡◌, refl, ap, ◌∙◌}
 use mathlib.Core.Option.{Option, some, none, map}
 use mathlib.Core.List.{List, ◌∷◌}
-use native.Mathlib.Nat.{add-zero, le_refl}
+use native.Mathlib.Nat.{add-zero}
 use native.Mathlib.Omega.{arith}
 use lib.ListN.{length, drop}
 use Rattle.mapblock.specs.Inventory.{BlockFormat}
 use Rattle.mapblock.specs.Data.{NameRow, MetadataRow, ObjectRow, TimerRow}
 use Rattle.mapblock.specs.Layout.{object_row}
-use Rattle.block_writer.specs.Frames.{name_frame, metadata_frame, timer_frame, rows_in, section_rows}
+use Rattle.block_writer.specs.Frames.{name_frame, metadata_frame, timer_frame, rows_in, max_rows, section_rows}
 use Rattle.block_writer.specs.BlockParts.{BlockParts, given, made, rows_made}
 use Rattle.block_writer.specs.Sections.{counts_of, counts_in}
 use Rattle.block_writer.proofs.FrameLengths.{Long, long-done, long-refused}
@@ -18,43 +18,38 @@ use Rattle.block_writer.proofs.RowsIn.{rows_empty, rows-over, rows_on, rows-stop
 abbrev how_many : {A : Type 0} → BlockFormat A → ℕ → List ℕ → Option ℕ
 how_many f k s = map length (rows_in f k s)
 
--- ---- the loop: of at most k rows so many are left, which start at `rest`
-pub record Counting {A : Type 0} (f : BlockFormat A) (k : ℕ) (s rest : List ℕ) (left : ℕ) : Type 0 where
-  pub whole : map (λ n. k - left + n) (how_many f left rest) ≡ how_many f k s
-  pub few : left ≤ k
+-- ---- the loop: of the rows that a u16 counts, so many are counted, and the others start at `rest`
+pub record Counting {A : Type 0} (f : BlockFormat A) (s rest : List ℕ) (count : ℕ) : Type 0 where
+  pub whole : map (λ n. count + n) (how_many f (max_rows - count) rest) ≡ how_many f max_rows s
+  pub few : count ≤ max_rows
 
-abbrev pub counting-start : {A : Type 0} (f : BlockFormat A) (k : ℕ) (s : List ℕ) → Counting f k s s k
-counting-start {A} f k s = record { whole = go (rows_in f k s); few = le_refl k }
-  where
-    go : (o : Option (List A)) → map (λ n. k - k + n) (map length o) ≡ map length o
-    go none = refl
-    go (some l) = let z : k - k + length l ≡ length l = omega arith in ap some z
-
-module _ {A : Type 0} {f : BlockFormat A} {k : ℕ} {s rest : List ℕ} {left : ℕ} (c : Counting f k s rest left) where
-  pub counting-end : length rest ≤ 0 → some (k - left) ≡ how_many f k s
-  counting-end h =
-      let z : length rest ≡ 0 = omega arith in
-      rw (rows_empty f left rest z, add-zero) at c.whole
+module _ {A : Type 0} {f : BlockFormat A} {s rest : List ℕ} {count : ℕ} (c : Counting f s rest count) where
+  pub counting-end : length rest ≡ 0 → some count ≡ how_many f max_rows s
+  counting-end h = rw (rows_empty f (max_rows - count) rest h, add-zero) at c.whole
 
   module _ (h : 0 < length rest) where
-    pub counting-over : left ≡ 0 → none ≡ how_many f k s
-    counting-over e = rw (rows-over f left rest h e) at c.whole
+    pub counting-over : max_rows ≤ count → none ≡ how_many f max_rows s
+    counting-over e =
+        let z : max_rows - count ≡ 0 = omega arith in
+        rw (rows-over f (max_rows - count) rest h z) at c.whole
 
-    pub counting-stop : none ≡ Long f rest → none ≡ how_many f k s
-    counting-stop e = rw (rows-stop f left rest h (long-refused f rest e).2) at c.whole
+    pub counting-stop : none ≡ Long f rest → none ≡ how_many f max_rows s
+    counting-stop e = rw (rows-stop f (max_rows - count) rest h (long-refused f rest e).2) at c.whole
 
-    abbrev pub counting-on : {n : ℕ} → 0 < left → some n ≡ Long f rest → Counting f k s (drop n rest) (left - 1)
+    pub counting-on : {n : ℕ} → count < max_rows → some n ≡ Long f rest → Counting f s (drop n rest) (count + 1)
     counting-on {n} p e =
         let x = long-done f rest e in
+        let left : 0 < max_rows - count = omega arith in
+        let next : max_rows - count - 1 ≡ max_rows - (count + 1) = omega arith in
         record {
-          whole = go x.0 (rows_in f (left - 1) (drop n rest)) ∙ rw (rows_on f left rest h p x.1) at c.whole;
-          few = omega (arith, c.few);
+          whole = rw (← next) (go x.0 (rows_in f (max_rows - count - 1) (drop n rest))) ∙ rw (rows_on f (max_rows - count) rest h left x.1) at c.whole;
+          few = omega arith;
         }
       where
         go : (a : A) (o : Option (List A))
-            → map (λ n. k - (left - 1) + n) (map length o) ≡ map (λ n. k - left + n) (map length (map (λ l. a ∷ l) o))
+            → map (λ n. count + 1 + n) (map length o) ≡ map (λ n. count + n) (map length (map (λ l. a ∷ l) o))
         go a none = refl
-        go a (some l) = let z : k - (left - 1) + length l ≡ k - left + suc (length l) = omega (arith, c.few) in ap some z
+        go a (some l) = let z : count + 1 + length l ≡ count + suc (length l) = omega arith in ap some z
 
 -- ---- the four sections: the first that is not whole leaves no counts
 module _ (v : ℕ) (names metadata objects timers : List ℕ) where

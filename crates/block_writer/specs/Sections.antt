@@ -10,13 +10,7 @@ use Rattle.block_writer.specs.Frames.{name_frame, metadata_frame, timer_frame, s
 use Rattle.block_writer.specs.BlockParts.{given}
 use Rattle.block_writer.specs.declared.frames.SectionKind.{SectionKind}
 use Rattle.block_writer.specs.declared.frames.SectionKind.TheVariants as section
-use Rattle.block_writer.specs.declared.frames.Frame.{Frame}
-use Rattle.block_writer.specs.declared.frames.Frame.TheVariants as frame
-use Rattle.block_writer.specs.declared.frames.RowCount.{RowCount}
-use Rattle.block_writer.specs.declared.frames.RowCount.TheVariants as row_count
 use Rattle.block_writer.specs.declared.counts.RowCounts.{RowCounts}
-use Rattle.block_writer.specs.declared.counts.RowCountsRead.{RowCountsRead}
-use Rattle.block_writer.specs.declared.counts.RowCountsRead.TheVariants as counts_read
 
 abbrev pub RowOf : SectionKind → Type 0
 RowOf section.Names = NameRow
@@ -35,14 +29,6 @@ abbrev pub length_read : {A : Type 0} → Read Fault A → Option ℕ
 length_read (done a n) = some n
 length_read (refused e p) = none
 
-abbrev pub told_frame : Frame → Option ℕ
-told_frame (frame.Row n) = some n
-told_frame frame.NotWhole = none
-
-abbrev pub told_rows : RowCount → Option ℕ
-told_rows (row_count.Rows n) = some n
-told_rows row_count.NotWhole = none
-
 -- ---- the rows of each section
 -- of a block
 abbrev pub counts_of : Block → RowCounts
@@ -55,10 +41,6 @@ counts_in v names metadata objects timers =
     given (map length (section_rows object_row objects)) λ c.
     given (map length (section_rows timer_frame timers)) λ d.
     some (record { names = a; metadata = b; objects = c; timers = d })
-
-abbrev pub told_counts : RowCountsRead → Option RowCounts
-told_counts (counts_read.Rows counts) = some counts
-told_counts counts_read.NotWhole = none
 
 -- bytes that are so many rows
 pub record Rows {A : Type 0} (f : BlockFormat A) (s : List ℕ) (count : ℕ) (l : List A) : Type 0 where

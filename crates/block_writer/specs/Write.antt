@@ -1,5 +1,5 @@
 -- The writer: document 01, 'Order': "Writer: 2, 12, then what the reader would say of the bytes, then 11."
-use Rattle.std.specs.Prelude.{ℕ, cond, List, [], ◌∷◌}
+use Rattle.std.specs.Prelude.{ℕ, cond, List, [], ◌∷◌, Ok, Err, Result}
 use Rattle.std.proofs.Math.Option.{Option, some, none}
 use Rattle.wire.specs.Read.{Read, done, refused}
 use Rattle.wire.specs.Answer.{Answer, good, refusal, plain, in_room, version_outside, position_above, position_twice, id_twice, id_unmapped, no_room, parts_misfit, private_byte_differs, timer_byte_differs}
@@ -9,8 +9,10 @@ use Rattle.mapblock.specs.Block.{block, verdict}
 use Rattle.mapblock.specs.Numbers.{refusal_number}
 use Rattle.mapblock.specs.declared.fault.Fault.{Fault}
 use Rattle.block_writer.specs.BlockParts.{BlockParts, block_made}
-use Rattle.block_writer.specs.declared.write.WriteAnswer.{WriteAnswer}
-use Rattle.block_writer.specs.declared.write.WriteAnswer.TheVariants as answers
+use Rattle.block_reader.specs.declared.read.ReadError.{ReadError}
+use Rattle.block_reader.specs.declared.read.ReadError.TheVariants as read_errors
+use Rattle.block_writer.specs.declared.write.WriteError.{WriteError}
+use Rattle.block_writer.specs.declared.write.WriteError.TheVariants as write_errors
 
 -- The numbers of values that parts which fit may have: a position, an id or a private byte in a row, and the timer byte of version 24.
 abbrev pub value_numbers : List ℕ
@@ -35,9 +37,14 @@ written_block room (some b) = judged_bytes room ((block all).encode b) (verdict 
 unfoldable pub write_of : BlockParts → ℕ → Answer (List ℕ)
 write_of p room = cond (is_version p.head.version) (written_block room (block_made p)) (plain version_outside)
 
+-- what the writer answers where the reader would refuse the bytes, or the parts do not fit
+abbrev pub write_error : ReadError → WriteError
+write_error read_errors.Misfit = write_errors.Misfit
+write_error (read_errors.Refused w) = write_errors.Refused w
+
 -- what the code's answer says: the length of what was written
-abbrev pub told_write : WriteAnswer → Answer ℕ
-told_write (answers.Written n) = good n
-told_write answers.Misfit = plain parts_misfit
-told_write (answers.Refused f p) = refusal (refusal_number f) 0 p
-told_write answers.NoRoom = plain no_room
+abbrev pub told_write : Result ℕ WriteError → Answer ℕ
+told_write (Ok n) = good n
+told_write (Err write_errors.Misfit) = plain parts_misfit
+told_write (Err (write_errors.Refused w)) = refusal (refusal_number w.fault) 0 w.offset
+told_write (Err write_errors.NoRoom) = plain no_room

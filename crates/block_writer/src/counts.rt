@@ -1,11 +1,13 @@
 // The number of rows of each section.
 ghost use Rattle.std.specs.Prelude.{◌≡◌};
-ghost use Rattle.block_writer.specs.Sections.{counts_in, told_counts};
+ghost use Rattle.wire.specs.Told.{option_of};
+ghost use Rattle.block_writer.specs.Sections.{counts_in};
 
-use crate::frames::{RowCount, SectionKind, row_count};
+use crate::frames::{SectionKind, row_count};
+use crate::parts::Parts;
 
 // How many rows each section has.
-#[derive(Clone, Copy)]
+#[derive(Clone, Copy, Debug, PartialEq, Eq, Hash)]
 pub struct RowCounts {
     pub names: u16,
     pub metadata: u16,
@@ -13,41 +15,17 @@ pub struct RowCounts {
     pub timers: u16,
 }
 
-// The counts, or that a section is not made of whole rows.
-#[derive(Clone, Copy)]
-pub enum RowCountsRead {
-    Rows(RowCounts),
-    NotWhole,
-}
-
 // Counts the rows of the four sections: the writer puts each count before its rows.
-pub(crate) fn count_all(
-    version: u8,
-    names: &[u8],
-    metadata: &[u8],
-    objects: &[u8],
-    timers: &[u8],
-) -> RowCountsRead
-    ensures { told_counts result
-        ≡ counts_in version names.now metadata.now objects.now
-        timers.now }
+pub(crate) fn count_all(parts: &Parts) -> Option<RowCounts>
+    ensures { option_of result
+        ≡ counts_in parts.now.head.version parts.now.names.now parts.now.metadata.now parts.now.objects.now
+        parts.now.timers.now }
 {
-    let RowCount::Rows(name_rows) = row_count(SectionKind::Names, version, names) else {
-        return RowCountsRead::NotWhole;
-    };
-    let RowCount::Rows(metadata_rows) = row_count(SectionKind::Metadata, version, metadata) else {
-        return RowCountsRead::NotWhole;
-    };
-    let RowCount::Rows(object_rows) = row_count(SectionKind::Objects, version, objects) else {
-        return RowCountsRead::NotWhole;
-    };
-    match row_count(SectionKind::Timers, version, timers) {
-        RowCount::NotWhole => RowCountsRead::NotWhole,
-        RowCount::Rows(timer_rows) => RowCountsRead::Rows(RowCounts {
-            names: name_rows,
-            metadata: metadata_rows,
-            objects: object_rows,
-            timers: timer_rows,
-        }),
-    }
+    let version = parts.head.version;
+    Some(RowCounts {
+        names: row_count(SectionKind::Names, version, parts.names)?,
+        metadata: row_count(SectionKind::Metadata, version, parts.metadata)?,
+        objects: row_count(SectionKind::Objects, version, parts.objects)?,
+        timers: row_count(SectionKind::Timers, version, parts.timers)?,
+    })
 }

@@ -5,4 +5,5 @@ pub mod counts;
 pub mod fit;
 pub mod frames;
 pub mod measure;
+pub(crate) mod parts;
 pub mod write;

@@ -2,11 +2,11 @@
 use Rattle.std.proofs.Common.{◌≡◌, ℕ, ◌+◌, ◌-◌, ◌*◌, ◌/◌, ◌%◌, ◌<◌, ◌≤◌, Bool, false, leb, ◌⊎◌, List, inl, inr, arith, le-ltb, lt-ltb, le-leb}
 use mathlib.Core.Bool.{and-false}
 use borrow.Author.Tests.{lt-leb}
-use Rattle.census.specs.Counters.{Table, is_at}
-use Rattle.census.specs.Clips.{in_interval, clip_with, Sides}
+use Rattle.census.specs.Counters.{is_at}
+use Rattle.census.specs.Clips.{in_interval, clip_with}
 use Rattle.census.specs.CountsById.{Raised}
 use Rattle.census.specs.declared.clip.Clip.{Clip}
-use Rattle.census.proofs.Raises.{raised-none, raised-skip, raised-as, raised-on}
+use Rattle.census.proofs.Raises.{Table, raised-none, raised-skip, raised-as, raised-on}
 
 outside : (a v b : ℕ) → (v < a) ⊎ (b ≤ v) → in_interval a v b ≡ false
 unfolding in_interval
@@ -47,19 +47,20 @@ module _ (b : Clip) (ids : ℕ → ℕ) where
 
   -- ---- the rows of a layer
   module _ (z : ℕ) where
-    pub layer-first : {old : List ℕ} → Table old → b.y0 ≤ 16 → Raised test (z * 256) (b.y0 * 16) old old
-    layer-first t h = raised-skip test (z * 256) 0 (b.y0 * 16) (raised-none test (z * 256) 0 t (omega arith)) (omega arith) (λ k i g f. no-y k i (inl (omega arith)))
+    pub layer-first : {old : List ℕ} → Table old → Raised test (z * 256) (b.y0 * 16) old old
+    layer-first t =
+        let x = b.first in
+        raised-skip test (z * 256) 0 (b.y0 * 16) (raised-none test (z * 256) 0 t (omega arith)) (omega arith) (λ k i g f. no-y k i (inl (omega arith)))
 
     pub layer-last : (y : ℕ) {old new : List ℕ} → b.y1 ≤ y → y ≤ 16 → Raised test (z * 256) (y * 16) old new → Raised test (z * 256) 256 old new
     layer-last y h l c = raised-skip test (z * 256) (y * 16) 256 c (omega arith) (λ k i g f. no-y k i (inr (omega arith)))
 
-    pub layer-on : (y from until : ℕ) {old mid new : List ℕ} → Sides b → b.z0 ≤ z → z < b.z1 → b.y0 ≤ y → y < b.y1
+    pub layer-on : (y from until : ℕ) {old mid new : List ℕ} → b.z0 ≤ z → z < b.z1 → b.y0 ≤ y → y < b.y1
         → from ≡ z * 256 + y * 16 + b.x0 → until ≡ z * 256 + y * 16 + b.x1
         → Raised test (z * 256) (y * 16) old mid → Raised (is_at ids) from (until - from) mid new → Raised test (z * 256) ((y + 1) * 16) old new
-    layer-on y from until w hz gz hy gy ef eu c d =
-        let x = w.x0 in
-        let u = w.x1 in
-        let v = w.y1 in
+    layer-on y from until hz gz hy gy ef eu c d =
+        let x = b.first in
+        let w = b.last in
         raised-skip test (z * 256) (y * 16 + b.x0 + (until - from)) ((y + 1) * 16)
         (raised-on test (z * 256) (y * 16 + b.x0) from (until - from) (y * 16 + b.x0 + (until - from))
         (raised-skip test (z * 256) (y * 16) (y * 16 + b.x0) c (omega arith) (λ k i f g. let q = place z y i (omega arith) (omega arith) (omega arith) in no-x k i (inl (omega arith))))

@@ -3,8 +3,8 @@ use Rattle.std.proofs.Common.{◌≡◌, ℕ, zero, suc, ◌+◌, ◌*◌, ◌<�
 use borrow.Author.Tests.{eqb-false}
 use Rattle.wire.specs.Order.{order, choose}
 use Rattle.wire.specs.Choice.{bit}
-use Rattle.wire.specs.declared.order.Order.{Order}
-use Rattle.wire.specs.declared.order.Order.TheVariants.{Before, Same, After}
+use Rattle.std.specs.declared.cmp.Ordering.{Ordering}
+use Rattle.std.specs.declared.cmp.Ordering.TheVariants.{Less, Equal, Greater}
 use Rattle.mapblock.specs.Data.{NameRow}
 use Rattle.mapblock.specs.Valid.{Has, Distinct}
 use Rattle.block_reader.specs.Questions.{name_of}
@@ -31,11 +31,11 @@ unfolding over
 count-over f [] n = refl
 count-over f (r ∷ l) n = go (order r.name n) (count-over f l n)
   where
-    go : (o : Order) → count_in ones (counted_by f l) n ≡ over (naming n) f l
+    go : (o : Ordering) → count_in ones (counted_by f l) n ≡ over (naming n) f l
         → choose o 0 (f r.id) 0 + count_in ones (counted_by f l) n ≡ bit (choose o false true false) * f r.id + over (naming n) f l
-    go Before e = omega arith
-    go Same e = omega arith
-    go After e = omega arith
+    go Less e = omega arith
+    go Equal e = omega arith
+    go Greater e = omega arith
 
 total_count-over : (f : ℕ → ℕ) (l : List NameRow) → total_count (counted_by f l) ≡ over (λ r. 1) f l
 unfolding over

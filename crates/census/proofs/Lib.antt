@@ -10,8 +10,7 @@ pub mod Cleared
 -- Rows at places.
 pub mod RowsAt
 -- Places in the order of their names.
-pub mod Joining
-pub mod Halves
+pub mod Sorting
 -- The rows that are used.
 pub mod UsedWalk
 pub mod UsedRuns

@@ -1,11 +1,19 @@
 -- The counters after a run of indices.
-use Rattle.std.proofs.Common.{◌≡◌, ℕ, zero, suc, ◌+◌, ◌-◌, ◌%◌, ◌<◌, ◌≤◌, Bool, true, false, eqb, List, get_or, set, sym, refl, ap, ◌∙◌, subst, arith, length-set, get_or-set_other, get_or-set_same, eq-eqb, ne_eqb, eqb-true}
+use Rattle.std.proofs.Common.{◌≡◌, length, ℕ, zero, suc, ◌+◌, ◌-◌, ◌%◌, ◌<◌, ◌≤◌, Bool, true, false, eqb, List, get_or, set, sym, refl, ap, ◌∙◌, subst, arith, length-set, get_or-set_other, get_or-set_same, eq-eqb, ne_eqb, eqb-true}
 use borrow.Author.Tests.{eqb-false}
 use Rattle.census.specs.CountsById.{count_if, Raised}
-use Rattle.census.specs.Counters.{Table, is_at}
+use Rattle.census.specs.Counters.{is_at}
 use Rattle.census.proofs.Counts.{count_if-zero, count_if-add, count_if-same, count_if-none, count_if-all}
 
-pub raised-table : {p : ℕ → ℕ → Bool} {a n : ℕ} {old new : List ℕ} → Table old → Raised p a n old new → Table new
+-- 65,536 counters that fit
+pub record Table (t : List ℕ) : Type 0 where
+  pub size : length t ≡ 65536
+  pub fits : (k : ℕ) → k < 65536 → get_or t k 0 < 65536
+
+pub table : {t : List ℕ} → length t ≡ 65536 → ((k : ℕ) → get_or t k 0 < 65536) → Table t
+table size fits = record { size = size; fits = λ k _. fits k }
+
+raised-table : {p : ℕ → ℕ → Bool} {a n : ℕ} {old new : List ℕ} → Table old → Raised p a n old new → Table new
 raised-table t r = record { size = r.long ∙ t.size; fits = λ k h. omega (arith, r.each k h) }
 
 pub raised-none : (p : ℕ → ℕ → Bool) (a n : ℕ) {old : List ℕ} → Table old → n ≡ 0 → Raised p a n old old

@@ -1,8 +1,9 @@
 -- A block that the scan took: what stands in the bytes where the scan found it.
-use Rattle.std.proofs.Common.{◌≡◌, ℕ, ◌+◌, ◌*◌, ◌<◌, true, List, length, drop, sym, ap, ◌∙◌, subst, arith, length-drop, take_all, le-leb}
+use Rattle.std.proofs.Common.{◌≡◌, ℕ, ◌+◌, ◌*◌, ◌-◌, ◌<◌, ◌≤◌, true, List, length, drop, sym, ap, ◌∙◌, subst, arith, length-drop, take_all, le-leb}
 use Rattle.wire.specs.Bytes.{Bytes}
 use Rattle.wire.specs.Read.{done, map_read}
-use Rattle.wire.specs.Ranges.{range_at, bytes_in}
+use Rattle.std.specs.List.{slice_range}
+use Rattle.wire.specs.Ranges.{bytes_in}
 use Rattle.mapblock.specs.Data.{Block}
 use Rattle.mapblock.specs.Layout.{all, width}
 use Rattle.mapblock.specs.Block.{verdict, id_at}
@@ -34,15 +35,17 @@ module _ (s : List ℕ) {w : Scanned} {b : Block} {n : ℕ} (y : Bytes s) (reads
 
   -- the param lists, as the code cuts them out
   abbrev pub lists : List ℕ
-  lists = bytes_in s (range_at w.lists (length s))
+  lists = drop w.lists s
 
-  lists-are : lists ≡ drop w.lists s
-  lists-are = take_all (length s) (drop w.lists s) (omega (arith, length-drop w.lists s))
+  pub lists-inside : w.lists ≤ length s
+  lists-inside = omega (arith, length-drop w.lists s, taken_as.inside)
+
+  pub lists-cut : slice_range s w.lists (length s) ≡ lists
+  lists-cut = take_all (length s - w.lists) (drop w.lists s) (omega (arith, length-drop w.lists s))
 
   pub scanned-lists : holds_lists w.head.version lists ≡ true
-  scanned-lists = le-leb (4096 * width w.head.version + 8192) (length lists) (omega (arith, ap length lists-are, length-drop w.lists s, taken_as.inside))
+  scanned-lists = le-leb (4096 * width w.head.version + 8192) (length lists) (omega (arith, length-drop w.lists s, taken_as.inside))
 
   pub scanned-ids : (i : ℕ) → i < 4096 → id_at b i ≡ id_in w.head.version lists i
   scanned-ids i h =
       ap (λ (x : Block). id_at x i) (sym same_block) ∙ id_same taken_as.b w.head.version (drop w.lists s) (ap (λ (x : Scanned). x.head.version) taken_as.shows) taken_as.nodes i h
-      ∙ ap (λ (l : List ℕ). id_in w.head.version l i) (sym lists-are)

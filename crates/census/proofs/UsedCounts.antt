@@ -3,8 +3,8 @@ use Rattle.std.proofs.Common.{◌≡◌, ℕ, ◌+◌, ◌<◌, ◌≤◌, Bool,
 use lib.ListN.{length-replicate}
 use borrow.Author.Tests.{eqb-false}
 use Rattle.wire.specs.Order.{order, choose}
-use Rattle.wire.specs.declared.order.Order.{Order}
-use Rattle.wire.specs.declared.order.Order.TheVariants.{Before, Same, After}
+use Rattle.std.specs.declared.cmp.Ordering.{Ordering}
+use Rattle.std.specs.declared.cmp.Ordering.TheVariants.{Less, Equal, Greater}
 use Rattle.mapblock.specs.Data.{NameRow, Block}
 use Rattle.mapblock.specs.Block.{id_at}
 use Rattle.block_reader.specs.Questions.{name_at}
@@ -29,10 +29,10 @@ module _ (t : List ℕ) (f : ℕ → ℕ) where
   told-counts [] h n = refl
   told-counts (r ∷ l) h n = go (eqb (get_or t r.id 0) 0) refl (told-counts l h.1 n)
     where
-      none : (o : Order) → f r.id ≡ 0 → choose o 0 (f r.id) 0 ≡ 0
-      none Before e = refl
-      none Same e = e
-      none After e = refl
+      none : (o : Ordering) → f r.id ≡ 0 → choose o 0 (f r.id) 0 ≡ 0
+      none Less e = refl
+      none Equal e = e
+      none Greater e = refl
 
       go : (z : Bool) → eqb (get_or t r.id 0) 0 ≡ z → count_in ones (used_counts t l) n ≡ count_in ones (counted_by f l) n
           → count_in ones (cond z (used_counts t l) (record { name = r.name; count = get_or t r.id 0 } ∷ used_counts t l)) n ≡ count_in ones (counted_by f (r ∷ l)) n

@@ -5,7 +5,7 @@ use Rattle.wire.proofs.Lists.{rest-is}
 use Rattle.wire.specs.Bytes.{Bytes, bytes_drop}
 use Rattle.wire.specs.Read.{done, map_read}
 use Rattle.wire.specs.Store.{overwrite}
-use Rattle.wire.proofs.Overwrites.{overwrite-none, overwrite-length, overwrite-last}
+use Rattle.wire.proofs.Overwrites.{overwrite-none, overwrite-last}
 use Rattle.mapblock.specs.Data.{NameRow}
 use Rattle.mapblock.specs.Layout.{all, name_row}
 use Rattle.mapblock.specs.Rows.{name_fields}
@@ -61,9 +61,6 @@ using-start s t places w c = record {
 }
 
 module _ {s t rest : List ℕ} {at : ℕ} {before after : List ℕ} {n : ℕ} (f : Using s t rest at before after n) where
-  pub using-room : length after ≡ 4096
-  using-room = ap length f.shape ∙ overwrite-length 0 f.W before (omega (arith, f.counts, f.few, f.room)) ∙ f.room
-
   stored : f.W ≡ used_of t s → Stored s t before after n
   stored e = (f.counts ∙ ap length e, f.shape ∙ ap (λ (l : List ℕ). overwrite 0 l before) e)
 

@@ -1,11 +1,6 @@
--- The table of counters, one of sixteen bits for each content id.
-use Rattle.std.specs.Prelude.{◌≡◌, ℕ, ◌+◌, ◌*◌, ◌<◌, Bool, List, length, ◌==◌, slice_index}
+-- The content ids of nodes, as the code reads them out of the param lists.
+use Rattle.std.specs.Prelude.{ℕ, ◌+◌, ◌*◌, Bool, List, ◌==◌, slice_index}
 use Rattle.mapblock.specs.Block.{content_id}
-
--- 65,536 counters that fit
-pub record Table (t : List ℕ) : Type 0 where
-  pub size : length t ≡ 65536
-  pub fits : (k : ℕ) → k < 65536 → slice_index t k < 65536
 
 -- the node at the index i has the content id k
 abbrev pub is_at : (ℕ → ℕ) → ℕ → ℕ → Bool

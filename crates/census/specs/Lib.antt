@@ -8,4 +8,5 @@ pub mod NameOrder
 pub mod UsedNames
 -- What the functions of this crate promise each other.
 pub mod Counters
+pub mod Clamps
 pub mod Clips

@@ -8,17 +8,16 @@ ghost use Rattle.mapblock.specs.Layout.{all};
 ghost use Rattle.mapblock.specs.Block.{verdict};
 ghost use Rattle.block_reader.specs.Sections.{scanned_of};
 ghost use Rattle.mapblock.specs.Table.{clear_table};
-ghost use Rattle.census.specs.NameOrder.{SortedFrom};
 ghost use Rattle.census.specs.Census.{Counted, Census};
 
 use crate::count::count_in;
 use crate::sort::sort;
-use crate::used::{sized, used};
+use crate::used::used;
 use block_reader::scan::Scanned;
 use mapblock::nodes::{IDS, NODES};
 use position::key::Coordinates;
 use position::part::Part;
-use wire::ranges::{Range, slice_of};
+use wire::ranges::slice_of;
 
 // Counts the nodes of a block that stand in a part by content id, and tells whether the block was saved within the span. The block stands at
 // `at`, and `scanned` is what the scan told of it. This is an inner function: of whatever counters it promises that a block outside the span
@@ -41,31 +40,15 @@ pub fn count_nodes(
     if !span.has(head.timestamp) {
         return false;
     }
-    let lists = slice_of(
-        block,
-        Range {
-            start: scanned.lists,
-            length: block.len(),
-        },
-    );
+    let lists = block.get(scanned.lists..).unwrap_or(&[]);
     count_in(head.version, lists, at, part.lot, counts);
     true
-}
-
-// Puts the first n places in the order of their names.
-fn sort_first(names: &[u8], places: &mut [usize], n: usize, scratch: &mut [usize])
-    requires { (n ≤ length places.old) × (n ≤ length scratch.old) }
-    ensures kept { length places.new ≡ length places.old }
-    ensures sorted { SortedFrom names.now (take n places.old)
-        (take n places.new) }
-{
-    sort(names, &mut places[..n], scratch);
 }
 
 // Counts the nodes of a block that stand in a part by content id, and puts the places of the names that they use in order, at the front of
 // `places`; tells how many these are. The block stands at `at`, and `scanned` is what the scan told of it. This is an inner function: of
 // whatever tables it promises that a block outside the span leaves the counters as they were, and of clear counters the census; `clear` makes
-// them so again. `scratch` is a table to work in: what it holds afterwards is open.
+// them so again.
 pub fn take_census(
     block: &[u8],
     scanned: Scanned,
@@ -73,7 +56,6 @@ pub fn take_census(
     part: Part,
     counts: &mut [u16; IDS],
     places: &mut [usize; NODES],
-    scratch: &mut [usize; NODES],
 ) -> usize
     ensures bounded { result ≤ 4096 }
     ensures kept { length places.new ≡ 4096 }
@@ -84,15 +66,12 @@ pub fn take_census(
         → Census part at b (bytes_in block.now scanned.sections.names) counts.new
         (take result places.new) }
 {
-    sized(places);
-    sized(scratch);
     if !count_nodes(block, scanned, at, part, counts) {
         return 0;
     }
     let sections = scanned.sections;
     let names = slice_of(block, sections.names);
     let n = used(names, counts, places);
-    sized(places);
-    sort_first(names, places, n, scratch);
+    sort(names, &mut places[..n]);
     n
 }

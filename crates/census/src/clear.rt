@@ -2,7 +2,7 @@
 ghost use Rattle.std.specs.Prelude.{◌≡◌};
 ghost use Rattle.mapblock.specs.Table.{unmarked, all_rows};
 
-use mapblock::names::{NameRead, name_row};
+use mapblock::names::name_row;
 use mapblock::nodes::IDS;
 
 // Sets the counter of each mapped id to 0, by the rows at the front of `names`.
@@ -10,18 +10,8 @@ pub fn clear(names: &[u8], counts: &mut [u16; IDS])
     ensures { counts.new ≡ unmarked counts.old (all_rows names.now) }
 {
     let mut rest = names;
-    while 0 < rest.len() {
-        match name_row(rest) {
-            NameRead::Refused {
-                fault: _,
-                offset: _,
-            } => {
-                return;
-            }
-            NameRead::Row { row, length: n } => {
-                counts[row.id as usize] = 0;
-                rest = &rest[n..];
-            }
-        }
+    while let Ok((row, n)) = name_row(rest) {
+        counts[usize::from(row.id)] = 0;
+        rest = &rest[n..];
     }
 }

@@ -3,7 +3,7 @@ ghost use Rattle.std.specs.Prelude.{◌≡◌, ◌<◌};
 ghost use Rattle.wire.specs.Places.{place_in};
 ghost use Rattle.census.specs.NamePlaces.{row_at, name_start_at, count_at};
 
-use mapblock::names::{NameRead, name_row};
+use mapblock::names::name_row;
 use mapblock::nodes::IDS;
 use wire::ranges::slice_of;
 
@@ -16,13 +16,10 @@ pub fn name_at(s: &[u8], p: usize) -> &[u8]
         return &s[..0];
     }
     let rest = &s[p..];
-    match name_row(rest) {
-        NameRead::Refused {
-            fault: _,
-            offset: _,
-        } => &s[..0],
-        NameRead::Row { row, length: _ } => slice_of(rest, row.name),
-    }
+    let Ok((row, _)) = name_row(rest) else {
+        return &s[..0];
+    };
+    slice_of(rest, row.name)
 }
 
 // Gives the id in the row at a place, 0 where none stands there.
@@ -30,28 +27,18 @@ pub fn id_at(s: &[u8], p: usize) -> usize
     ensures told { result ≡ (row_at s.now p).id }
     ensures bounded { result < 65536 }
 {
-    if s.len() < p {
+    let Some(rest) = s.get(p..) else {
         return 0;
-    }
-    match name_row(&s[p..]) {
-        NameRead::Refused {
-            fault: _,
-            offset: _,
-        } => 0,
-        NameRead::Row { row, length: _ } => row.id as usize,
-    }
-}
-
-// Widens a counter. A cast in place would ask for a proof that the counter fits.
-fn wide(n: u16) -> u64
-    ensures { result ≡ n }
-{
-    n as u64
+    };
+    let Ok((row, _)) = name_row(rest) else {
+        return 0;
+    };
+    usize::from(row.id)
 }
 
 // Gives the counter of the id in the row at a place.
 pub fn count_at(s: &[u8], counts: &[u16; IDS], p: usize) -> u64
     ensures { result ≡ count_at s.now counts.now p }
 {
-    wide(counts[id_at(s, p)])
+    u64::from(counts[id_at(s, p)])
 }

@@ -1,5 +1,6 @@
 -- Fields and formats: what every other proof cites.
 pub mod Leaves
+pub mod Refusals
 pub mod Readings
 pub mod FaultNumbers
 -- Rows, lists and node data.

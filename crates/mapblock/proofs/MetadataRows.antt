@@ -209,10 +209,10 @@ module _ (values : Bool) (v : ℕ) (s : List ℕ) {at : ℕ} (h : (position_for 
     pub kind-ends : (num 2).read (drop 2 s) ≡ refused fault.Ends 0 → refused fault.Ends 2 ≡ told values v s
     kind-ends g = old_is (old-kind (position_for values) u16 (prefixed 2) (variable_list values v) inventory s h g)
 
-    pub content-ends : {kind p : ℕ} → (num 2).read (drop 2 s) ≡ done kind 2 → (text 2).read (drop 4 s) ≡ refused fault.Ends p → refused fault.Ends (4 + p) ≡ told values v s
-    content-ends {p = p} g f =
+    pub content-ends : {kind p : ℕ} {e : Fault} → (num 2).read (drop 2 s) ≡ done kind 2 → (text 2).read (drop 4 s) ≡ refused e p → refused e (4 + p) ≡ told values v s
+    content-ends {p = p} {e = e} g f =
         let z : 4 + p ≡ 2 + (2 + p) = omega arith in
-        ap (refused fault.Ends) z ∙ old_is (old-content (position_for values) u16 (prefixed 2) (variable_list values v) inventory s h g (ap (text 2).read (drop-drop 2 2 s) ∙ f))
+        ap (refused e) z ∙ old_is (old-content (position_for values) u16 (prefixed 2) (variable_list values v) inventory s h g (ap (text 2).read (drop-drop 2 2 s) ∙ f))
 
     old-fields : (at kind n : ℕ) (a : List ℕ) → length a ≡ n
         → metadata_fields v record { position = at; kind = kind; content = a; variables = []; inventory = [] } ≡ record { position = at; kind = kind; content = range_at 6 n; variables = 0; rows = no_range; inventory = no_range }

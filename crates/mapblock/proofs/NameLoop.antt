@@ -3,13 +3,12 @@ use Prim.Native.Nat.{ℕ, zero, suc, ◌+◌, ◌-◌, ◌<◌, ◌≤◌}
 use mathlib.Core.Path.{◌≡◌, refl, ap, sym, ◌∙◌}
 use mathlib.Core.List.{List, [], ◌∷◌, ◌++◌, append_assoc, append-nil}
 use mathlib.Core.Bool.{Bool, true, false, cond}
-use native.Mathlib.Nat.{zero-add}
+use native.Mathlib.Nat.{zero-add, sub-zero}
 use native.Mathlib.Omega.{arith}
 use lib.Dec.{eqb}
-use lib.ListN.{length, get_or, take, drop, set, length-drop}
-use lib.Seq.{set-set, set_comm, set-get_or}
+use lib.ListN.{length, get_or, drop, set, length-drop}
+use lib.Seq.{drop-drop, set-set, set_comm, set-get_or}
 use borrow.Author.Tests.{eqb-true, eqb-false}
-use Rattle.wire.proofs.Lists.{rest-is}
 use Rattle.wire.specs.Read.{Read, done, refused, map_read, reach, map-done, map-refused}
 use Rattle.wire.specs.Format.{items, read_items}
 use Rattle.wire.proofs.Items.{after, items-start, items-on, items_refused, items-end}
@@ -73,93 +72,89 @@ undo-one t u l r z h =
     unmarked-last (set t i 1) l r ∙ set-unmarked t l i 1 ∙ ap (λ (w : List ℕ). set w i 0) h ∙ ap (λ (v : ℕ). set u i v) (sym free) ∙ set-get_or u i 0
 
 -- ---- the loop
-pub record Named (t₀ s : List ℕ) (count : ℕ) (t rest : List ℕ) (at left : ℕ) : Type 0 where
+pub record Named (t₀ s : List ℕ) (count : ℕ) (t : List ℕ) (at past : ℕ) : Type 0 where
   pub pre : List NameRow
   pub seen : List NameRow
-  pub reads : after pre at (read_items (name_row (free_in t₀)) left seen rest) ≡ (items (name_row (free_in t₀)) count).read s
+  pub reads : after pre at (read_items (name_row (free_in t₀)) (count - past) seen (drop at s)) ≡ (items (name_row (free_in t₀)) count).read s
   pub tabled : Tabled 65536 (unmapped (free_in t₀) seen) t
   pub is : t ≡ marked t₀ pre
   pub undone : unmarked t pre ≡ t₀
   pub same : (id : ℕ) → unmapped (free_in t₀) pre id ≡ unmapped (free_in t₀) seen id
-  pub fronts : (m : ℕ) → front_rows (count - left + m) s ≡ pre ++ front_rows m rest
-  pub few : left ≤ count
-  pub size : at + length rest ≡ length s
-  pub whole : length t₀ ≡ 65536
+  pub fronts : (m : ℕ) → front_rows (past + m) s ≡ pre ++ front_rows m (drop at s)
+  pub size : at ≤ length s
 
-pub named_start : (t₀ s : List ℕ) (count : ℕ) → length t₀ ≡ 65536 → Named t₀ s count t₀ s 0 count
+pub named_start : (t₀ s : List ℕ) (count : ℕ) → length t₀ ≡ 65536 → Named t₀ s count t₀ 0 0
 unfolding unused
 named_start t₀ s count h = record {
   pre = [];
   seen = [];
-  reads = items-start (name_row (free_in t₀)) count s;
+  reads = rw sub-zero (items-start (name_row (free_in t₀)) count s);
   tabled = record { size = h; tells = λ i l. refl };
   is = refl;
   undone = refl;
   same = λ id. refl;
-  fronts = λ m. let z : count - count + m ≡ m = omega arith in ap (λ (k : ℕ). front_rows k s) z;
-  few = omega arith;
-  size = zero-add (length s);
-  whole = h;
+  fronts = λ m. rw zero-add refl;
+  size = omega arith;
 }
 
-module _ {t₀ s : List ℕ} {count : ℕ} {t rest : List ℕ} {at left : ℕ} (w : Named t₀ s count t rest at left) where
+module _ {t₀ s : List ℕ} {count : ℕ} {t : List ℕ} {at past : ℕ} (w : Named t₀ s count t at past) where
   abbrev row_there : Read Fault NameRow
-  row_there = (name_row (free_in t₀) w.seen).read rest
-
-  pub named-inside : {r : Read Fault NameFields} → r ≡ map_read name_fields row_there → reach r ≤ length rest
-  named-inside h = told_in name_fields (name_row (free_in t₀) w.seen) rest h
+  row_there = (name_row (free_in t₀) w.seen).read (drop at s)
 
   pub named-place : {r : Read Fault NameFields} → r ≡ map_read name_fields row_there → at + reach r ≤ length s
-  named-place h = omega (arith, w.size, named-inside h)
+  named-place {r} h =
+      let i : reach r ≤ length (drop at s) = told_in name_fields (name_row (free_in t₀) w.seen) (drop at s) h in
+      omega (arith, w.size, i, length-drop at s)
 
   -- the rows that were read stand in front
-  pub named-front : unmarked t (front_rows (count - left) s) ≡ t₀
+  pub named-front : unmarked t (front_rows past s) ≡ t₀
   unfolding rows_read
   named-front =
-      let z : count - left + 0 ≡ count - left = omega arith in
-      let e : front_rows (count - left) s ≡ w.pre = ap (λ (k : ℕ). front_rows k s) (sym z) ∙ w.fronts 0 ∙ append-nil w.pre in
+      let z : past + 0 ≡ past = omega arith in
+      let e : front_rows past s ≡ w.pre = ap (λ (k : ℕ). front_rows k s) (sym z) ∙ w.fronts 0 ∙ append-nil w.pre in
       ap (unmarked t) e ∙ w.undone
 
-  pub named_end : left ≤ 0 → (done tt at ≡ ended ((items (name_row (free_in t₀)) count).read s)) × RowsMarked t₀ t ((items (name_row (free_in t₀)) count).read s)
+  pub named_end : count ≤ past → (done tt at ≡ ended ((items (name_row (free_in t₀)) count).read s)) × RowsMarked t₀ t ((items (name_row (free_in t₀)) count).read s)
   named_end h =
-      let z : left ≡ 0 = omega arith in
-      let e : (items (name_row (free_in t₀)) count).read s ≡ done w.pre at = sym w.reads ∙ items-end (name_row (free_in t₀)) left w.pre w.seen at rest z in
+      let z : count - past ≡ 0 = omega arith in
+      let e : (items (name_row (free_in t₀)) count).read s ≡ done w.pre at = sym w.reads ∙ items-end (name_row (free_in t₀)) (count - past) w.pre w.seen at (drop at s) z in
       let tab : Tabled 65536 (unmapped (free_in t₀) w.pre) t = record { size = w.tabled.size; tells = λ i l. w.same i ∙ w.tabled.tells i l } in
       rw e (refl, record { is = w.is; tabled = tab; undone = w.undone })
 
-  module _ (h : 0 < left) where
+  module _ (h : past < count) where
     pub named-refused : {e : Fault} {p : ℕ} {u : List ℕ} → refused e p ≡ map_read name_fields row_there → u ≡ t₀
         → (refused e (at + p) ≡ ended ((items (name_row (free_in t₀)) count).read s)) × RowsMarked t₀ u ((items (name_row (free_in t₀)) count).read s)
     named-refused {e} {p} k g =
         let x = map-refused name_fields row_there e p (sym k) in
-        let r : (items (name_row (free_in t₀)) count).read s ≡ refused e (at + p) = sym w.reads ∙ items_refused (name_row (free_in t₀)) left w.pre w.seen at rest h x in
+        let left : 0 < count - past = omega arith in
+        let r : (items (name_row (free_in t₀)) count).read s ≡ refused e (at + p) = sym w.reads ∙ items_refused (name_row (free_in t₀)) (count - past) w.pre w.seen at (drop at s) left x in
         rw r (refl, g)
 
     pub named-on : {row : NameFields} {n : ℕ} → done row n ≡ map_read name_fields row_there → row.id < 65536
-        → Named t₀ s count (set t row.id 1) (take (length rest - n) (drop n rest)) (at + n) (left - 1)
+        → Named t₀ s count (set t row.id 1) (at + n) (past + 1)
     unfolding rows_read unused
     named-on {row} {n} k l =
         let x = map-done name_fields row_there row n (sym k) in
         let a = x.0 in
         let i : a.id ≡ row.id = ap (λ (f : NameFields). f.id) x.2 in
-        let alone = row-alone (free_in t₀) w.seen rest x.1 in
+        let alone = row-alone (free_in t₀) w.seen (drop at s) x.1 in
         let m : a.id < 65536 = rw i l in
         let z : get_or t a.id 0 ≡ 0 = eqb-true _ _ (sym (w.tabled.tells a.id m) ∙ alone.1) in
-        let inn : n ≤ length rest = named-inside k in
-        rw (rest-is n rest, ← i) record {
+        let left : 0 < count - past = omega arith in
+        let next : count - past - 1 ≡ count - (past + 1) = omega arith in
+        rw (← i) record {
           pre = w.pre ++ a ∷ [];
           seen = a ∷ w.seen;
-          reads = sym (items-on (name_row (free_in t₀)) left w.pre w.seen at rest h x.1) ∙ w.reads;
+          reads = rw (← next, ← drop-drop n at s) (sym (items-on (name_row (free_in t₀)) (count - past) w.pre w.seen at (drop at s) left x.1) ∙ w.reads);
           tabled = marked-one 65536 (unmapped (free_in t₀) w.seen) t a.id m w.tabled;
           is = ap (λ (l : List ℕ). set l a.id 1) w.is ∙ sym (marked-last t₀ w.pre a);
           undone = undo-one t t₀ w.pre a z w.undone;
           same = λ id. unused-last (λ (r : NameRow). r.id) (free_in t₀) w.pre a id ∙ ap (λ (b : Bool). cond (eqb id a.id) false b) (w.same id);
           fronts = λ m.
-              let c : count - (left - 1) + m ≡ count - left + suc m = omega (arith, w.few) in
-              let e : front_rows (suc m) rest ≡ a ∷ front_rows m (drop n rest) = rw alone.0 in
-              ap (λ (j : ℕ). front_rows j s) c ∙ w.fronts (suc m) ∙ ap (λ (y : List NameRow). w.pre ++ y) e
-              ∙ sym (append_assoc w.pre (a ∷ []) (front_rows m (drop n rest)));
-          few = omega (arith, w.few);
-          size = rw length-drop (omega (arith, w.size));
-          whole = w.whole;
+              let c : past + 1 + m ≡ past + suc m = omega arith in
+              let e : front_rows (suc m) (drop at s) ≡ a ∷ front_rows m (drop n (drop at s)) = rw alone.0 in
+              rw (← drop-drop n at s)
+              (ap (λ (j : ℕ). front_rows j s) c ∙ w.fronts (suc m) ∙ ap (λ (y : List NameRow). w.pre ++ y) e
+              ∙ sym (append_assoc w.pre (a ∷ []) (front_rows m (drop n (drop at s)))));
+          size = named-place k;
         }

@@ -13,7 +13,8 @@ use Rattle.mapblock.specs.Inventory.{BlockFormat}
 use Rattle.mapblock.specs.Data.{NameRow, name_mapping_shape}
 use Rattle.mapblock.specs.Layout.{name_row, name_mapping}
 use Rattle.mapblock.specs.Table.{free_in, NamesMarked, RowsMarked, NameMappingMarked}
-use Rattle.mapblock.specs.Told.{ended, shown_mapping}
+use Rattle.mapblock.specs.Told.{ended, names_head, shown_mapping}
+use Rattle.mapblock.specs.declared.names.NamesHead.{NamesHead}
 use Rattle.mapblock.specs.declared.fault.Fault.{Fault}
 use Rattle.mapblock.specs.declared.fault.Fault.TheVariants as fault
 use Rattle.wire.proofs.Fixed.{fixed_on, fixed-other, fixed-refused}
@@ -66,7 +67,7 @@ module _ (free : ℕ → Bool) (s : List ℕ) where
         name-mapping-done {n = n} g = let q : 4 + (1 + (2 + n)) ≡ 7 + n = omega arith in behind-byte (behind-count g) ∙ rw q
 
 -- ---- the answer, and the table with it
-abbrev SavedTold : List ℕ → List ℕ → List ℕ → Read Fault (ℕ × ℕ) → Type 0
+abbrev SavedTold : List ℕ → List ℕ → List ℕ → Read Fault NamesHead → Type 0
 SavedTold t u s r = (r ≡ map_read shown_mapping ((name_mapping (free_in t)).read s)) × NameMappingMarked t u ((name_mapping (free_in t)).read s)
 
 module _ (t s : List ℕ) where
@@ -83,7 +84,7 @@ module _ (t s : List ℕ) where
         let same : u ≡ t = rw x at m in
         rw (name-mapping-refused (free_in t) s h z k x) (refl, same)
 
-    pub told-rows : (u : List ℕ) {n : ℕ} → done tt n ≡ ended rows → RowsMarked t u rows → SavedTold t u s (done (pair time count) (7 + n))
+    pub told-rows : (u : List ℕ) {n : ℕ} → done tt n ≡ ended rows → RowsMarked t u rows → SavedTold t u s (done (names_head time count) (7 + n))
     unfolding items
     told-rows u g m =
         let x = ended-done rows g in

@@ -1,10 +1,10 @@
 -- The table after rows of names were read, by what was read alone: it marks their ids beside those that were marked, and can be put back.
-use Prim.Native.Nat.{ℕ, zero, suc, ◌+◌, ◌-◌, ◌<◌}
+use Prim.Native.Nat.{ℕ, zero, suc, ◌+◌, ◌<◌}
 use mathlib.Core.Path.{◌≡◌, refl, ap, sym, subst, subst⁻¹}
 use mathlib.Core.List.{List, []}
 use native.Mathlib.Omega.{arith}
-use lib.ListN.{length, take, drop, set}
-use Rattle.wire.specs.Bytes.{Bytes, bytes_take, bytes_drop}
+use lib.ListN.{length, drop, set}
+use Rattle.wire.specs.Bytes.{Bytes, bytes_drop}
 use Rattle.wire.specs.Read.{Read, done, refused, map_read}
 use Rattle.wire.specs.Format.{items}
 use Rattle.mapblock.specs.Data.{NameRow}
@@ -33,23 +33,21 @@ module _ (t s : List ℕ) (count : ℕ) where
 
   -- what is left to read decides what the table holds in the end
   abbrev Ends : ℕ → Type 0
-  Ends k = (u rest : List ℕ) (at : ℕ) → Named t s count u rest at k → Bytes rest → (z : List ℕ) × RowsMarked t z rows
+  Ends k = (u : List ℕ) (at past : ℕ) → past + k ≡ count → Named t s count u at past → (z : List ℕ) × RowsMarked t z rows
 
-  walked : (k : ℕ) → Ends k
-  walked zero u rest at w b = (u, (named_end w (omega arith)).1)
-  walked (suc k) u rest at w b = by_row (walked k) ((name_row (free_in t) w.seen).read rest) refl
+  walked : Bytes s → (k : ℕ) → Ends k
+  walked b zero u at past l w = (u, (named_end w (omega arith)).1)
+  walked b (suc k) u at past l w = by_row (walked b k) ((name_row (free_in t) w.seen).read (drop at s)) refl
     where
-      by_row : Ends k → (r : Read Fault NameRow) → (name_row (free_in t) w.seen).read rest ≡ r → (z : List ℕ) × RowsMarked t z rows
+      by_row : Ends k → (r : Read Fault NameRow) → (name_row (free_in t) w.seen).read (drop at s) ≡ r → (z : List ℕ) × RowsMarked t z rows
       by_row next (refused e p) q = (t, (named-refused w (omega arith) (sym (ap (map_read name_fields) q)) refl).1)
       by_row next (done a n) q =
-          let z : suc k - 1 ≡ k = omega arith in
-          let on = named-on w (omega arith) (sym (ap (map_read name_fields) q)) (id_below w.seen rest a n b q) in
-          let rest' = take (length rest - n) (drop n rest) in
-          next (set u a.id 1) rest' (at + n) (subst (λ (m : ℕ). Named t s count (set u a.id 1) rest' (at + n) m) z on) (bytes_take (length rest - n) (drop n rest) (bytes_drop n rest b))
+          let on = named-on w (omega arith) (sym (ap (map_read name_fields) q)) (id_below w.seen (drop at s) a n (bytes_drop at s b) q) in
+          next (set u a.id 1) (at + n) (past + 1) (omega arith) on
 
   pub marked-rows : {u : List ℕ} → length t ≡ 65536 → Bytes s → u ≡ marked_by t rows → RowsMarked t u rows
   marked-rows h b e =
-      let x = walked count t s 0 (named_start t s count h) b in
+      let x = walked b count t 0 0 (omega arith) (named_start t s count h) in
       subst⁻¹ (λ (z : List ℕ). RowsMarked t z rows) e (subst (λ (z : List ℕ). RowsMarked t z rows) (marked-is t x.0 rows x.1) x.1)
 
   -- the answer, the table and its length

@@ -1,6 +1,6 @@
 -- Positions, alone and after rows whose positions a table marks.
 use Prim.Native.Nat.{ℕ, ◌<◌, ◌≤◌}
-use mathlib.Core.Path.{◌≡◌, refl, ◌∙◌}
+use mathlib.Core.Path.{◌≡◌, refl, sym, ◌∙◌}
 use mathlib.Core.List.{List}
 use mathlib.Core.Bool.{Bool, true, false, cond}
 use native.Mathlib.Omega.{arith}
@@ -13,10 +13,13 @@ use Rattle.wire.specs.Format.{refine, tested}
 use Rattle.wire.specs.Formats.{u16}
 use Rattle.mapblock.specs.Layout.{position, without}
 use Rattle.mapblock.specs.Table.{free_in, Tabled}
-use Rattle.mapblock.specs.Told.{PositionMarked}
+use Rattle.mapblock.specs.Told.{told_position, PositionMarked}
 use Rattle.mapblock.specs.declared.fault.Fault.{Fault}
 use Rattle.mapblock.specs.declared.fault.Fault.TheVariants as fault
-use Rattle.mapblock.specs.declared.positions.PositionRead.TheVariants as positions
+use Rattle.std.specs.Option.{ok_or}
+use Rattle.std.specs.Prelude.{Option, Some, None, Result, Ok, Err}
+use Rattle.wire.specs.Told.{short, told_number}
+use Rattle.mapblock.proofs.Leaves.{by_number}
 
 module _ (s : List ℕ) where
   pub position-ends : {e : Fault} {p : ℕ} → (u16 {ends = fault.Ends}).read s ≡ refused e p → refused e p ≡ position.read s
@@ -40,6 +43,11 @@ module _ (s : List ℕ) where
       let same : x.0 ≡ p = cc y.1 in
       omega (arith, leb-true x.0 4095 y.0)
 
+-- a position that is not judged
+pub position-plain : (s : List ℕ) (o : Option ℕ) {r : Result ℕ Fault} → told_number 2 o ≡ (u16 {ends = short}).read s → r ≡ ok_or o fault.Ends → told_position r ≡ (u16 {ends = fault.Ends}).read s
+position-plain s (Some p) e h = rw h (sym (by_number {x = Some p} 2 s (told_number 2) e refl))
+position-plain s None e h = rw h (sym (by_number {x = None} 2 s (told_number 2) e refl))
+
 -- ---- a number marked in a table
 pub marked-one : (n : ℕ) (free : ℕ → Bool) (t : List ℕ) (m : ℕ) → m < n → Tabled n free t → Tabled n (without m free) (set t m 1)
 marked-one n free t m h k = record { size = length-set t m 1 ∙ k.size; tells = λ i l. go i l (eqb i m) refl }
@@ -53,12 +61,12 @@ marked-one n free t m h k = record { size = length-set t m 1 ∙ k.size; tells =
 
 -- ---- the three ways of a position after others
 module _ (s t : List ℕ) where
-  pub new-refused : {f : Fault} → position.read s ≡ refused f 0 → PositionMarked s t t (positions.Refused f)
+  pub new-refused : {f : Fault} → position.read s ≡ refused f 0 → PositionMarked s t t (Err f)
   unfolding refine
   new-refused h = record { told = λ free k. rw h; marked = λ free p n k e. not_done (rw h at e) }
 
   module _ {p : ℕ} (h : position.read s ≡ done p 2) where
-    pub new-twice : (get_or t p 0 ≡ 0 → ⊥) → PositionMarked s t t (positions.Refused fault.PositionTwice)
+    pub new-twice : (get_or t p 0 ≡ 0 → ⊥) → PositionMarked s t t (Err fault.PositionTwice)
     unfolding refine
     new-twice l =
         let b = position-below s h in
@@ -67,7 +75,7 @@ module _ (s t : List ℕ) where
           marked = λ free q n k e. not_done (rw (h, k.tells p (omega arith), ne_eqb _ _ l) at e);
         }
 
-    pub new-done : get_or t p 0 ≡ 0 → PositionMarked s t (set t p 1) (positions.At p)
+    pub new-done : get_or t p 0 ≡ 0 → PositionMarked s t (set t p 1) (Ok p)
     unfolding refine
     new-done l =
         let b = position-below s h in

@@ -2,7 +2,7 @@
 use Prim.Native.Nat.{ℕ, ◌+◌, ◌-◌, ◌<◌, ◌≤◌}
 use mathlib.Core.Path.{◌≡◌, refl, ap, sym, ◌∙◌}
 use mathlib.Core.List.{List, [], ◌∷◌, ◌++◌}
-use native.Mathlib.Nat.{zero-add, add_assoc}
+use native.Mathlib.Nat.{add_assoc, sub-zero}
 use native.Mathlib.Omega.{arith}
 use lib.ListN.{length, drop, length-drop}
 use lib.Seq.{drop-drop}
@@ -63,37 +63,40 @@ module _ {A B C : Type 0} (f : BlockFormat A) (g : BlockFormat B) (h : BlockForm
   unfolding ◌⨾◌
   ended-third = second-by (f.read s)
 
--- ---- so many items, where of each the end alone is known
-pub record Reading {A : Type 0} (item : List A → BlockFormat A) (count : ℕ) (s rest : List ℕ) (at left : ℕ) : Type 0 where
+-- ---- so many items, where of each the end alone is known: so many are past, and end at a place
+pub record Reading {A : Type 0} (item : List A → BlockFormat A) (count : ℕ) (s : List ℕ) (at past : ℕ) : Type 0 where
   pub pre : List A
   pub seen : List A
-  pub whole : after pre at (read_items item left seen rest) ≡ (items item count).read s
-  pub size : at + length rest ≡ length s
+  pub whole : after pre at (read_items item (count - past) seen (drop at s)) ≡ (items item count).read s
+  pub size : at ≤ length s
 
-abbrev pub reading-start : {A : Type 0} (item : List A → BlockFormat A) (count : ℕ) (s : List ℕ) → Reading item count s s 0 count
-reading-start item count s = record { pre = []; seen = []; whole = items-start item count s; size = zero-add (length s) }
+abbrev pub reading-start : {A : Type 0} (item : List A → BlockFormat A) (count : ℕ) (s : List ℕ) → Reading item count s 0 0
+reading-start item count s = record { pre = []; seen = []; whole = rw sub-zero (items-start item count s); size = omega arith }
 
-module _ {A : Type 0} {item : List A → BlockFormat A} {count : ℕ} {s rest : List ℕ} {at left : ℕ} (r : Reading item count s rest at left) where
-  pub reading-inside : {x : Read Fault (Unit {0})} → x ≡ ended ((item r.seen).read rest) → reach x ≤ length rest
-  reading-inside h = within-ended (item r.seen) rest h
+module _ {A : Type 0} {item : List A → BlockFormat A} {count : ℕ} {s : List ℕ} {at past : ℕ} (r : Reading item count s at past) where
+  pub reading-place : {x : Read Fault (Unit {0})} → x ≡ ended ((item r.seen).read (drop at s)) → at + reach x ≤ length s
+  reading-place {x} h =
+      let i : reach x ≤ length (drop at s) = within-ended (item r.seen) (drop at s) h in
+      omega (arith, r.size, i, length-drop at s)
 
-  pub reading-place : {x : Read Fault (Unit {0})} → x ≡ ended ((item r.seen).read rest) → at + reach x ≤ length s
-  reading-place h = omega (arith, r.size, within-ended (item r.seen) rest h)
+  pub reading-end : count ≤ past → done tt at ≡ ended ((items item count).read s)
+  reading-end h = let z : count - past ≡ 0 = omega arith in ap ended (sym (items-end item (count - past) r.pre r.seen at (drop at s) z) ∙ r.whole)
 
-  pub reading-end : left ≤ 0 → done tt at ≡ ended ((items item count).read s)
-  reading-end h = let z : left ≡ 0 = omega arith in ap ended (sym (items-end item left r.pre r.seen at rest z) ∙ r.whole)
-
-  module _ (h : 0 < left) where
-    pub reading-refused : {e : Fault} {p : ℕ} → refused e p ≡ ended ((item r.seen).read rest) → refused e (at + p) ≡ ended ((items item count).read s)
+  module _ (h : past < count) where
+    pub reading-refused : {e : Fault} {p : ℕ} → refused e p ≡ ended ((item r.seen).read (drop at s)) → refused e (at + p) ≡ ended ((items item count).read s)
     reading-refused {e} {p} k =
-        let x = ended-refused ((item r.seen).read rest) k in
-        ap ended (sym (items_refused item left r.pre r.seen at rest h x) ∙ r.whole)
+        let x = ended-refused ((item r.seen).read (drop at s)) k in
+        let left : 0 < count - past = omega arith in
+        ap ended (sym (items_refused item (count - past) r.pre r.seen at (drop at s) left x) ∙ r.whole)
 
     -- the item that was read is seen
-    abbrev pub reading-on : {a : A} {n : ℕ} → (item r.seen).read rest ≡ done a n → Reading item count s (drop n rest) (at + n) (left - 1)
-    reading-on {a} {n} e = record {
-      pre = r.pre ++ a ∷ [];
-      seen = a ∷ r.seen;
-      whole = sym (items-on item left r.pre r.seen at rest h e) ∙ r.whole;
-      size = rw length-drop (omega (arith, r.size, ends-in (item r.seen) e));
-    }
+    abbrev pub reading-on : {a : A} {n : ℕ} → (item r.seen).read (drop at s) ≡ done a n → Reading item count s (at + n) (past + 1)
+    reading-on {a} {n} e =
+        let left : 0 < count - past = omega arith in
+        let z : count - past - 1 ≡ count - (past + 1) = omega arith in
+        record {
+          pre = r.pre ++ a ∷ [];
+          seen = a ∷ r.seen;
+          whole = rw (← z, ← drop-drop n at s) (sym (items-on item (count - past) r.pre r.seen at (drop at s) left e) ∙ r.whole);
+          size = omega (arith, r.size, ends-in (item r.seen) e, length-drop at s);
+        }

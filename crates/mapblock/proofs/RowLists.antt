@@ -17,15 +17,14 @@ use Rattle.mapblock.specs.Told.{told_reach, ended, PositionMarked}
 use Rattle.mapblock.specs.ListKinds.{RowOf, row_after, Marked, RowMarked}
 use Rattle.mapblock.specs.declared.fault.Fault.{Fault}
 use Rattle.mapblock.specs.declared.fault.Fault.TheVariants as fault
-use Rattle.mapblock.specs.declared.fault.Reach.{Reach}
-use Rattle.mapblock.specs.declared.fault.Reach.TheVariants as reach
-use Rattle.mapblock.specs.declared.positions.PositionRead.TheVariants as positions
 use Rattle.mapblock.specs.declared.rows.ListKind.{ListKind}
 use Rattle.mapblock.specs.declared.rows.ListKind.TheVariants as kind
 use Rattle.wire.proofs.Fixed.{fixed_on}
 use Rattle.wire.proofs.Joints.{listed-done, refine-done, refine-passes}
 use Rattle.mapblock.proofs.Readings.{num, ended-done, ended-map, Reading, reading-start, reading-on}
 use Rattle.mapblock.proofs.MetadataRows.{node_name_of, timed_of, metadata-alone, metadata-position, timer-alone, timer-position}
+use Rattle.std.specs.Prelude.{Ok, Err, Result}
+use Rattle.mapblock.specs.declared.fault.Refusal.{Refusal}
 
 -- ---- a row judged alone, in the case of its kind
 pub row_told : {B : Type 0} (j : ListKind) (v : ℕ) (s : List ℕ) (to : RowOf j → B) {k : ListKind} {r : Read Fault B} → k ≡ j → r ≡ map_read to ((row_after j v []).read s)
@@ -61,7 +60,7 @@ module _ (seen : List TimerRow) (s : List ℕ) where
 
 module _ (v : ℕ) (s t u : List ℕ) where
   -- its position was refused
-  pub row-stops : {f : Fault} (k : ListKind) → (k ≡ kind.Objects → ⊥) → PositionMarked s t u (positions.Refused f) → RowMarked k v s t u (reach.Refused f 0)
+  pub row-stops : {f : Fault} (k : ListKind) → (k ≡ kind.Objects → ⊥) → PositionMarked s t u (Err f) → RowMarked k v s t u (Err (record { fault = f; offset = 0 }))
   row-stops kind.Metadata o p = record {
     told = λ seen m. ap ended (sym (metadata-stops v seen s (p.told (unused node_name_of all seen) m)));
     marked = λ seen a n m h. not_done (sym (metadata-stops v seen s (p.told (unused node_name_of all seen) m)) ∙ h);
@@ -73,7 +72,7 @@ module _ (v : ℕ) (s t u : List ℕ) where
   }
 
   -- its position is new
-  pub row_goes : {q : ℕ} {r : Reach} (k : ListKind) → PositionMarked s t u (positions.At q) → told_reach r ≡ ended ((row_after k v []).read s) → RowMarked k v s t u r
+  pub row_goes : {q : ℕ} {r : Result ℕ Refusal} (k : ListKind) → PositionMarked s t u (Ok q) → told_reach r ≡ ended ((row_after k v []).read s) → RowMarked k v s t u r
   unfolding unused
   row_goes kind.Metadata p h = record {
     told = λ seen m. h ∙ ap ended (sym (metadata-goes v seen s (p.told (unused node_name_of all seen) m)));
@@ -86,12 +85,12 @@ module _ (v : ℕ) (s t u : List ℕ) where
   }
 
   -- it has none
-  pub row-bare : {k : ListKind} {r : Reach} → k ≡ kind.Objects → told_reach r ≡ ended ((row_after kind.Objects v []).read s) → RowMarked k v s t u r
+  pub row-bare : {k : ListKind} {r : Result ℕ Refusal} → k ≡ kind.Objects → told_reach r ≡ ended ((row_after kind.Objects v []).read s) → RowMarked k v s t u r
   row-bare {r = r} e h = subst⁻¹ (λ (i : ListKind). RowMarked i v s t u r) e (record { told = λ seen m. h; marked = λ seen a n m e. tt })
 
 -- ---- so many rows, whose positions a table marks
-pub record Walk (k : ListKind) (v count : ℕ) (s rest t : List ℕ) (at left : ℕ) : Type 0 where
-  pub reading : Reading (row_after k v) count s rest at left
+pub record Walk (k : ListKind) (v count : ℕ) (s t : List ℕ) (at past : ℕ) : Type 0 where
+  pub reading : Reading (row_after k v) count s at past
   pub marked : Marked k reading.seen t
 
 all-free : Tabled 4096 all (replicate 4096 0)
@@ -103,36 +102,37 @@ none-marked kind.Metadata = all-free
 none-marked kind.Objects = tt
 none-marked kind.Timers = all-free
 
-pub walk_start : (k : ListKind) (v count : ℕ) (s : List ℕ) → Walk k v count s s (replicate 4096 0) 0 count
+pub walk_start : (k : ListKind) (v count : ℕ) (s : List ℕ) → Walk k v count s (replicate 4096 0) 0 0
 walk_start k v count s = record { reading = reading-start (row_after k v) count s; marked = none-marked k }
 
-module _ {k : ListKind} {v count : ℕ} {s rest t : List ℕ} {at left : ℕ} (w : Walk k v count s rest t at left) {u : List ℕ} {r : Reach} (m : RowMarked k v rest t u r) where
-  pub walk-told : {y : Reach} → r ≡ y → told_reach y ≡ ended ((row_after k v w.reading.seen).read rest)
-  walk-told e = ap told_reach (sym e) ∙ m.told w.reading.seen w.marked
+module _ {k : ListKind} {v count : ℕ} {s t : List ℕ} {at past : ℕ} (w : Walk k v count s t at past) {u : List ℕ} {r : Result ℕ Refusal}
+    (m : RowMarked k v (take (length s - at) (drop at s)) t u r) where
+  pub walk-told : told_reach r ≡ ended ((row_after k v w.reading.seen).read (drop at s))
+  walk-told = rw (rest-is at s) at (m.told w.reading.seen w.marked)
 
-  pub walk-on : {n : ℕ} → r ≡ reach.End n → 0 < left → Walk k v count s (take (length rest - n) (drop n rest)) u (at + n) (left - 1)
+  pub walk-on : {n : ℕ} → done tt n ≡ ended ((row_after k v w.reading.seen).read (drop at s)) → past < count → Walk k v count s u (at + n) (past + 1)
   walk-on {n} e h =
-      let x = ended-done ((row_after k v w.reading.seen).read rest) (walk-told e) in
-      rw (rest-is n rest) record { reading = reading-on w.reading h x.1; marked = m.marked w.reading.seen x.0 n w.marked x.1 }
+      let x = ended-done ((row_after k v w.reading.seen).read (drop at s)) e in
+      record { reading = reading-on w.reading h x.1; marked = m.marked w.reading.seen x.0 n w.marked (rw (rest-is at s) x.1) }
 
--- ---- lists, by where they end: r is the answer for the bytes behind the first n and y the case that the code is in
-part-told : {A : Type 0} (f : BlockFormat A) (n : ℕ) (s : List ℕ) {x : Read Fault A} {r y : Reach} → x ≡ shift n (λ a. a) (f.read (drop n s))
-    → told_reach r ≡ ended (f.read (take (length s - n) (drop n s))) → r ≡ y → shift n (λ a. a) (told_reach y) ≡ ended x
-part-told {A} f n s h e q = ap (λ (i : Reach). shift n (λ a. a) (told_reach i)) (sym q) ∙ ap (shift n (λ a. a)) (rw (rest-is n s) at e) ∙ go (f.read (drop n s)) ∙ ap ended (sym h)
+-- ---- lists, by where they end: y is the answer for the bytes behind the first n
+part-told : {A : Type 0} (f : BlockFormat A) (n : ℕ) (s : List ℕ) {x : Read Fault A} {y : Read Fault (Unit {0})} → x ≡ shift n (λ a. a) (f.read (drop n s))
+    → y ≡ ended (f.read (drop n s)) → shift n (λ a. a) y ≡ ended x
+part-told {A} f n s h e = ap (shift n (λ a. a)) e ∙ go (f.read (drop n s)) ∙ ap ended (sym h)
   where
     go : (y : Read Fault A) → shift n (λ a. a) (ended y) ≡ ended (shift n (λ a. a) y)
     go (done a m) = refl
     go (refused k p) = refl
 
 module _ {A : Type 0} (k : ℕ) (item : List A → BlockFormat A) (s : List ℕ) where
-  pub listed-told : {count : ℕ} {r y : Reach} → (num k).read s ≡ done count k
-      → told_reach r ≡ ended ((items item count).read (take (length s - k) (drop k s))) → r ≡ y → shift k (λ a. a) (told_reach y) ≡ ended ((listed k item).read s)
-  listed-told {count} h e q = part-told (items item count) k s (listed-done k item s h) e q
+  pub listed-told : {count : ℕ} {y : Read Fault (Unit {0})} → (num k).read s ≡ done count k
+      → y ≡ ended ((items item count).read (drop k s)) → shift k (λ a. a) y ≡ ended ((listed k item).read s)
+  listed-told {count} h e = part-told (items item count) k s (listed-done k item s h) e
 
 module _ {A : Type 0} (k v : ℕ) (e : Fault) (f : BlockFormat A) (s : List ℕ) where
-  pub fixed_told : {x : ℕ} {r y : Reach} → (num k).read s ≡ done x k → x ≡ v
-      → told_reach r ≡ ended (f.read (take (length s - k) (drop k s))) → r ≡ y → shift k (λ a. a) (told_reach y) ≡ ended ((fixed k v e f).read s)
-  fixed_told h g d q = part-told f k s (fixed_on fault.Ends k v e f s (h ∙ ap (λ (n : ℕ). done n k) g)) d q
+  pub fixed_told : {x : ℕ} {y : Read Fault (Unit {0})} → (num k).read s ≡ done x k → x ≡ v
+      → y ≡ ended (f.read (drop k s)) → shift k (λ a. a) y ≡ ended ((fixed k v e f).read s)
+  fixed_told h g d = part-told f k s (fixed_on fault.Ends k v e f s (h ∙ ap (λ (n : ℕ). done n k) g)) d
 
 -- ---- timers at the end
 module _ (v : ℕ) (s : List ℕ) where

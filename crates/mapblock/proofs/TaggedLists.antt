@@ -1,33 +1,31 @@
 -- Lists behind a tag: the metadata behind its list version, and version 24's timers behind their byte; and what follows the metadata in the
 -- other versions.
-use Prim.Native.Nat.{ℕ, ◌+◌, ◌-◌, ◌<◌, ◌≤◌}
+use Prim.Native.Nat.{ℕ, ◌+◌, ◌<◌, ◌≤◌}
 use mathlib.Core.Path.{◌≡◌, refl, ap, sym, ◌∙◌}
 use mathlib.Core.List.{List, []}
 use mathlib.Core.Bool.{Bool, true, false, cond, or-true}
 use native.Mathlib.Nat.{add-zero}
 use native.Mathlib.Omega.{arith}
 use lib.Dec.{leb, eqb}
-use lib.ListN.{length, take, drop}
+use lib.ListN.{length, drop}
 use borrow.Author.Tests.{le-leb, lt-leb, leb-true, leb-false, eqb-true, eq-eqb, ne_eqb}
 use Rattle.wire.specs.Read.{Read, done, refused, map_read, shift, reach, reach-shift}
 use Rattle.wire.specs.Format.{nothing, refine, ◌⨾◌, iso, pair}
 use Rattle.wire.specs.Formats.{u8, listed, tagged, into, Shape}
 use Rattle.wire.proofs.Fixed.{fixed_on, fixed-other, fixed-refused}
-use Rattle.wire.proofs.Lists.{rest-is}
 use Rattle.wire.proofs.Tests.{and_yes}
 use Rattle.mapblock.specs.Inventory.{BlockFormat}
 use Rattle.mapblock.specs.Data.{MetadataRow, TimerRow, no_timers, metadata_list_shape, timers_shape}
 use Rattle.mapblock.specs.Layout.{since, metadata_row, timer_row, list_version_bytes, list_version, is_zero_form, is_list_version, list_counted, is_counted, list_zero, form_of, list_form, metadata, timer_byte_field, has_timers, early_timers}
-use Rattle.mapblock.specs.Told.{told_reach, ended, list_form_in, timer_byte}
+use Rattle.mapblock.specs.Told.{ended, list_form_in, timer_byte}
 use Rattle.mapblock.specs.declared.fault.Fault.{Fault}
 use Rattle.mapblock.specs.declared.fault.Fault.TheVariants as fault
-use Rattle.mapblock.specs.declared.fault.Reach.{Reach}
 use Rattle.mapblock.proofs.Readings.{num}
 
--- what the code found of a list behind the first n bytes, told with its tag
-pub behind-tag : {A : Type 0} (f : BlockFormat A) (t n : ℕ) (s : List ℕ) {r y : Reach} → told_reach r ≡ ended (f.read (take (length s - n) (drop n s))) → r ≡ y
-    → shift n (λ _. t) (told_reach y) ≡ shift n (λ _. t) (f.read (drop n s))
-behind-tag {A} f t n s e q = ap (λ (i : Reach). shift n (λ _. t) (told_reach i)) (sym q) ∙ ap (shift n (λ _. t)) (rw (rest-is n s) at e) ∙ go (f.read (drop n s))
+-- where a list behind the first n bytes ends, told with its tag
+pub behind-tag : {A : Type 0} (f : BlockFormat A) (t n : ℕ) (s : List ℕ) {y : Read Fault (Unit {0})} → y ≡ ended (f.read (drop n s))
+    → shift n (λ _. t) y ≡ shift n (λ _. t) (f.read (drop n s))
+behind-tag {A} f t n s e = ap (shift n (λ _. t)) e ∙ go (f.read (drop n s))
   where
     go : (r : Read Fault A) → shift n (λ _. t) (ended r) ≡ shift n (λ _. t) r
     go (done a m) = refl

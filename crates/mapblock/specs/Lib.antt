@@ -9,6 +9,7 @@ pub mod Numbers
 pub mod Rows
 -- What contracts cite beside: the code's answers, and its tables.
 pub mod Table
+pub mod Refusals
 pub mod Told
 pub mod ListKinds
 pub mod MetadataChecks

@@ -6,9 +6,10 @@ use Rattle.mapblock.specs.Data.{MetadataRow, ObjectRow, TimerRow}
 use Rattle.mapblock.specs.Layout.{all, unused, metadata_row, object_row, timer_row}
 use Rattle.mapblock.specs.Table.{Tabled}
 use Rattle.mapblock.specs.Told.{told_reach, ended}
-use Rattle.mapblock.specs.declared.fault.Reach.{Reach}
 use Rattle.mapblock.specs.declared.rows.ListKind.{ListKind}
 use Rattle.mapblock.specs.declared.rows.ListKind.TheVariants as kind
+use Rattle.std.specs.Prelude.{Result}
+use Rattle.mapblock.specs.declared.fault.Refusal.{Refusal}
 
 abbrev pub RowOf : ListKind → Type 0
 RowOf kind.Metadata = MetadataRow
@@ -28,6 +29,6 @@ Marked kind.Objects seen t = Unit {0}
 Marked kind.Timers seen t = Tabled 4096 (unused (λ (r : TimerRow). r.position) all seen) t
 
 -- a row read after rows that the table t marks; u is the table after
-pub record RowMarked (k : ListKind) (v : ℕ) (s t u : List ℕ) (r : Reach) : Type 0 where
+pub record RowMarked (k : ListKind) (v : ℕ) (s t u : List ℕ) (r : Result ℕ Refusal) : Type 0 where
   pub told : (seen : List (RowOf k)) → Marked k seen t → told_reach r ≡ ended ((row_after k v seen).read s)
   pub marked : (seen : List (RowOf k)) (a : RowOf k) (n : ℕ) → Marked k seen t → (row_after k v seen).read s ≡ done a n → Marked k (a ∷ seen) u

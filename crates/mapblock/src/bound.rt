@@ -4,37 +4,26 @@ ghost use Rattle.mapblock.specs.Bounds.{NoneAbove, Raised, Reached, IdsWithin};
 
 use crate::nodes::NODES;
 
-// Gives the greater of two bytes.
-fn greater(a: u8, b: u8) -> u8
-    ensures { (a ≤ result) × (b ≤ result) }
-{
-    if a < b { b } else { a }
-}
-
 // So many bytes are compared side by side: a compiler turns a row of them into a few wide instructions.
 const COLUMNS: usize = 128;
 
 // Raises each column to the byte that stands in it, in the row of bytes at a place.
 fn raise(columns: &mut [u8; COLUMNS], s: &[u8], at: usize)
-    requires { (length columns.old ≡ 128) × (at + 128 ≤ length s.now) }
+    requires { at + 128 ≤ length s.now }
     ensures { Raised s.now at 128 columns.old columns.new }
 {
-    let mut j: usize = 0;
-    while j < COLUMNS {
-        columns[j] = greater(columns[j], s[at + j]);
-        j += 1;
+    for j in 0..COLUMNS {
+        columns[j] = columns[j].max(s[at + j]);
     }
 }
 
 // Raises each column to the greatest byte that stands in it, over 4,096 pairs of bytes.
 fn raise_all(columns: &mut [u8; COLUMNS], s: &[u8])
-    requires { (length columns.old ≡ 128) × (8192 ≤ length s.now) }
+    requires { 8192 ≤ length s.now }
     ensures { Reached s.now 8192 columns.new }
 {
-    let mut at: usize = 0;
-    while at < 2 * NODES {
-        raise(columns, s, at);
-        at += COLUMNS;
+    for row in 0..2 * NODES / COLUMNS {
+        raise(columns, s, row * COLUMNS);
     }
 }
 
@@ -44,10 +33,8 @@ fn greatest_of(columns: &[u8; COLUMNS], first: usize) -> u8
     ensures { NoneAbove 64 columns.now first result }
 {
     let mut most: u8 = 0;
-    let mut i: usize = 0;
-    while i < COLUMNS / 2 {
-        most = greater(most, columns[2 * i + first]);
-        i += 1;
+    for i in 0..COLUMNS / 2 {
+        most = most.max(columns[2 * i + first]);
     }
     most
 }
@@ -62,5 +49,5 @@ pub fn id_bound(s: &[u8]) -> usize
         return 0;
     }
     raise_all(&mut columns, s);
-    greatest_of(&columns, 0) as usize * 256 + greatest_of(&columns, 1) as usize
+    usize::from(greatest_of(&columns, 0)) * 256 + usize::from(greatest_of(&columns, 1))
 }

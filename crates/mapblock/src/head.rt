@@ -14,7 +14,7 @@ pub const LIST_ZERO: u8 = 1;
 
 // What a block says of itself beside its lists.
 #[repr(C)]
-#[derive(Clone, Copy)]
+#[derive(Clone, Copy, Debug, PartialEq, Eq, Hash)]
 pub struct Head {
     pub version: u8,
     pub flags: u8,
@@ -39,7 +39,7 @@ pub const NO_HEAD: Head = Head {
 
 // Where the rows of each list stand, without its count.
 #[repr(C)]
-#[derive(Clone, Copy)]
+#[derive(Clone, Copy, Debug, PartialEq, Eq, Hash)]
 pub struct Sections {
     pub names: Range,
     pub metadata: Range,
@@ -59,5 +59,5 @@ pub const NO_SECTIONS: Sections = Sections {
 pub fn is_version(version: u8) -> bool
     ensures { result ≡ is_version version }
 {
-    (22 <= version) & (version <= 29)
+    (22..=29).contains(&version)
 }

@@ -3,7 +3,7 @@ ghost use Rattle.std.specs.Prelude.{◌≡◌};
 ghost use Rattle.mapblock.specs.Inventory.{inventory};
 ghost use Rattle.mapblock.specs.Told.{told_reach, ended};
 
-use crate::fault::{Fault, Reach};
+use crate::fault::Refusal;
 use wire::marks::mark_at;
 
 // The bytes of the end line `EndInventory`, with its newline.
@@ -13,22 +13,15 @@ const END_LINE_LENGTH: usize = 13;
 const NEWLINE: u8 = 10;
 
 // Reads an inventory at the front of the bytes: it runs through the first line that is exactly the end line.
-pub fn inventory(s: &[u8]) -> Reach
+pub fn inventory(s: &[u8]) -> Result<usize, Refusal>
     ensures { told_reach result ≡ ended (inventory.read s.now) }
 {
-    let mut at: usize = 0;
     let mut fresh = true;
-    while at < s.len() {
-        if fresh {
-            if mark_at(s, at, b"EndInventory\n") {
-                return Reach::End(at + END_LINE_LENGTH);
-            }
+    for at in 0..s.len() {
+        if fresh && mark_at(s, at, b"EndInventory\n") {
+            return Ok(at + END_LINE_LENGTH);
         }
         fresh = s[at] == NEWLINE;
-        at += 1;
     }
-    Reach::Refused {
-        fault: Fault::Ends,
-        offset: 0,
-    }
+    Err(Refusal::ends(0))
 }

@@ -1,14 +1,15 @@
 // Node data: the widths, the three param lists, and content ids.
 ghost use Rattle.std.specs.Prelude.{◌≡◌, true, ◌+◌, ◌*◌, ◌<◌, ◌≤◌, length};
+ghost use Rattle.wire.specs.Told.{option_of};
 ghost use Rattle.std.proofs.Math.Option.{none};
 ghost use Rattle.mapblock.specs.Layout.{nodes, params, width};
 ghost use Rattle.mapblock.specs.Block.{content_id};
 ghost use Rattle.mapblock.specs.Params.{id_in, first_unmapped_in, holds_lists, first_unmapped_of, id_of, MarkedUpto};
-ghost use Rattle.mapblock.specs.Told.{told_reach, ended, told_unmapped};
+ghost use Rattle.mapblock.specs.Told.{told_reach, ended};
 
 use crate::bound::id_bound;
-use crate::fault::{Fault, Reach};
-use wire::fields::{U8, u8_at};
+use crate::fault::{Fault, Refusal, behind};
+use wire::fields::number_at;
 
 // How many nodes a block has.
 pub const NODES: usize = 4096;
@@ -32,73 +33,46 @@ pub fn width(version: u8) -> usize
 }
 
 // Reads the three lists, whose bounds are tested once. In a list that is cut short the place is the first entry that is not whole.
-fn params(version: u8, s: &[u8]) -> Reach
+fn params(version: u8, s: &[u8]) -> Result<usize, Refusal>
     ensures { told_reach result ≡ ended ((params version).read s.now) }
 {
     let entry = width(version);
     if s.len() < NODES * entry {
-        return Reach::Refused {
-            fault: Fault::Ends,
-            offset: s.len() / entry * entry,
-        };
+        return Err(Refusal::ends(s.len() / entry * entry));
     }
     if s.len() < NODES * entry + 2 * NODES {
-        return Reach::Refused {
-            fault: Fault::Ends,
-            offset: s.len(),
-        };
+        return Err(Refusal::ends(s.len()));
     }
-    Reach::End(NODES * entry + 2 * NODES)
+    Ok(NODES * entry + 2 * NODES)
 }
 
 // Reads the two widths, and the lists behind them.
-pub fn node_data(version: u8, s: &[u8]) -> Reach
+pub fn node_data(version: u8, s: &[u8]) -> Result<usize, Refusal>
     ensures { told_reach result ≡ ended ((nodes version).read s.now) }
 {
-    let U8::Value(content) = u8_at(s, 0) else {
-        return Reach::Refused {
-            fault: Fault::Ends,
-            offset: 0,
-        };
-    };
-    if content as usize != width(version) {
-        return Reach::Refused {
-            fault: Fault::ContentWidth,
-            offset: 0,
-        };
+    let content = number_at::<u8>(s, 0).ok_or(Refusal::ends(0))?;
+    if usize::from(content) != width(version) {
+        return Err(Refusal::from(Fault::ContentWidth));
     }
-    let U8::Value(two) = u8_at(s, PARAMS_WIDTH_AT) else {
-        return Reach::Refused {
-            fault: Fault::Ends,
-            offset: PARAMS_WIDTH_AT,
-        };
-    };
+    let two = number_at::<u8>(s, PARAMS_WIDTH_AT).ok_or(Refusal::ends(PARAMS_WIDTH_AT))?;
     if two != PARAMS_WIDTH {
-        return Reach::Refused {
+        return Err(Refusal {
             fault: Fault::ParamsWidth,
             offset: PARAMS_WIDTH_AT,
-        };
+        });
     }
-    match params(version, &s[WIDTHS_LENGTH..]) {
-        Reach::Refused { fault, offset } => Reach::Refused {
-            fault,
-            offset: WIDTHS_LENGTH + offset,
-        },
-        Reach::End(n) => Reach::End(WIDTHS_LENGTH + n),
-    }
+    let n = behind(WIDTHS_LENGTH, params(version, &s[WIDTHS_LENGTH..]))?;
+    Ok(WIDTHS_LENGTH + n)
 }
 
 // Computes the content id of a node from its params.
 pub fn content_id(version: u8, param0: u16, param2: u8) -> usize
     ensures { result ≡ content_id version param0 param2 }
 {
-    if 24 <= version {
-        return param0 as usize;
+    if 24 <= version || param0 < 128 {
+        return usize::from(param0);
     }
-    if param0 < 128 {
-        return param0 as usize;
-    }
-    16 * param0 as usize + param2 as usize / 16
+    16 * usize::from(param0) + usize::from(param2) / 16
 }
 
 // Computes the content id of the node at an index from the lists' bytes. From version 24 on its param2 has no part in it.
@@ -108,31 +82,26 @@ fn id_in(version: u8, s: &[u8], i: usize) -> usize
     ensures bounded { result < 65536 }
 {
     if 24 <= version {
-        return content_id(version, s[2 * i] as u16 * 256 + s[2 * i + 1] as u16, 0);
+        return content_id(
+            version,
+            u16::from(s[2 * i]) * 256 + u16::from(s[2 * i + 1]),
+            0,
+        );
     }
-    content_id(version, s[i] as u16, s[2 * NODES + i])
-}
-
-// The first node whose content id is not mapped.
-#[derive(Clone, Copy)]
-pub enum FirstUnmapped {
-    None,
-    At(usize),
+    content_id(version, u16::from(s[i]), s[2 * NODES + i])
 }
 
 // Finds the first node whose content id is not marked as mapped, in bytes that hold the lists.
-fn first_unmapped_in(version: u8, s: &[u8], ids: &[u8; IDS]) -> FirstUnmapped
+fn first_unmapped_in(version: u8, s: &[u8], ids: &[u8; IDS]) -> Option<usize>
     requires { 4096 * width version + 8192 ≤ length s.now }
-    ensures { told_unmapped result ≡ first_unmapped_in version s.now ids.now }
+    ensures { option_of result ≡ first_unmapped_in version s.now ids.now }
 {
-    let mut i: usize = 0;
-    while i < NODES {
+    for i in 0..NODES {
         if ids[id_in(version, s, i)] == 0 {
-            return FirstUnmapped::At(i);
+            return Some(i);
         }
-        i += 1;
     }
-    FirstUnmapped::None
+    None
 }
 
 // Tells whether every id up to a bound is marked as mapped.
@@ -140,12 +109,10 @@ fn marked_upto(ids: &[u8; IDS], bound: usize) -> bool
     requires { bound < 65536 }
     ensures { result ≡ true → MarkedUpto ids.now bound }
 {
-    let mut id: usize = 0;
-    while id <= bound {
-        if ids[id] == 0 {
+    for mark in &ids[..=bound] {
+        if *mark == 0 {
             return false;
         }
-        id += 1;
     }
     true
 }
@@ -156,41 +123,31 @@ fn all_mapped(version: u8, s: &[u8], ids: &[u8; IDS]) -> bool
     requires { 4096 * width version + 8192 ≤ length s.now }
     ensures { result ≡ true → first_unmapped_in version s.now ids.now ≡ none }
 {
-    if version < 24 {
-        return false;
-    }
-    marked_upto(ids, id_bound(s))
+    24 <= version && marked_upto(ids, id_bound(s))
 }
 
 // Tells whether bytes hold the three lists.
-fn holds_lists(version: u8, s: &[u8]) -> bool
+pub fn holds_lists(version: u8, s: &[u8]) -> bool
     ensures { result ≡ holds_lists version s.now }
 {
     NODES * width(version) + 2 * NODES <= s.len()
 }
 
 // Finds the first node whose content id is not marked as mapped, in any bytes: none where they do not hold the lists.
-pub fn first_unmapped(version: u8, s: &[u8], ids: &[u8; IDS]) -> FirstUnmapped
-    ensures { told_unmapped result ≡ first_unmapped_of version s.now ids.now }
+pub fn first_unmapped(version: u8, s: &[u8], ids: &[u8; IDS]) -> Option<usize>
+    ensures { option_of result ≡ first_unmapped_of version s.now ids.now }
 {
-    if holds_lists(version, s) {
-        if all_mapped(version, s, ids) {
-            return FirstUnmapped::None;
-        }
-        first_unmapped_in(version, s, ids)
-    } else {
-        FirstUnmapped::None
+    if !holds_lists(version, s) || all_mapped(version, s, ids) {
+        return None;
     }
+    first_unmapped_in(version, s, ids)
 }
 
 // Gives the content id of the node at an index, and 0 where there is none.
 pub fn id_of(version: u8, s: &[u8], i: usize) -> usize
     ensures { result ≡ id_of version s.now i }
 {
-    if NODES <= i {
-        return 0;
-    }
-    if holds_lists(version, s) {
+    if i < NODES && holds_lists(version, s) {
         id_in(version, s, i)
     } else {
         0

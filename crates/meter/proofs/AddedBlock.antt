@@ -26,8 +26,9 @@ use Rattle.meter.specs.Adding.{Adds, Added, with_block}
 use Rattle.meter.proofs.Amounts.{count-tally}
 use Rattle.meter.proofs.Blocks.{rows-canonical}
 use Rattle.meter.proofs.CountedBlock.{standing-amount}
+use Rattle.std.specs.Prelude.{Option}
 
-module _ (s : List ℕ) {c t : List ℕ} {w : Scanned} {v : RunningTally} {b : Block} {R : Rows ones} (p : Part) (at : Coordinates) (y : Bytes s) (a : Adds s w c t v b R) where
+module _ (s : List ℕ) {c t : List ℕ} {w : Scanned} {v : Option RunningTally} {b : Block} {R : Rows ones} (p : Part) (at : Coordinates) (y : Bytes s) (a : Adds s w c t v b R) where
   valid : Valid b
   valid = scanned-valid s y a.scanned.taken a.scanned.shows
 
@@ -52,14 +53,14 @@ module _ (s : List ℕ) {c t : List ℕ} {w : Scanned} {v : RunningTally} {b : B
         ∙ sym (count-plus ones (tally_of by_one (nodes_in p (placed at b ∷ []))) R n))
 
     -- c₂ are the counters after they were cleared by the names
-    added : {t' c₂ : List ℕ} {r : RunningTally} → (Absorbs names c₁ places t v R → Absorbed t t' r R (plus ones (counted_names names c₁ places) R)) → c₂ ≡ unmarked c₁ (all_rows names) → Added c₂ t t' r R (with_block p at b R)
+    added : {t' c₂ : List ℕ} {r : Option RunningTally} → (Absorbs names c₁ places t v R → Absorbed t t' r R (plus ones (counted_names names c₁ places) R)) → c₂ ≡ unmarked c₁ (all_rows names) → Added c₂ t t' r R (with_block p at b R)
     added {t'} {c₂} {r} f e = let q = f may-absorb in record {
       clear = e ∙ ap (unmarked c₁) (all-run rows) ∙ census-clear valid rows x;
       absorbed = subst (Absorbed t t' r R) (sum_is q.runs.canonical) q;
     }
 
   -- as the code goes about it
-  pub added-block : {names c₁ c₂ places t' : List ℕ} {r : RunningTally} → names ≡ bytes_in s w.sections.names → Census p at b (bytes_in s w.sections.names) c₁ places
+  pub added-block : {names c₁ c₂ places t' : List ℕ} {r : Option RunningTally} → names ≡ bytes_in s w.sections.names → Census p at b (bytes_in s w.sections.names) c₁ places
       → (Absorbs names c₁ places t v R → Absorbed t t' r R (plus ones (counted_names names c₁ places) R)) → c₂ ≡ unmarked c₁ (all_rows names) → Added c₂ t t' r R (with_block p at b R)
   added-block {names} {c₁} {places = places} n x =
       added names c₁ places (subst (λ (l : List ℕ). NameRun l b.names) (sym n) (scanned-names s y a.scanned.taken a.scanned.shows)) (subst (λ (l : List ℕ). Census p at b l c₁ places) (sym n) x)

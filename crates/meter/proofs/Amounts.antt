@@ -4,8 +4,8 @@ use Rattle.wire.specs.Bytes.{Bytes}
 use Rattle.wire.proofs.Tests.{yes_and}
 use Rattle.wire.specs.Order.{order, choose}
 use Rattle.wire.proofs.TotalOrder.{order_same}
-use Rattle.wire.specs.declared.order.Order.{Order}
-use Rattle.wire.specs.declared.order.Order.TheVariants.{Before, Same, After}
+use Rattle.std.specs.declared.cmp.Ordering.{Ordering}
+use Rattle.std.specs.declared.cmp.Ordering.TheVariants.{Less, Equal, Greater}
 use Rattle.tally.specs.Rows.{is_name, joined, add_row, plus, count_in, Canonical}
 use Rattle.tally.specs.Tally.{TallyRow, limited}
 use Rattle.tally.proofs.Canon.{count-plus, canonical-add, canonical-plus, determined, count_head, count-above, count_past}
@@ -76,10 +76,10 @@ module _ (m : Measure) where
   unfolding filter_nodes
   first-amount x l n = go (order x.name n)
     where
-      go : (o : Order) → m.total (cond (choose o false true false) (x ∷ bearing n l) (bearing n l)) ≡ m.kind.counts.add (choose o m.kind.counts.none (m.of x) m.kind.counts.none) (amount_of m n l)
-      go Before = sym (m.kind.counts.add_none _)
-      go Same = m.total-more x (bearing n l)
-      go After = sym (m.kind.counts.add_none _)
+      go : (o : Ordering) → m.total (cond (choose o false true false) (x ∷ bearing n l) (bearing n l)) ≡ m.kind.counts.add (choose o m.kind.counts.none (m.of x) m.kind.counts.none) (amount_of m n l)
+      go Less = sym (m.kind.counts.add_none _)
+      go Equal = m.total-more x (bearing n l)
+      go Greater = sym (m.kind.counts.add_none _)
 
   no-count : (n : List ℕ) → count_in m.kind.counts (tally_of m []) n ≡ amount_of m n []
   unfolding tally_of filter_nodes
@@ -101,10 +101,10 @@ module _ (m : Measure) where
       let S = m.kind.counts in
       yes_and (rw (count_head S x r c.3) at (h x.name)) (limited-by r c.4 (λ n. rest n (order x.name n) refl))
     where
-      rest : (n : List ℕ) (o : Order) → order x.name n ≡ o → m.kind.limit (count_in m.kind.counts r n) ≡ true
-      rest n Before e = rw (count_past m.kind.counts x r n e refl) at (h n)
-      rest n After e = rw (count_past m.kind.counts x r n e refl) at (h n)
-      rest n Same e =
+      rest : (n : List ℕ) (o : Ordering) → order x.name n ≡ o → m.kind.limit (count_in m.kind.counts r n) ≡ true
+      rest n Less e = rw (count_past m.kind.counts x r n e refl) at (h n)
+      rest n Greater e = rw (count_past m.kind.counts x r n e refl) at (h n)
+      rest n Equal e =
           let S = m.kind.counts in
           let z : count_in S r n ≡ S.none = count-above S r n (rw (order_same x.name n e) at c.3) in
           rw z (limit-none _ (h n))
@@ -119,11 +119,11 @@ module _ (m : Measure) where
   add-fewer r [] = omega arith
   add-fewer r (s ∷ l) = go (order r.name s.name) (add-fewer r l)
     where
-      go : (o : Order) → length (add_row m.kind.counts r l) ≤ suc (length l)
+      go : (o : Ordering) → length (add_row m.kind.counts r l) ≤ suc (length l)
           → length (choose o (r ∷ s ∷ l) (joined m.kind.counts r s ∷ l) (s ∷ add_row m.kind.counts r l)) ≤ suc (suc (length l))
-      go Before h = omega arith
-      go Same h = omega arith
-      go After h = omega arith
+      go Less h = omega arith
+      go Equal h = omega arith
+      go Greater h = omega arith
 
   pub tally-fewer : (l : List Node) → length (tally_of m l) ≤ length l
   unfolding tally_of

@@ -16,14 +16,13 @@ use Rattle.mapblock.specs.Table.{clear_table}
 use Rattle.sheet.specs.Records.{record_of, told_frame, faulty}
 use Rattle.meter.specs.Progress.{Carries, Steps, Refuses, StepMatches}
 use Rattle.meter.specs.SheetTold.{answer_from}
-use Rattle.sheet.specs.declared.records.FrameRead.TheVariants as frames
 use Rattle.sheet.specs.declared.records.RecordFault.{RecordFault}
 use Rattle.meter.specs.declared.stream.Progress.{Progress}
-use Rattle.meter.specs.declared.stream.Step.{Step}
-use Rattle.meter.specs.declared.stream.Step.TheVariants as steps
-use Rattle.meter.specs.declared.answer.SheetAnswer.TheVariants as sheets
 use Rattle.sheet.proofs.RecordSteps.{records-misframed, records-refused}
 use Rattle.meter.proofs.Streaming.{finishing, step-refused, step-good, record-on}
+use Rattle.std.specs.Prelude.{Option, Some, None, Ok, Err, Result}
+use Rattle.meter.specs.declared.answer.SheetError.{SheetError}
+use Rattle.meter.specs.declared.answer.SheetError.TheVariants as sheet_errors
 
 -- a refusal is the same whatever was asked
 pub refusal-as : {A B : Type 0} {a i c x y z : ℕ} → ◌≡◌ {A = Answer A} (refusal a i c) (refusal x y z) → ◌≡◌ {A = Answer B} (refusal a i c) (refusal x y z)
@@ -60,14 +59,18 @@ module _ (p : Part) (w : State by_one) (r : SheetRecord) where
 abbrev pub block_in : List ℕ → ℕ → List ℕ
 block_in s n = take ((n + 12) - 12) (drop 12 s)
 
-pub framed-as : (s : List ℕ) (key : ℤ) (n : ℕ) → told_frame s (frames.Record key n) ≡ to_option (frame.read s) → frame.read s ≡ done (record_of key (block_in s n)) (n + 12)
-framed-as s key n f =
-    let size : n ≡ (n + 12) - 12 = omega arith in
-    let end : 12 + n ≡ n + 12 = omega arith in
-    to_option-done (frame.read s) f ∙ ap (λ (i : ℕ). done (record_of key (take i (drop 12 s))) (12 + n)) size ∙ ap (done (record_of key (block_in s n))) end
+module _ (s : List ℕ) {r : Option (ℤ × ℕ)} {key : ℤ} {n : ℕ} (f : told_frame s r ≡ to_option (frame.read s)) (e : r ≡ Some (key, n)) where
+  framed-at : frame.read s ≡ done (record_of key (take n (drop 12 s))) (12 + n)
+  framed-at = to_option-done (frame.read s) (rw e at f)
 
-pub framed-inside : (s : List ℕ) (key : ℤ) (n : ℕ) → told_frame s (frames.Record key n) ≡ to_option (frame.read s) → n + 12 ≤ length s
-framed-inside s key n f = omega (arith, ends-in frame (to_option-done (frame.read s) f))
+  pub framed-as : frame.read s ≡ done (record_of key (block_in s n)) (n + 12)
+  framed-as =
+      let size : n ≡ (n + 12) - 12 = omega arith in
+      let end : 12 + n ≡ n + 12 = omega arith in
+      framed-at ∙ ap (λ (i : ℕ). done (record_of key (take i (drop 12 s))) (12 + n)) size ∙ ap (done (record_of key (block_in s n))) end
+
+  pub framed-inside : n + 12 ≤ length s
+  framed-inside = omega (arith, ends-in frame framed-at)
 
 -- ---- the record at the front
 module _ (p : Part) (w : State by_one) (s : List ℕ) where
@@ -132,12 +135,12 @@ module _ (p : Part) (w : State by_one) (s : List ℕ) where
         record-on by_one p room k s b x.reads w c x.judged ∙ ap (λ (u : State by_one). answer_from p room u k (drop n s)) x.state
 
 -- ---- what is told of it
-abbrev pub StepTold : List ℕ → List ℕ → Step → Answer (State by_one × ℕ) → Type 0
+abbrev pub StepTold : List ℕ → List ℕ → Result (Progress × ℕ) SheetError → Answer (State by_one × ℕ) → Type 0
 StepTold counts t r a = StepMatches t r a × (counts ≡ clear_table)
 
 module _ (p : Part) (w : State by_one) (s : List ℕ) where
-  pub told-misframed : {ids counts t : List ℕ} {q : Progress} → told_frame s frames.Misframed ≡ to_option (frame.read s) → Steps ids counts t q w
-      → StepTold counts t (steps.Stop (sheets.Malformed q.records)) (take_of by_one p w s)
+  pub told-misframed : {ids counts t : List ℕ} {q : Progress} → told_frame s None ≡ to_option (frame.read s) → Steps ids counts t q w
+      → StepTold counts t (Err (sheet_errors.Malformed q.records)) (take_of by_one p w s)
   told-misframed {q = q} f k = (go (to_option-none (frame.read s) f) ∙ ap (λ (i : ℕ). refusal sheet_malformed i 0) (sym k.carries.records), k.counts-clear)
     where
       go : Misread (frame.read s) → take_of by_one p w s ≡ refusal sheet_malformed w.records 0
@@ -145,8 +148,8 @@ module _ (p : Part) (w : State by_one) (s : List ℕ) where
 
   module _ {r : SheetRecord} {n : ℕ} (f : frame.read s ≡ done r n) where
     pub told-refused : {ids counts t : List ℕ} {q : Progress} (e : RecordFault) → step_of by_one p w r ≡ faulty e q.records → Steps ids counts t q w
-        → StepTold counts t (steps.Stop (sheets.Record e q.records)) (take_of by_one p w s)
+        → StepTold counts t (Err (sheet_errors.Record e q.records)) (take_of by_one p w s)
     told-refused e h k = (take-refused p w s f h, k.counts-clear)
 
-    pub told-taken : {counts t : List ℕ} {q : Progress} → Matches (Carries t) (good q) (step_of by_one p w r) × (counts ≡ clear_table) → StepTold counts t (steps.On q n) (take_of by_one p w s)
+    pub told-taken : {counts t : List ℕ} {q : Progress} → Matches (Carries t) (good q) (step_of by_one p w r) × (counts ≡ clear_table) → StepTold counts t (Ok (q, n)) (take_of by_one p w s)
     told-taken h = ((h.0.0, take-good p w s f h.0.1, h.0.2), h.1)

@@ -5,10 +5,10 @@ ghost use Rattle.tally.specs.Rows.{Rows};
 ghost use Rattle.tally.specs.Tally.{ones};
 ghost use Rattle.meter.specs.Adding.{Adds, Added, with_block};
 
+use crate::tables::Tables;
 use block_reader::scan::Scanned;
 use census::census::take_census;
 use census::clear::clear;
-use mapblock::nodes::{IDS, NODES};
 use position::key::Coordinates;
 use position::part::Part;
 use running_tally::absorb::absorb;
@@ -22,22 +22,26 @@ pub(crate) fn add_block(
     scanned: Scanned,
     at: Coordinates,
     part: Part,
-    counts: &mut [u16; IDS],
-    places: &mut [usize; NODES],
-    scratch: &mut [usize; NODES],
+    tables: &mut Tables,
     buffer: &mut [u8],
-    running: RunningTally,
-) -> RunningTally
+    running: Option<RunningTally>,
+) -> Option<RunningTally>
     ensures kept { length buffer.new ≡ length buffer.old }
+    ensures ids { tables.new.ids ≡ tables.old.ids }
     ensures told { (b : Block) (R : Rows ones)
-        → Adds block.now scanned counts.old buffer.old running b R
-        → Added counts.new buffer.old buffer.new result R (with_block part at b R) }
+        → Adds block.now scanned tables.old.counts buffer.old running b R
+        → Added tables.new.counts buffer.old buffer.new result R (with_block part at b R) }
 {
-    let n = take_census(block, scanned, at, part, counts, places, scratch);
-    let sections = scanned.sections;
-    let names = slice_of(block, sections.names);
-    let used: &[usize] = places;
-    let r = absorb(names, counts, &used[..n], buffer, running);
-    clear(names, counts);
-    r
+    let n = take_census(
+        block,
+        scanned,
+        at,
+        part,
+        &mut tables.counts,
+        &mut tables.places,
+    );
+    let names = slice_of(block, scanned.sections.names);
+    let sum = absorb(names, &tables.counts, &tables.places[..n], buffer, running);
+    clear(names, &mut tables.counts);
+    sum
 }

@@ -1,10 +1,9 @@
 // What tallying a sheet answers.
 use sheet::records::RecordFault;
 
-#[derive(Clone, Copy)]
-pub enum SheetAnswer {
-    // The tally's length.
-    Tallied(usize),
+// Why a sheet is not tallied.
+#[derive(Clone, Copy, Debug, PartialEq, Eq, Hash)]
+pub enum SheetError {
     BadPart,
     // The spare is shorter than the output.
     Misfit,

@@ -1,83 +1,86 @@
 // The tally of one block.
-ghost use Rattle.std.specs.Prelude.{length};
+ghost use Rattle.std.specs.Prelude.{◌≡◌, length};
 ghost use Rattle.wire.specs.Answer.{Answered};
 ghost use Rattle.mapblock.specs.Data.{Block};
+ghost use Rattle.mapblock.specs.Table.{clear_table};
 ghost use Rattle.meter.specs.Counting.{by_one};
 ghost use Rattle.meter.specs.Tallying.{tally_block_of};
 ghost use Rattle.sheet.specs.Records.{ScannedAs};
 ghost use Rattle.meter.specs.Told.{PutAs, told_block};
 
 use crate::adding::add_block;
-use block_reader::scan::{ScanRead, Scanned, scan};
-use mapblock::fault::Fault;
-use mapblock::nodes::{IDS, NODES};
-use position::key::{Coordinates, SplitAnswer, split};
+use crate::tables::Tables;
+use block_reader::scan::{Scanned, scan};
+use mapblock::fault::Refusal;
+use position::key::{Coordinates, split};
 use position::part::Part;
-use running_tally::state::empty;
+use running_tally::state::{RunningTally, empty};
 use tally::head::put_head;
 use wire::heads::HEAD_LENGTH;
 
-#[derive(Clone, Copy)]
-pub enum BlockAnswer {
-    // The tally's length.
-    Tallied(usize),
+// Why a block is not tallied.
+#[derive(Clone, Copy, Debug, PartialEq, Eq, Hash)]
+pub enum BlockError {
     BadPart,
     OutOfRange,
-    Refused { fault: Fault, offset: usize },
+    Refused(Refusal),
     NoRoom,
 }
 
-// Writes the tally of a block that was scanned. Where it has no room nothing is written: the rows are measured first.
+impl From<Refusal> for BlockError {
+    ghost use Rattle.std.specs.Prelude.{◌≡◌};
+    ghost use Rattle.meter.specs.declared.block_tally.BlockError.TheVariants.{Refused};
+
+    ghost from_gives = { λ p r. r ≡ Refused p };
+
+    fn from(refusal: Refusal) -> BlockError {
+        BlockError::Refused(refusal)
+    }
+}
+
+// Writes the tally of a block that was scanned, with clear counters. Where it has no room nothing is written: the rows are measured first.
 fn put_tally(
     block: &[u8],
     scanned: Scanned,
     at: Coordinates,
     part: Part,
+    tables: &mut Tables,
     out: &mut [u8],
-) -> BlockAnswer
-    requires { (b : Block) × ScannedAs block.now scanned b }
+) -> Result<usize, BlockError>
+    requires { ((b : Block) × ScannedAs block.now scanned b) × (tables.old.counts ≡ clear_table) }
     ensures { (b : Block) → ScannedAs block.now scanned b
         → PutAs part at b out.old out.new result }
 {
-    let mut counts = [0u16; IDS];
-    let mut places = [0usize; NODES];
-    let mut scratch = [0usize; NODES];
     if out.len() < HEAD_LENGTH {
-        return BlockAnswer::NoRoom;
+        return Err(BlockError::NoRoom);
     }
-    let running = add_block(
+    let sum = add_block(
         block,
         scanned,
         at,
         part,
-        &mut counts,
-        &mut places,
-        &mut scratch,
+        tables,
         &mut out[HEAD_LENGTH..],
         empty(),
     );
-    if running.over {
-        return BlockAnswer::NoRoom;
-    }
-    put_head(out, running.rows as u32);
-    BlockAnswer::Tallied(running.size + HEAD_LENGTH)
+    let RunningTally { size, rows } = sum.ok_or(BlockError::NoRoom)?;
+    // A u32 holds the number of rows: each is of a name that some of the block's 4,096 nodes bear.
+    put_head(out, rows as u32);
+    Ok(size + HEAD_LENGTH)
 }
 
 // Counts the nodes of the block at a key that stand in a part, name by name.
-pub fn tally_block(key: i64, block: &[u8], part: Part, out: &mut [u8]) -> BlockAnswer
+#[tactic(auto, unfolding(crate::specs::Tallying::tally_block_of, sheet::specs::Placed::placed_at))]
+pub fn tally_block(key: i64, block: &[u8], part: Part, out: &mut [u8]) -> Result<usize, BlockError>
     ensures { Answered (told_block result) out.old out.new
         (tally_block_of by_one key block.now part (length out.old)) }
 {
-    // The table comes first, here and in put_tally, as in the tally of a sheet.
-    let mut ids = [0u8; IDS];
+    // The tables come first, as in the tally of a sheet.
+    let mut tables = Tables::new();
     if !part.is_good() {
-        return BlockAnswer::BadPart;
+        return Err(BlockError::BadPart);
     }
-    let SplitAnswer::At(at) = split(key) else {
-        return BlockAnswer::OutOfRange;
-    };
-    match scan(block, &mut ids) {
-        ScanRead::Refused { fault, offset } => BlockAnswer::Refused { fault, offset },
-        ScanRead::Taken { scanned, length: _ } => put_tally(block, scanned, at, part, out),
-    }
+    let at = split(key).ok_or(BlockError::OutOfRange)?;
+    let (scanned, _) = scan(block, &mut tables.ids)?;
+    put_tally(block, scanned, at, part, &mut tables, out)
 }

@@ -6,3 +6,4 @@ pub mod answer;
 pub mod block_tally;
 pub mod sheet_tally;
 pub mod stream;
+pub mod tables;

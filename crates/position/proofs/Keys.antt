@@ -3,14 +3,15 @@ use Prim.Native.Nat.{ℕ, ◌+◌, ◌*◌, ◌-◌, ◌/◌, ◌%◌, ◌^◌, 
 use mathlib.Core.Path.{◌≡◌}
 use mathlib.Core.Bool.{true}
 use native.Mathlib.Omega.{arith}
-use lib.IntN.{ℤ, pos, negsuc, nat_abs, ◌+ℤ◌, ◌*ℤ◌}
 use lib.Signed.{le_z}
-use Rattle.wire.proofs.Tests.{same_test, yes-three}
-use Rattle.wire.proofs.Ints.{up, down, plus-is, minus_is, times-is, int-equal, natural-is, ints}
-use Rattle.position.specs.Keys.{between, inside, all_inside, key_of, moved, is_key, lowered, fields}
+use lib.IntN.{ℤ, pos, negsuc, nat_abs, ◌+ℤ◌, ◌*ℤ◌}
+use Rattle.std.proofs.lemmas.Int.{ints}
+use Rattle.wire.proofs.Tests.{same_test}
+use Rattle.wire.proofs.Ints.{up, down, plus-is, minus_is, times-is, int-equal, natural-is, ints as tests}
+use Rattle.position.specs.Keys.{between, all_inside, key_of, moved, is_key, lowered, fields}
 use Rattle.position.specs.Nodes.{is_block}
 use Rattle.position.specs.declared.key.Coordinates.{Coordinates}
-use Rattle.position.proofs.Ranges.{between-yes, yes-between, yes-inside, all-inside}
+use Rattle.position.proofs.Ranges.{between-yes, yes-between, all-inside}
 
 -- ---- what `omega` reads
 pub key-is : (x y z : ℤ) → up (key_of x y z) + (16_777_216 * down z + 4096 * down y + down x) ≡ 16_777_216 * up z + 4096 * up y + up x + down (key_of x y z)
@@ -32,8 +33,8 @@ pub key-range : (k : ℤ) → between (negsuc 34_368_129_023) k (pos 34_351_347_
 unfolding between is_key
 key-range k =
     let m = moved-is k in
-    let low : le_z (negsuc 34_368_129_023) k ≡ le_z (pos 0) (moved k) = same_test _ (λ e. omega ints) (λ e. omega ints) in
-    let high : le_z k (pos 34_351_347_711) ≡ le_z (moved k) (pos (2 ^ 36 - 1)) = same_test _ (λ e. omega ints) (λ e. omega ints) in
+    let low : le_z (negsuc 34_368_129_023) k ≡ le_z (pos 0) (moved k) = same_test _ (λ e. omega tests) (λ e. omega tests) in
+    let high : le_z k (pos 34_351_347_711) ≡ le_z (moved k) (pos (2 ^ 36 - 1)) = same_test _ (λ e. omega tests) (λ e. omega tests) in
     cc
 
 pub is_key-yes : (k : ℤ) → is_key k ≡ true → (nat_abs (moved k) + down k ≡ up k + 34_368_129_024) × (nat_abs (moved k) < 2 ^ 36)
@@ -44,7 +45,8 @@ is_key-yes k e =
     (omega (arith, moved-is k), omega arith)
 
 pub yes-is_key : (k : ℤ) → down k ≤ up k + 34_368_129_024 → up k ≤ down k + 34_351_347_711 → is_key k ≡ true
-yes-is_key k h g = rw (← key-range k) (yes-between (negsuc 34_368_129_023) k (pos 34_351_347_711) (omega arith) (omega arith))
+unfolding is_key
+yes-is_key k h g = yes-between (pos 0) (moved k) (pos (2 ^ 36 - 1)) (omega (arith, moved-is k)) (omega (arith, moved-is k))
 
 -- a triple in range has a valid key
 pub key-valid : (x y z : ℤ) → all_inside x y z ≡ true → is_key (key_of x y z) ≡ true
@@ -54,9 +56,6 @@ key-valid x y z e =
     yes-is_key (key_of x y z) (omega arith) (omega arith)
 
 -- ---- fields
-pub lowered-inside : (n : ℕ) → n < 4096 → inside (lowered n) ≡ true
-lowered-inside n h = let l = lowered_is n in yes-inside (lowered n) (omega arith, omega arith)
-
 lowered-back : (n : ℕ) (c : ℤ) → n + down c ≡ up c + 2048 → lowered n ≡ c
 lowered-back n c h = int-equal (lowered n) c (omega (arith, lowered_is n))
 
@@ -77,9 +76,8 @@ splits x y z e =
     same_place (lowered-back _ x (omega arith)) (lowered-back _ y (omega arith)) (lowered-back _ z (omega arith))
 
 pub fields-inside : (k : ℤ) → is_key k ≡ true → is_block (fields (nat_abs (moved k))) ≡ true
-fields-inside k e =
-    let v = is_key-yes k e in
-    yes-three (lowered-inside _ (omega arith)) (lowered-inside _ (omega arith)) (lowered-inside _ (omega arith))
+unfolding between lowered is_key moved
+fields-inside k e = grind (arith, ints)
 
 pub joins : (k : ℤ) → is_key k ≡ true → let c = fields (nat_abs (moved k)) in key_of c.x c.y c.z ≡ k
 joins k e =

@@ -7,7 +7,7 @@ use lib.IntN.{ℤ, pos, negsuc, ◌*ℤ◌}
 use Rattle.wire.proofs.Ints.{up, down, plus-is, times-is, int-equal, int-equal⁻}
 use Rattle.position.specs.Keys.{between, inside}
 use Rattle.position.specs.Nodes.{axis_coordinate}
-use Rattle.position.proofs.Ranges.{yes-between, inside-yes}
+use Rattle.std.proofs.lemmas.Int.{ints}
 
 pub node-is : (c : ℤ) (n : ℕ) → up (axis_coordinate c n) + 16 * down c ≡ 16 * up c + n + down (axis_coordinate c n)
 unfolding axis_coordinate
@@ -15,10 +15,8 @@ node-is c n = omega (arith, times-is c 16, plus-is (c *ℤ pos 16) (pos n))
 
 -- a node of a block in range lies in the world, on each axis
 pub node-in-world : (c : ℤ) (n : ℕ) → inside c ≡ true → n < 16 → between (negsuc 32767) (axis_coordinate c n) (pos 32767) ≡ true
-node-in-world c n e h =
-    let r = inside-yes c e in
-    let m = node-is c n in
-    yes-between (negsuc 32767) (axis_coordinate c n) (pos 32767) (omega arith) (omega arith)
+unfolding between axis_coordinate
+node-in-world c n e h = grind (arith, ints)
 
 -- a node's coordinate tells the block's and the step within it
 pub node-apart : (c d : ℤ) (n m : ℕ) → n < 16 → m < 16 → axis_coordinate c n ≡ axis_coordinate d m → (c ≡ d) × (n ≡ m)

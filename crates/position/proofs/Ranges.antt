@@ -27,9 +27,6 @@ InRange c = (up c ≤ 2047 + down c) × (down c ≤ 2048 + up c)
 pub inside-yes : (c : ℤ) → inside c ≡ true → InRange c
 inside-yes c e = let h = between-yes (negsuc 2047) c (pos 2047) e in (omega arith, omega arith)
 
-pub yes-inside : (c : ℤ) → InRange c → inside c ≡ true
-yes-inside c h = yes-between (negsuc 2047) c (pos 2047) (omega arith) (omega arith)
-
 pub insides : (x y z : ℤ) → all_inside x y z ≡ true → (inside x ≡ true) × (inside y ≡ true) × (inside z ≡ true)
 insides x y z = three-yes (inside x) (inside y) (inside z)
 

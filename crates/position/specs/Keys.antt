@@ -1,12 +1,8 @@
 -- Position keys: document 01, 'Position keys'.
-use Rattle.std.specs.Prelude.{ℕ, ◌-◌, ◌/◌, ◌%◌, ◌^◌, Bool, cond, ◌&&◌, ℤ, pos, negsuc, nat_abs, ◌+ℤ◌, ◌-ℤ◌, ◌*ℤ◌}
+use Rattle.std.specs.Prelude.{ℕ, ◌-◌, ◌/◌, ◌%◌, ◌^◌, Bool, cond, ◌&&◌, Option, Some, None, ℤ, pos, negsuc, nat_abs, ◌+ℤ◌, ◌-ℤ◌, ◌*ℤ◌}
 use Rattle.std.specs.Int.Signed.{le_z}
 use Rattle.wire.specs.Answer.{Answer, good, plain, out_of_range}
 use Rattle.position.specs.declared.key.Coordinates.{Coordinates}
-use Rattle.position.specs.declared.key.JoinAnswer.{JoinAnswer}
-use Rattle.position.specs.declared.key.JoinAnswer.TheVariants as join
-use Rattle.position.specs.declared.key.SplitAnswer.{SplitAnswer}
-use Rattle.position.specs.declared.key.SplitAnswer.TheVariants as split
 
 -- a ≤ c ≤ b
 unfoldable pub between : ℤ → ℤ → ℤ → Bool
@@ -48,10 +44,10 @@ unfoldable pub split_of : ℤ → Answer Coordinates
 split_of k = cond (is_key k) (good (fields (nat_abs (moved k)))) (plain out_of_range)
 
 -- ---- what the code's answers say
-abbrev pub told_join : JoinAnswer → Answer ℤ
-told_join (join.Key k) = good k
-told_join join.OutOfRange = plain out_of_range
+abbrev pub told_join : Option ℤ → Answer ℤ
+told_join (Some k) = good k
+told_join None = plain out_of_range
 
-abbrev pub told_split : SplitAnswer → Answer Coordinates
-told_split (split.At c) = good c
-told_split split.OutOfRange = plain out_of_range
+abbrev pub told_split : Option Coordinates → Answer Coordinates
+told_split (Some c) = good c
+told_split None = plain out_of_range

@@ -1,11 +1,9 @@
 -- Lots: document 01, 'Tallies, lots, spans, sheets'.
-use Rattle.std.specs.Prelude.{Bool, cond, ◌&&◌, ℤ, pos, negsuc}
+use Rattle.std.specs.Prelude.{Bool, cond, ◌&&◌, Option, Some, None, ℤ, pos, negsuc}
 use Rattle.std.specs.Int.Signed.{le_z}
 use Rattle.wire.specs.Answer.{Answer, good, plain, bad_part}
 use Rattle.position.specs.Keys.{between}
 use Rattle.position.specs.declared.lot.Lot.{Lot}
-use Rattle.position.specs.declared.lot.LotAnswer.{LotAnswer}
-use Rattle.position.specs.declared.lot.LotAnswer.TheVariants as lot
 
 -- both ends are inside
 abbrev pub in_lot : Lot → ℤ → ℤ → ℤ → Bool
@@ -29,6 +27,6 @@ abbrev pub world : Lot
 world = lot_at (negsuc 32767) (negsuc 32767) (negsuc 32767) (pos 32767) (pos 32767) (pos 32767)
 
 -- what the code's answer says
-abbrev pub told_lot : LotAnswer → Answer Lot
-told_lot (lot.Good l) = good l
-told_lot lot.Bad = plain bad_part
+abbrev pub told_lot : Option Lot → Answer Lot
+told_lot (Some l) = good l
+told_lot None = plain bad_part

@@ -1,9 +1,7 @@
 -- Spans: document 01, 'Tallies, lots, spans, sheets'.
-use Rattle.std.specs.Prelude.{ℕ, Bool, cond, ◌&&◌, leb, ltb}
+use Rattle.std.specs.Prelude.{ℕ, Bool, cond, ◌&&◌, Option, Some, None, leb, ltb}
 use Rattle.wire.specs.Answer.{Answer, good, plain, bad_part}
 use Rattle.position.specs.declared.span.Span.{Span}
-use Rattle.position.specs.declared.span.SpanAnswer.{SpanAnswer}
-use Rattle.position.specs.declared.span.SpanAnswer.TheVariants as span
 
 -- from is inside, until outside
 abbrev pub in_span : Span → ℕ → Bool
@@ -22,6 +20,6 @@ abbrev pub all_time : Span
 all_time = span_at 0 0xffffffff
 
 -- what the code's answer says
-abbrev pub told_span : SpanAnswer → Answer Span
-told_span (span.Good s) = good s
-told_span span.Bad = plain bad_part
+abbrev pub told_span : Option Span → Answer Span
+told_span (Some s) = good s
+told_span None = plain bad_part

@@ -6,7 +6,7 @@ use crate::lot::Lot;
 use crate::span::Span;
 
 // Document 01's part.
-#[derive(Clone, Copy)]
+#[derive(Clone, Copy, Debug, PartialEq, Eq, Hash)]
 pub struct Part {
     pub lot: Lot,
     pub span: Span,
@@ -23,6 +23,6 @@ impl Part {
     pub fn is_good(self) -> bool
         ensures { result ≡ good_part self }
     {
-        self.lot.is_good() & self.span.is_good()
+        self.lot.is_good() && self.span.is_good()
     }
 }

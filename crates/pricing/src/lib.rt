@@ -8,3 +8,4 @@ pub mod block_price;
 mod names;
 mod record_price;
 pub mod sheet_price;
+mod tables;

@@ -1,59 +1,46 @@
--- The decimal digits of a number, as io writes them.
-use Prim.Native.Nat.{ℕ, zero, suc, ◌-◌, ◌*◌, ◌/◌, ◌%◌, ◌^◌, ◌<◌, ◌≤◌}
-use mathlib.Core.Path.{◌≡◌, refl, ap, ap₂, ◌∙◌}
+-- The decimal digits of a number, as std shows them.
+use Prim.Native.Nat.{ℕ, zero, suc, ◌*◌, ◌/◌, ◌%◌, ◌^◌, ◌<◌, ◌≤◌}
+use mathlib.Core.Path.{◌≡◌, refl, ◌∙◌}
 use mathlib.Core.Bool.{Bool, true, false, cond}
-use mathlib.Core.List.{List, [], ◌∷◌, ◌++◌}
-use native.Mathlib.Nat.{pow-suc, one-le-pow, mod-lt}
+use mathlib.Core.List.{List, [], ◌∷◌, ◌++◌, append_assoc, append-nil}
+use native.Mathlib.Nat.{pow-suc, mod-lt}
 use native.Mathlib.Omega.{arith}
 use lib.Dec.{ltb, lit<}
-use lib.ListN.{length, take, length-append}
-use borrow.Author.Tests.{ltb-true, ltb-false, lt-ltb}
-use Rattle.io.specs.Counts.{IsPrefixLen}
-use Rattle.io.specs.Digits.{hex_digit_ascii, last_digits, IsDigitCount}
+use lib.ListN.{length, length-append}
+use borrow.Author.Tests.{ltb-true, ltb-false, lt-ltb, eq-eqb, ne_eqb}
+use Rattle.std.specs.Fmt.{digits_onto, digit_glyph, digits}
 use Rattle.report.specs.Text.{digit, decimal_by, decimal}
 
--- ---- one digit
-glyph-digit : (n : ℕ) → hex_digit_ascii (n % 10) ≡ digit (n % 10)
+-- ---- what std shows
+glyph-digit : (n : ℕ) → digit_glyph false (n % 10) ≡ digit (n % 10)
 glyph-digit n = rw (lt-ltb (n % 10) 10 (mod-lt n (lit< tt)))
 
--- a number of two digits or more is no smaller than the first with so many
-least : (i n : ℕ) → IsDigitCount 10 1 n (suc (suc i)) → 10 ^ i * 10 ≤ n
-least i n f = let e : suc (suc i) - 1 ≡ suc i = omega arith in rw (e, pow-suc) at (f.2 (omega arith))
-
-digits-below : (r n : ℕ) → n < 10 → IsDigitCount 10 1 n r → last_digits 10 r n ≡ digit n ∷ []
-digits-below zero n h f = absurd (omega (arith, f.0))
-digits-below (suc zero) n h f = let e : n % 10 ≡ n = omega arith in rw (glyph-digit n, e)
-digits-below (suc (suc i)) n h f = absurd (omega (arith, least i n f, one-le-pow i 10 (lit< tt)))
-
--- ---- the last digit behind the others
-fewest-on : (i n : ℕ) → IsDigitCount 10 1 n (suc (suc i)) → IsDigitCount 10 1 (n / 10) (suc i)
-fewest-on i n f =
-    let below : n < 10 ^ suc i * 10 = rw pow-suc at f.1 in
-    let e : suc i - 1 ≡ i = omega arith in
-    (omega arith, omega arith, λ h. rw e (omega (arith, least i n f)))
-
-digits-by : (k r n : ℕ) → n < 10 ^ suc k → IsDigitCount 10 1 n r → last_digits 10 r n ≡ decimal_by k n
+-- std has room for j digits, and the number has at most suc k
+shown-by : (k j n : ℕ) (acc : List ℕ) → k < j → n < 10 ^ suc k → digits_onto j 10 false n acc ≡ decimal_by k n ++ acc
 unfolding decimal_by
-digits-by zero r n h f = let e : n % 10 ≡ n = omega arith in digits-below r n h f ∙ rw e
-digits-by (suc k) r n h f =
+shown-by zero zero n acc g h = absurd (omega (arith, g))
+shown-by zero (suc j) n acc g h =
+    let e : n / 10 ≡ 0 = omega arith in
+    rw (eq-eqb (n / 10) 0 e, glyph-digit n)
+shown-by (suc k) zero n acc g h = absurd (omega (arith, g))
+shown-by (suc k) (suc j) n acc g h =
     let p : n < 10 ^ suc k * 10 = rw pow-suc at h in
-    go r f (ltb n 10) refl (λ i g. digits-by k (suc i) (n / 10) (omega arith) (fewest-on i n g))
+    go (ltb n 10) refl (shown-by k j (n / 10) (digit (n % 10) ∷ acc) (omega arith) (omega arith))
   where
-    go : (r : ℕ) → IsDigitCount 10 1 n r → (b : Bool) → ltb n 10 ≡ b → ((i : ℕ) → IsDigitCount 10 1 n (suc (suc i)) → last_digits 10 (suc i) (n / 10) ≡ decimal_by k (n / 10))
-        → last_digits 10 r n ≡ cond b (digit n ∷ []) (decimal_by k (n / 10) ++ digit (n % 10) ∷ [])
-    go r f true e ih = digits-below r n (ltb-true n 10 e) f
-    go zero f false e ih = absurd (omega (arith, f.0))
-    go (suc zero) f false e ih = absurd (omega (arith, f.1, ltb-false n 10 e))
-    go (suc (suc i)) f false e ih = ap₂ (λ (l : List ℕ) (d : ℕ). l ++ d ∷ []) (ih i f) (glyph-digit n)
+    go : (b : Bool) → ltb n 10 ≡ b → digits_onto j 10 false (n / 10) (digit (n % 10) ∷ acc) ≡ decimal_by k (n / 10) ++ (digit (n % 10) ∷ acc)
+        → digits_onto (suc j) 10 false n acc ≡ cond b (digit n ∷ []) (decimal_by k (n / 10) ++ (digit (n % 10) ∷ [])) ++ acc
+    go true e ih =
+        let below : n < 10 = ltb-true n 10 e in
+        let none : n / 10 ≡ 0 = omega arith in
+        let same : n % 10 ≡ n = omega arith in
+        rw (eq-eqb (n / 10) 0 none, glyph-digit n, same)
+    go false e ih =
+        let above : 10 ≤ n = ltb-false n 10 e in
+        rw (ne_eqb (n / 10) 0 (λ z. omega (arith, above, z)), glyph-digit n, append_assoc) ih
 
--- ---- what io's decimal writes
-module _ (n r : ℕ) (out : List ℕ) (h : n < 2 ^ 64) (inside : IsPrefixLen r out) (count : IsDigitCount 10 1 n r) (digits : take r out ≡ last_digits 10 r n) where
-  pub decimal-front : take r out ≡ decimal n
-  unfolding decimal
-  decimal-front = digits ∙ digits-by 19 r n (omega arith) count
-
-  pub decimal-many : r ≡ length (decimal n)
-  decimal-many = inside.1 ∙ ap length decimal-front
+pub shown : (n : ℕ) → n < 2 ^ 64 → digits 10 false n ≡ decimal n
+unfolding decimal digits
+shown n h = shown-by 19 64 n [] (lit< tt) (omega arith) ∙ append-nil (decimal_by 19 n)
 
 -- ---- how many there are
 length-by : (k n : ℕ) → length (decimal_by k n) ≤ suc k

@@ -14,56 +14,73 @@ use Rattle.wire.proofs.Puts.{put-room, put_two}
 use Rattle.tally.specs.Tally.{one}
 use Rattle.tally.specs.Operations.{check_of}
 use Rattle.tally.specs.Walks.{Holds}
-use Rattle.tally.proofs.Held.{Opened}
-use Rattle.tally.proofs.Checks.{Checked, unchecked}
+use Rattle.tally.proofs.Held.{Opened, opened}
+use Rattle.tally.proofs.Checks.{Checked, checked, unchecked}
+use Rattle.tally.specs.Told.{told_check}
+use Rattle.wire.specs.Bytes.{Bytes}
+use Rattle.wire.proofs.Steps.{told-as}
+use Rattle.std.specs.Prelude.{Option, Some, None}
 use Rattle.report.specs.Text.{decimal, lines, opening, tally_text, tally_text_of}
 use Rattle.report.specs.Told.{LinesFit, HasRoom, LinesPut}
 use Rattle.report.proofs.Texts.{text-all, opening-size}
 
-module _ (t d : List ℕ) where
-  pub tally-bad : plain tally_malformed ≡ check_of one t → Answered (plain tally_malformed) d d (tally_text_of (length d) t)
+-- the rows behind the head, as the code takes them
+abbrev rows_behind : List ℕ → List ℕ
+rows_behind t = take (length t - 9) (drop 9 t)
+
+-- the text of a tally of n rows
+text_of : (t : List ℕ) (room : ℕ) {n : ℕ} (x : Checked one t n) → tally_text_of room t ≡ in_room room (opening n ++ lines x.l)
+unfolding tally_text_of tally_text
+text_of t room x = rw (x.is, x.counts)
+
+-- the bytes t, of which `check` told, and the buffer d
+module _ (t d : List ℕ) {told : Option ℕ} (h : told_check told ≡ check_of one t) where
+  pub tally-bad : told ≡ None → Answered (plain tally_malformed) d d (tally_text_of (length d) t)
   unfolding tally_text_of
-  tally-bad h = rw (unchecked one t h) (refl, refl)
+  tally-bad i = rw (unchecked one t (told-as told_check h i)) (refl, refl)
 
-  -- the rows behind the head, as the code takes them
-  abbrev rows_behind : List ℕ
-  rows_behind = take (length t - 9) (drop 9 t)
+  module _ (b : Bytes t) {n : ℕ} (i : told ≡ Some n) where
+    taken : Checked one t n
+    taken = checked one t (told-as told_check h i)
 
-  -- a tally of n rows, a number of k digits
-  module _ {n k : ℕ} (x : Checked one t n) (o : Opened one t x.l) (e : k ≡ length (decimal n)) where
-    rows-held : Holds one rows_behind x.l
-    rows-held = rw rest-is o.holds
+    behind_head : Opened one t taken.l
+    behind_head = opened one t taken.l b taken.is
 
-    abbrev text : List ℕ
-    text = opening n ++ lines x.l
+    pub tally-long : 9 ≤ length t
+    tally-long = behind_head.long
 
-    text_of : tally_text_of (length d) t ≡ in_room (length d) text
-    unfolding tally_text_of tally_text
-    text_of = rw (x.is, x.counts)
+    rows-held : Holds one (rows_behind t) taken.l
+    rows-held = rw rest-is behind_head.holds
 
-    text-size : length text ≡ 11 + k + 1 + length (lines x.l)
-    text-size = omega (arith, length-append (opening n) (lines x.l), opening-size n k e)
+    -- the number of rows has k digits
+    module _ {k : ℕ} (e : k ≡ length (decimal n)) where
+      abbrev text : List ℕ
+      text = opening n ++ lines taken.l
 
-    no_room_lem : length d < 11 + k + 1 + length (lines x.l) → Answered (plain no_room) d d (tally_text_of (length d) t)
-    no_room_lem h = rw text_of (room-short d text (omega (arith, text-size)))
+      text-size : length text ≡ 11 + k + 1 + length (lines taken.l)
+      text-size = omega (arith, length-append (opening n) (lines taken.l), opening-size n k e)
 
-    pub tally-headless : length d < 11 + k + 1 → Answered (plain no_room) d d (tally_text_of (length d) t)
-    tally-headless h = no_room_lem (omega arith)
+      no_room_lem : length d < 11 + k + 1 + length (lines taken.l) → Answered (plain no_room) d d (tally_text_of (length d) t)
+      no_room_lem g = rw (text_of t (length d) taken) (room-short d text (omega (arith, text-size)))
 
-    module _ (h : 11 + k + 1 ≤ length d) where
-      pub head-room : length (opening n) ≤ length d
-      head-room = rw (opening-size n k e) h
+      pub tally-headless : (11 + k + 1 ≤ length d → ⊥) → Answered (plain no_room) d d (tally_text_of (length d) t)
+      tally-headless g = no_room_lem (omega (arith, g))
 
-      module _ {fit : Bool} (m : LinesFit rows_behind (length d - (11 + k + 1)) fit) where
-        pub tally-short : fit ≡ false → Answered (plain no_room) d d (tally_text_of (length d) t)
-        tally-short f = no_room_lem (omega (arith, leb-false (length (lines x.l)) (length d - (11 + k + 1)) (sym (m x.l rows-held) ∙ f)))
+      -- the room behind the opening
+      module _ {room : ℕ} (g : (11 + k + 1 ≤ length d) × (room ≡ length d - (11 + k + 1))) where
+        pub head-room : length (opening n) ≤ length d
+        head-room = rw (opening-size n k e) g.0
 
-        module _ (f : fit ≡ true) {a : List ℕ} {at : ℕ} (p : PutAt 0 (opening n) d a at) where
-          all_room : 0 + length text ≤ length d
-          all_room = omega (arith, text-size, leb-true (length (lines x.l)) (length d - (11 + k + 1)) (sym (m x.l rows-held) ∙ f))
+        module _ {fit : Bool} (m : LinesFit (rows_behind t) room fit) where
+          pub tally-short : fit ≡ false → Answered (plain no_room) d d (tally_text_of (length d) t)
+          tally-short f = no_room_lem (omega (arith, g.0, g.1, leb-false (length (lines taken.l)) room (sym (m taken.l rows-held) ∙ f)))
 
-          pub lines-room : HasRoom at rows_behind (length a)
-          lines-room = record { l = x.l; holds = rows-held; room = put-room (lines x.l) all_room p }
+          module _ (f : fit ≡ true) {a : List ℕ} {at : ℕ} (p : PutAt 0 (opening n) d a at) where
+            all_room : 0 + length text ≤ length d
+            all_room = omega (arith, text-size, g.0, g.1, leb-true (length (lines taken.l)) room (sym (m taken.l rows-held) ∙ f))
 
-          pub tally-all : {b : List ℕ} {end : ℕ} → LinesPut at rows_behind a b end → Answered (good end) d b (tally_text_of (length d) t)
-          tally-all q = rw text_of (text-all d text (omega (arith, all_room)) (put_two all_room p (λ r. q x.l rows-held r)))
+            pub lines-room : HasRoom at (rows_behind t) (length a)
+            lines-room = record { l = taken.l; holds = rows-held; room = put-room (lines taken.l) all_room p }
+
+            pub tally-all : {b : List ℕ} {end : ℕ} → LinesPut at (rows_behind t) a b end → Answered (good end) d b (tally_text_of (length d) t)
+            tally-all q = rw (text_of t (length d) taken) (text-all d text (omega (arith, all_room)) (put_two all_room p (λ r. q taken.l rows-held r)))

@@ -50,6 +50,10 @@ module _ (k : ℕ) (r : Row ℕ) (p : k ≡ length (decimal r.count)) where
   unfolding line
   line-size = simp length-append (omega arith)
 
+  -- it ends within the buffer that has room for it
+  pub line-end : (at : ℕ) {size : ℕ} → at + length (line r) ≤ size → at + k + 1 + length r.name + 1 ≤ size
+  line-end at h = omega (arith, h, line-size)
+
   pub line-put : (at : ℕ) {d a b c e : List ℕ} → at + length (line r) ≤ length d → a ≡ stored at (decimal r.count) d → b ≡ stored (at + k) (space ∷ []) a
       → c ≡ stored (at + k + 1) r.name b → e ≡ stored (at + k + 1 + length r.name) (newline ∷ []) c → PutAt at (line r) d e (at + k + 1 + length r.name + 1)
   unfolding line

@@ -6,20 +6,21 @@ use Rattle.tally.specs.Rows.{Rows}
 use Rattle.tally.specs.Tally.{ones, one}
 use Rattle.tally.specs.Walks.{Holds}
 use Rattle.report.specs.Text.{lines}
-use Rattle.report.specs.declared.text.TextAnswer.{TextAnswer}
-use Rattle.report.specs.declared.text.TextAnswer.TheVariants as texts
+use Rattle.std.specs.Prelude.{Ok, Err, Result}
+use Rattle.report.specs.declared.text.TextError.{TextError}
+use Rattle.report.specs.declared.text.TextError.TheVariants as text_errors
 
 -- the text's length
-abbrev pub told_text : TextAnswer → Answer ℕ
-told_text (texts.Put n) = good n
-told_text texts.Malformed = plain tally_malformed
-told_text texts.NoRoom = plain no_room
+abbrev pub told_text : Result ℕ TextError → Answer ℕ
+told_text (Ok n) = good n
+told_text (Err text_errors.Malformed) = plain tally_malformed
+told_text (Err text_errors.NoRoom) = plain no_room
 
 -- the length of the text that was put; 0 where none was
-abbrev pub length_put : TextAnswer → ℕ
-length_put (texts.Put n) = n
-length_put texts.Malformed = 0
-length_put texts.NoRoom = 0
+abbrev pub length_put : Result ℕ TextError → ℕ
+length_put (Ok n) = n
+length_put (Err text_errors.Malformed) = 0
+length_put (Err text_errors.NoRoom) = 0
 
 -- ---- the measuring pass, over bytes that are rows
 abbrev pub LinesFit : List ℕ → ℕ → Bool → Type 0

@@ -7,9 +7,9 @@ ghost use Rattle.report.specs.Text.{line, opening, tally_text_of};
 ghost use Rattle.report.specs.Told.{told_text, LinesFit, HasRoom, LinesPut};
 
 use crate::decimal::{decimal_length, put_decimal};
-use crate::text::TextAnswer;
-use tally::check::{CheckAnswer, check};
-use tally::rows::{NAME_AT, ROW_OVERHEAD, RowRead, front_row};
+use crate::text::TextError;
+use tally::check::check;
+use tally::rows::{NAME_AT, ROW_OVERHEAD, front_row};
 use wire::heads::HEAD_LENGTH;
 use wire::store::put_bytes;
 
@@ -25,17 +25,14 @@ fn lines_fit(rows: &[u8], room: usize) -> bool
 {
     let mut rest = rows;
     let mut left = room;
-    loop {
-        let RowRead::Row { size: n, count } = front_row(rest) else {
-            return true;
-        };
-        let size = decimal_length(count) + n + MARKS;
-        if left < size {
+    while let Some((n, count)) = front_row(rest) {
+        let Some(more) = left.checked_sub(decimal_length(count) + n + MARKS) else {
             return false;
-        }
-        left -= size;
+        };
+        left = more;
         rest = &rest[n + ROW_OVERHEAD..];
     }
+    true
 }
 
 // Puts the count, a space, the name and a newline at a place, and tells where they end.
@@ -59,41 +56,37 @@ fn put_lines(out: &mut [u8], from: usize, rows: &[u8]) -> usize
 {
     let mut rest = rows;
     let mut at = from;
-    loop {
-        let RowRead::Row { size: n, count } = front_row(rest) else {
-            return at;
-        };
+    while let Some((n, count)) = front_row(rest) {
         at = put_line(out, at, &rest[NAME_AT..n + NAME_AT], count);
         rest = &rest[n + ROW_OVERHEAD..];
     }
+    at
 }
 
 // Puts `TLY 1 rows N` and a newline at the front, and tells where they end.
-fn put_opening(out: &mut [u8], rows: u32) -> usize
+fn put_opening(out: &mut [u8], rows: u64) -> usize
     requires { length (opening rows) ≤ length out.old }
     ensures { PutAt 0 (opening rows) out.old out.new result }
 {
     put_bytes(out, 0, b"TLY 1 rows ");
-    let end = COUNT_AT + put_decimal(out, COUNT_AT, rows as u64);
+    let end = COUNT_AT + put_decimal(out, COUNT_AT, rows);
     put_bytes(out, end, b"\n");
     end + 1
 }
 
 // Puts the text of a tally: a line with the number of rows, and a line for each. It measures the text before it puts a byte.
-pub fn tally_text(t: &[u8], out: &mut [u8]) -> TextAnswer
+pub fn tally_text(t: &[u8], out: &mut [u8]) -> Result<usize, TextError>
     ensures { Answered (told_text result) out.old out.new
         (tally_text_of (length out.old) t.now) }
 {
-    let CheckAnswer::Tally(rows) = check(t) else {
-        return TextAnswer::Malformed;
-    };
-    let head = COUNT_AT + decimal_length(rows as u64) + 1;
-    if out.len() < head {
-        return TextAnswer::NoRoom;
-    }
-    if !lines_fit(&t[HEAD_LENGTH..], out.len() - head) {
-        return TextAnswer::NoRoom;
+    let count = check(t).ok_or(TextError::Malformed)?;
+    let rows = u64::from(count);
+    let body = &t[HEAD_LENGTH..];
+    let head = COUNT_AT + decimal_length(rows) + 1;
+    let room = out.len().checked_sub(head).ok_or(TextError::NoRoom)?;
+    if !lines_fit(body, room) {
+        return Err(TextError::NoRoom);
     }
     let at = put_opening(out, rows);
-    TextAnswer::Put(put_lines(out, at, &t[HEAD_LENGTH..]))
+    Ok(put_lines(out, at, body))
 }

@@ -2,22 +2,16 @@
 ghost use Rattle.std.specs.Prelude.{◌≡◌};
 ghost use Rattle.report.specs.Told.{length_put};
 
-// The text that was put, or why none was: the tally is malformed, or the buffer is too short.
-#[derive(Clone, Copy)]
-pub enum TextAnswer {
-    // The text's length.
-    Put(usize),
+// Why no text was put: the tally is malformed, or the buffer is too short.
+#[derive(Clone, Copy, Debug, PartialEq, Eq, Hash)]
+pub enum TextError {
     Malformed,
     NoRoom,
 }
 
 // Tells the length of the text that was put; 0 where none was.
-pub fn put_length(answer: TextAnswer) -> usize
+pub fn put_length(answer: Result<usize, TextError>) -> usize
     ensures { result ≡ length_put answer }
 {
-    match answer {
-        TextAnswer::Put(n) => n,
-        TextAnswer::Malformed => 0,
-        TextAnswer::NoRoom => 0,
-    }
+    answer.unwrap_or(0)
 }

@@ -4,8 +4,8 @@ use borrow.Author.Tests.{lt-leb}
 use Rattle.wire.proofs.Tests.{yes_and}
 use Rattle.wire.specs.Order.{order, choose}
 use Rattle.wire.proofs.TotalOrder.{order_trans}
-use Rattle.wire.specs.declared.order.Order.{Order}
-use Rattle.wire.specs.declared.order.Order.TheVariants.{Before, Same, After}
+use Rattle.std.specs.declared.cmp.Ordering.{Ordering}
+use Rattle.std.specs.declared.cmp.Ordering.TheVariants.{Less, Equal, Greater}
 use Rattle.tally.specs.Rows.{Row, Rows, joined, add_row, plus, count_in, Canonical}
 use Rattle.tally.specs.Tally.{ones, one, limited, max_count}
 use Rattle.tally.specs.LookedUp.{Below}
@@ -22,7 +22,7 @@ pub count-below : (D : Rows ones) (n : List ℕ) → Below ones n D → count_in
 count-below [] n h = refl
 count-below (d ∷ D) n h = rw h.0 (omega (arith, count-below D n h.1))
 
-pub below-weak : (n m : List ℕ) (D : Rows ones) → order n m ≡ Before → Below ones n D → Below ones m D
+pub below-weak : (n m : List ℕ) (D : Rows ones) → order n m ≡ Less → Below ones n D → Below ones m D
 below-weak n m [] e h = tt
 below-weak n m (d ∷ D) e h = (order_trans d.name n m h.0 e, below-weak n m D e h.1)
 
@@ -51,11 +51,11 @@ pub total_count-add : (g : Row ℕ) (X : Rows ones) → total_count (add_row one
 total_count-add g [] = refl
 total_count-add g (s ∷ l) = go (order g.name s.name) (total_count-add g l)
   where
-    go : (w : Order) → total_count (add_row ones g l) ≡ g.count + total_count l
+    go : (w : Ordering) → total_count (add_row ones g l) ≡ g.count + total_count l
         → total_count (choose w (g ∷ s ∷ l) (joined ones g s ∷ l) (s ∷ add_row ones g l)) ≡ g.count + (s.count + total_count l)
-    go Before ih = refl
-    go Same ih = omega arith
-    go After ih = omega arith
+    go Less ih = refl
+    go Equal ih = omega arith
+    go Greater ih = omega arith
 
 pub total_count-plus : (a b : Rows ones) → total_count (plus ones a b) ≡ total_count a + total_count b
 total_count-plus [] b = sym (zero-add _)

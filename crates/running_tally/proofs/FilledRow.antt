@@ -1,7 +1,7 @@
 -- One name of the second pass: the hole moves to its place, and its row is put there if it has none.
 use Rattle.std.proofs.Common.{◌≡◌, ℕ, ◌+◌, ◌-◌, ◌<◌, ◌≤◌, true, false, List, [], ◌∷◌, ◌++◌, length, take, drop, sym, ap, ◌∙◌, ap₂, append_assoc, append-nil, arith, length-drop, length-take-le, take-take, drop-drop, take_at, drop_at, leb-true}
 use Rattle.wire.specs.Order.{order}
-use Rattle.wire.specs.declared.order.Order.TheVariants.{Before}
+use Rattle.std.specs.declared.cmp.Ordering.TheVariants.{Less}
 use Rattle.wire.specs.Store.{overwrite}
 use Rattle.wire.proofs.Overwrites.{overwrite-length, overwrite-take, overwrite-drop}
 use Rattle.tally.specs.Rows.{Row, Rows, add_row, count_in}
@@ -80,7 +80,7 @@ module _ (t : List ℕ) (g : Hole) (n : ℕ) (i : Inside t g n) where
         total_fits = omega (arith, a.total_fits, ap total_count s, total_count-append E K);
       }
 
-      later : (r : Row ℕ) → Below ones r.name E → (m : List ℕ) → order r.name m ≡ Before → count_in ones K m ≡ count_in ones L m
+      later : (r : Row ℕ) → Below ones r.name E → (m : List ℕ) → order r.name m ≡ Less → count_in ones K m ≡ count_in ones L m
       later r b m e = rw s (omega (arith, count-append E K m, count-below E m (below-weak r.name m E e b)))
 
   -- ---- a name

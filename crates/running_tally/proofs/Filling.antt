@@ -1,5 +1,5 @@
 -- The second pass: what holds before each group, and its steps.
-use Rattle.std.proofs.Common.{◌≡◌, ℕ, ◌+◌, ◌-◌, ◌<◌, ◌≤◌, Bool, true, false, List, [], ◌∷◌, ◌++◌, length, get_or, take, drop, sym, refl, ap, ◌∙◌, subst, ap₂, zero-add, arith, length-append, length-take-le, take_at, take-add, drop_at}
+use Rattle.std.proofs.Common.{◌≡◌, ℕ, ◌+◌, ◌-◌, ◌<◌, ◌≤◌, Bool, true, false, List, [], ◌∷◌, ◌++◌, length, get_or, take, drop, sym, refl, ap, ◌∙◌, subst, ap₂, arith, length-append, length-take-le, take_at, take-add, drop_at}
 use Rattle.wire.specs.Store.{overwrite, moved_back}
 use Rattle.wire.proofs.Overwrites.{overwrite-drop, moved-fits}
 use Rattle.tally.specs.Rows.{Row, Rows, add_row, count_in, Canonical}
@@ -16,7 +16,7 @@ use Rattle.running_tally.specs.declared.absorb.Group.{Group}
 use Rattle.running_tally.specs.declared.absorb.Hole.{Hole}
 use Rattle.running_tally.proofs.Measures.{fresh-there, fresh-new, fresh-none, agree-above, fresh-agree}
 use Rattle.running_tally.proofs.Groups.{left_end}
-use Rattle.running_tally.proofs.Raising.{Under, under_none, under-passed, first_rest, first-may}
+use Rattle.running_tally.proofs.Raising.{Under, under-passed, first_rest, first-may}
 
 -- no bytes are no rows
 no_bytes : (F : Rows ones) → length (rows_bytes one F) ≡ 0 → F ≡ []
@@ -41,25 +41,6 @@ pub record Filling (s c ps t₀ : List ℕ) (b n i : ℕ) (hole : Hole) (t : Lis
   pub short : i ≤ length ps
   pub long : length t ≡ length t₀
   pub rows : (G W T : Rows ones) → Fills s c ps t₀ b n G W T → FillingRows s c ps t₀ n i hole t T
-
-pub filling-start : (s c ps t : List ℕ) (b n : ℕ) → b ≤ n → n ≤ length t → Filling s c ps t b n 0 (record { read = b; write = 0 }) t
-filling-start s c ps t b n h k = record {
-  inside = record { ahead = omega arith; short = h; inside = k };
-  short = omega arith;
-  long = refl;
-  rows = λ G W T x. record {
-    D = [];
-    L = W;
-    H = G;
-    left = x.due.left;
-    apart = x.apart;
-    under = under_none G;
-    sum = x.due.sum;
-    room = zero-add _ ∙ sym x.due.room;
-    total_fits = x.due.total_fits;
-    behind = refl;
-  };
-}
 
 module _ (s c ps t₀ : List ℕ) (b n i : ℕ) (hole : Hole) (t : List ℕ) (x : Filling s c ps t₀ b n i hole t) where
   module _ (g : Group) (q : Grouped s c ps i g) where

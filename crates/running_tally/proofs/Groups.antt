@@ -1,11 +1,12 @@
 -- Places in order, and the groups of one name that they make.
-use Rattle.std.proofs.Common.{◌≡◌, ℕ, ◌+◌, ◌%◌, ◌^◌, ◌<◌, ◌≤◌, true, false, List, [], ◌∷◌, length, get_or, drop, sym, refl, ap, ◌∙◌, ap₂, arith, drop_of_length-le, le-leb}
+use Rattle.std.proofs.Common.{◌≡◌, Bool, ℕ, ◌+◌, ◌%◌, ◌^◌, ◌<◌, ◌≤◌, true, false, List, [], ◌∷◌, length, get_or, drop, sym, refl, ap, ◌∙◌, ap₂, arith, drop_of_length-le, le-leb}
 use Rattle.wire.specs.Bytes.{Bytes, bytes-nil, bytes_drop}
-use Rattle.wire.specs.Choice.{no_false}
+use Rattle.wire.specs.Choice.{no_true, no_false}
 use Rattle.wire.specs.Order.{order, choose}
+use Rattle.std.specs.Ordering.{is_ne}
 use Rattle.wire.proofs.TotalOrder.{flip, order_same, order_flip, order_trans}
-use Rattle.wire.specs.declared.order.Order.{Order}
-use Rattle.wire.specs.declared.order.Order.TheVariants.{Before, Same, After}
+use Rattle.std.specs.declared.cmp.Ordering.{Ordering}
+use Rattle.std.specs.declared.cmp.Ordering.TheVariants.{Less, Equal, Greater}
 use Rattle.wire.specs.Format.{run, refine, ◌⨾◌, iso}
 use Rattle.wire.specs.Formats.{number, prefixed}
 use Rattle.wire.specs.Read.{Read, done, refused}
@@ -70,36 +71,41 @@ unfolding gathered
 left_end {s} {c} {ps} {i} h l = sym l.makes ∙ ap (λ (x : List ℕ). plus ones (counted_names s c x) []) (drop_of_length-le ps {i = i} h)
 
 -- ---- two rows of one name added are one
-add-joined : (r q : Row ℕ) (X : Rows ones) → order r.name q.name ≡ Same → add_row ones r (add_row ones q X) ≡ add_row ones (joined ones r q) X
+add-joined : (r q : Row ℕ) (X : Rows ones) → order r.name q.name ≡ Equal → add_row ones r (add_row ones q X) ≡ add_row ones (joined ones r q) X
 add-joined r q [] e = rw e
 add-joined r q (x ∷ l) e = go (order q.name x.name) (ap (λ (n : List ℕ). order n x.name) (order_same r.name q.name e)) (add-joined r q l e)
   where
-    go : (w : Order) → order r.name x.name ≡ w → add_row ones r (add_row ones q l) ≡ add_row ones (joined ones r q) l
+    go : (w : Ordering) → order r.name x.name ≡ w → add_row ones r (add_row ones q l) ≡ add_row ones (joined ones r q) l
         → add_row ones r (choose w (q ∷ x ∷ l) (joined ones q x ∷ l) (x ∷ add_row ones q l)) ≡ add_row ones (joined ones r q) (x ∷ l)
-    go Before h ih = rw (e, h)
-    go Same h ih = rw (e, h) (ap (λ (n : ℕ). record { name = r.name; count = n } ∷ l) (omega arith))
-    go After h ih = rw (h, ih)
+    go Less h ih = rw (e, h)
+    go Equal h ih = rw (e, h) (ap (λ (n : ℕ). record { name = r.name; count = n } ∷ l) (omega arith))
+    go Greater h ih = rw (h, ih)
 
 -- ---- names in order
 module _ (n a b : List ℕ) (e : choose (order a b) true false false ≡ false) where
   -- what comes before b comes before what is not before b
-  after-low : order n b ≡ Before → order n a ≡ Before
+  after-low : order n b ≡ Less → order n a ≡ Less
   after-low h = go (order a b) refl e
     where
-      go : (o : Order) → order a b ≡ o → choose o true false false ≡ false → order n a ≡ Before
-      go Before w f = no_false f
-      go Same w f = rw (order_same a b w) h
-      go After w f = order_trans n b a h (order_flip a b ∙ ap flip w)
+      go : (o : Ordering) → order a b ≡ o → choose o true false false ≡ false → order n a ≡ Less
+      go Less w f = no_false f
+      go Equal w f = rw (order_same a b w) h
+      go Greater w f = order_trans n b a h (order_flip a b ∙ ap flip w)
 
-  not_after : {A : Type 0} → order b a ≡ After → A
-  not_after w = no_false (sym (ap (λ (o : Order). choose o true false false) (order_flip b a ∙ ap flip w)) ∙ e)
+  not_after : {A : Type 0} → order b a ≡ Greater → A
+  not_after w = no_false (sym (ap (λ (o : Ordering). choose o true false false) (order_flip b a ∙ ap flip w)) ∙ e)
 
--- how names compare, as code has them
-pub as-named : {a b x y : List ℕ} {o : Order} → a ≡ x → b ≡ y → o ≡ order a b → order x y ≡ o
-as-named p q e = sym (e ∙ ap₂ order p q)
+not_ne : (o : Ordering) → is_ne o ≡ false → o ≡ Equal
+not_ne Less e = no_false e
+not_ne Equal e = refl
+not_ne Greater e = no_false e
+
+-- whether names differ, as code compares them
+pub as-named : {a b x y : List ℕ} {o : Ordering} {k : Bool} → a ≡ x → b ≡ y → o ≡ order a b → k ≡ is_ne o → is_ne (order x y) ≡ k
+as-named p q e h = sym (h ∙ ap is_ne (e ∙ ap₂ order p q))
 
 module _ (s c : List ℕ) (n : List ℕ) where
-  above_low : (p : ℕ) (ps : List ℕ) → order n (row_at s p).name ≡ Before → NoneBefore s p ps → Above ones n (counted_names s c ps)
+  above_low : (p : ℕ) (ps : List ℕ) → order n (row_at s p).name ≡ Less → NoneBefore s p ps → Above ones n (counted_names s c ps)
   above_low p [] h l = tt
   above_low p (q ∷ ps) h l = (after-low n (row_at s q).name (row_at s p).name l.0 h, above_low p ps h l.1)
 
@@ -128,6 +134,10 @@ unfolding gathered
 above-gathered s c ps n h = above-plus ones n (counted_names s c ps) [] h tt
 
 module _ (s c ps : List ℕ) (i : ℕ) where
+  -- the name at the j-th place
+  abbrev name_of : ℕ → List ℕ
+  name_of j = (row_at s (get_or ps j 0)).name
+
   pub gathering-start : (count : ℕ) → count ≡ count_at s c (get_or ps i 0) → i < length ps → Gathering s c ps i count (i + 1)
   gathering-start count k h =
       let next = drop-next ps i h in
@@ -153,7 +163,7 @@ module _ (s c ps : List ℕ) (i : ℕ) where
       first-rises : GatheringRows s c ps i count j → Sorted s (get_or ps j 0 ∷ drop (j + 1) ps)
       first-rises x = rw (drop-next ps j h) at x.rises
 
-      pub gathering-on : (n more : ℕ) → order (row_at s (get_or ps i 0)).name (row_at s (get_or ps j 0)).name ≡ Same
+      pub gathering-on : (n more : ℕ) → is_ne (order (name_of i) (name_of j)) ≡ false
           → n ≡ count_at s c (get_or ps j 0) → more ≡ (count + n) % 2 ^ 64 → Gathering s c ps i more (j + 1)
       gathering-on n more e is k = record {
         on = omega (arith, g.on);
@@ -167,14 +177,14 @@ module _ (s c ps : List ℕ) (i : ℕ) where
             record {
               low = (first-low x).1;
               rises = (first-rises x).1;
-              sum = rw exact (sym (add-joined (named s ps i count) (named_at s c q) (gathered s c (drop (j + 1) ps)) e)
+              sum = rw exact (sym (add-joined (named s ps i count) (named_at s c q) (gathered s c (drop (j + 1) ps)) (not_ne _ e))
                   ∙ ap (add_row ones (named s ps i count)) (sym (ap (gathered s c) next ∙ gathered-cons s c (drop (j + 1) ps) q)) ∙ x.sum);
               weight = omega (arith, x.weight, left, exact);
             };
       }
 
     -- a group that ends at j
-    ends : (GatheringRows s c ps i count j → Above ones (row_at s (get_or ps i 0)).name (gathered s c (drop j ps))) → Grouped s c ps i (record { count = count; next = j })
+    ends : (GatheringRows s c ps i count j → Above ones (name_of i) (gathered s c (drop j ps))) → Grouped s c ps i (record { count = count; next = j })
     ends f = record {
       on = g.on;
       inside = g.inside;
@@ -185,15 +195,19 @@ module _ (s c ps : List ℕ) (i : ℕ) where
           record { H = gathered s c (drop j ps); split = split; left = record { rises = x.rises; makes = refl; canonical = whole.4 } };
     }
 
-    pub gathering-end : length ps ≤ j → Grouped s c ps i (record { count = count; next = j })
-    gathering-end h = ends (λ x. rw (drop_of_length-le ps {i = j} h, gathered-nil s c) tt)
+    pub gathering-end : length ps ≤ j → Grouped s c ps i (record { count = count; next = length ps })
+    gathering-end h =
+        let last : j ≡ length ps = omega (arith, g.inside) in
+        rw (← last) (ends (λ x. rw (drop_of_length-le ps {i = j} h, gathered-nil s c) tt))
 
-    pub gathering-stop : j < length ps → order (row_at s (get_or ps i 0)).name (row_at s (get_or ps j 0)).name ≡ Before → Grouped s c ps i (record { count = count; next = j })
-    gathering-stop h e = ends (λ x.
-        let n = (row_at s (get_or ps i 0)).name in
-        let all : Above ones n (counted_names s c (get_or ps j 0 ∷ drop (j + 1) ps)) = (e, above_low s c n (get_or ps j 0) (drop (j + 1) ps) e (first-rises h x).0) in
-        rw (drop-next ps j h) (above-gathered s c (get_or ps j 0 ∷ drop (j + 1) ps) n all))
-
-    -- names do not fall
-    pub gathering-not : j < length ps → order (row_at s (get_or ps i 0)).name (row_at s (get_or ps j 0)).name ≡ After → Grouped s c ps i (record { count = count; next = j })
-    gathering-not h e = ends (λ x. not_after (row_at s (get_or ps i 0)).name (row_at s (get_or ps j 0)).name (row_at s (get_or ps i 0)).name (first-low h x).0 e)
+    -- another name, which comes after the first one, since names do not fall
+    pub gathering-stop : j < length ps → is_ne (order (name_of i) (name_of j)) ≡ true → Grouped s c ps i (record { count = count; next = j })
+    gathering-stop h e = go (order (name_of i) (name_of j)) refl e
+      where
+        go : (o : Ordering) → order (name_of i) (name_of j) ≡ o → is_ne o ≡ true → Grouped s c ps i (record { count = count; next = j })
+        go Less w f = ends (λ x.
+            let left = get_or ps j 0 ∷ drop (j + 1) ps in
+            let all : Above ones (name_of i) (counted_names s c left) = (w, above_low s c (name_of i) (get_or ps j 0) (drop (j + 1) ps) w (first-rises h x).0) in
+            rw (drop-next ps j h) (above-gathered s c left (name_of i) all))
+        go Equal w f = no_true f
+        go Greater w f = ends (λ x. not_after (name_of i) (name_of j) (name_of i) (first-low h x).0 w)

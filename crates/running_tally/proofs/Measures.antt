@@ -2,8 +2,8 @@
 use Rattle.std.proofs.Common.{◌≡◌, ℕ, ◌+◌, Bool, true, false, cond, leb, List, [], ◌∷◌, length, sym, refl, ap, ◌∙◌, zero-add, arith, length-append, leb-true}
 use Rattle.wire.specs.Order.{order, choose}
 use Rattle.wire.proofs.TotalOrder.{flip, order_same, order_flip}
-use Rattle.wire.specs.declared.order.Order.{Order}
-use Rattle.wire.specs.declared.order.Order.TheVariants.{Before, Same, After}
+use Rattle.std.specs.declared.cmp.Ordering.{Ordering}
+use Rattle.std.specs.declared.cmp.Ordering.TheVariants.{Less, Equal, Greater}
 use Rattle.tally.specs.Rows.{Row, Rows, joined, add_row, plus, count_in, Above, Canonical}
 use Rattle.tally.specs.Tally.{ones, one, fields}
 use Rattle.tally.specs.Walks.{rows_bytes}
@@ -59,7 +59,7 @@ module _ (X Y : Rows ones) where
   agree-all [] f = tt
   agree-all (g ∷ G) f = (f g.name, agree-all G f)
 
-  pub agree-above : (n : List ℕ) (G : Rows ones) → Above ones n G → ((m : List ℕ) → order n m ≡ Before → count_in ones X m ≡ count_in ones Y m) → Agree X Y G
+  pub agree-above : (n : List ℕ) (G : Rows ones) → Above ones n G → ((m : List ℕ) → order n m ≡ Less → count_in ones X m ≡ count_in ones Y m) → Agree X Y G
   agree-above n [] h f = tt
   agree-above n (g ∷ G) h f = (ap (leb 1) (f g.name h.0), agree-above n G h.1 f)
 
@@ -81,17 +81,17 @@ module _ (f : Row ℕ → ℕ) (by_name : (r s : Row ℕ) → r.name ≡ s.name 
   total-add g [] c = refl
   total-add g (s ∷ l) c = go (order g.name s.name) refl (total-add g l c.4)
     where
-      go : (w : Order) → order g.name s.name ≡ w → total (add_row ones g l) ≡ cond (has l g.name) 0 (f g) + total l
+      go : (w : Ordering) → order g.name s.name ≡ w → total (add_row ones g l) ≡ cond (has l g.name) 0 (f g) + total l
           → total (choose w (g ∷ s ∷ l) (joined ones g s ∷ l) (s ∷ add_row ones g l)) ≡ cond (has (s ∷ l) g.name) 0 (f g) + (f s + total l)
-      go Before e ih = rw (has-none (s ∷ l) g.name (count-above ones (s ∷ l) g.name (e, above-weak ones g.name s.name l e c.3)))
-      go Same e ih =
+      go Less e ih = rw (has-none (s ∷ l) g.name (count-above ones (s ∷ l) g.name (e, above-weak ones g.name s.name l e c.3)))
+      go Equal e ih =
           let q : g.name ≡ s.name = order_same g.name s.name e in
           let there : has (s ∷ l) g.name ≡ true = has_some (s ∷ l) g.name
-          (omega (arith, leb-true 1 s.count c.2, count-cons ones s l g.name {w = Same} (order_flip g.name s.name ∙ ap flip e))) in
+          (omega (arith, leb-true 1 s.count c.2, count-cons ones s l g.name {w = Equal} (order_flip g.name s.name ∙ ap flip e))) in
           rw there (omega (arith, by_name (joined ones g s) s q))
-      go After e ih =
+      go Greater e ih =
           let past : has (s ∷ l) g.name ≡ has l g.name =
-          ap (leb 1) (count-cons ones s l g.name {w = Before} (order_flip g.name s.name ∙ ap flip e) ∙ zero-add _) in
+          ap (leb 1) (count-cons ones s l g.name {w = Less} (order_flip g.name s.name ∙ ap flip e) ∙ zero-add _) in
           rw past (omega arith)
 
   pub total-plus : (G R : Rows ones) → Canonical ones G → Canonical ones R → total (plus ones G R) ≡ total (fresh R G) + total R

@@ -4,7 +4,7 @@ use Rattle.wire.specs.Bytes.{to_be}
 use Rattle.wire.specs.Formats.{u64}
 use Rattle.wire.specs.Order.{order}
 use Rattle.wire.proofs.TotalOrder.{order-refl}
-use Rattle.wire.specs.declared.order.Order.TheVariants.{Same}
+use Rattle.std.specs.declared.cmp.Ordering.TheVariants.{Equal}
 use Rattle.wire.specs.Store.{overwrite, stored}
 use Rattle.wire.specs.Told.{short}
 use Rattle.wire.proofs.Puts.{put-number}
@@ -33,8 +33,8 @@ module _ (g : Row ℕ) (D : Rows ones) (m : May g D) where
     pub row_has : (p before : ℕ) (f : RowPresent g.name p before L) → has L g.name ≡ true
     row_has p before f =
         let k : Canonical ones (f.r ∷ f.R) = canonical-behind f.D (f.r ∷ f.R) (rw f.split at c) in
-        let same : order f.r.name g.name ≡ Same = rw f.name (order-refl g.name) in
-        has_some L g.name (rw f.split (omega (arith, count-append f.D (f.r ∷ f.R) g.name, leb-true 1 f.r.count k.2, count-cons ones f.r f.R g.name {w = Same} same)))
+        let same : order f.r.name g.name ≡ Equal = rw f.name (order-refl g.name) in
+        has_some L g.name (rw f.split (omega (arith, count-append f.D (f.r ∷ f.R) g.name, leb-true 1 f.r.count k.2, count-cons ones f.r f.R g.name {w = Equal} same)))
 
     pub place-not : (p : ℕ) (f : RowAbsent g.name p L) → has L g.name ≡ false
     place-not p f = has-none L g.name (rw f.split (omega (arith, count-append f.D f.R g.name, count-below f.D g.name f.below, count-above ones f.R g.name f.above)))
@@ -87,7 +87,7 @@ module _ (t : List ℕ) (at n : ℕ) (g : Row ℕ) (h : at ≤ n) (k : n ≤ len
 
       sum : E ++ more ∷ found.R ≡ add_row ones g (D ++ L)
       sum =
-          let same : order g.name found.r.name ≡ Same = rw found.name (order-refl g.name) in
+          let same : order g.name found.r.name ≡ Equal = rw found.name (order-refl g.name) in
           sym (ap (add_row ones g) split ∙ add_at ones g found.r E found.R (below-append g.name D found.D m.below found.below) same)
 
       weight : before + g.count < count_limit

@@ -3,8 +3,8 @@ use Rattle.std.proofs.Common.{◌≡◌, ℕ, ◌+◌, ◌-◌, ◌<◌, ◌≤�
 use Rattle.wire.specs.Choice.{no_true}
 use Rattle.wire.specs.Order.{order}
 use Rattle.wire.proofs.TotalOrder.{order_same}
-use Rattle.wire.specs.declared.order.Order.{Order}
-use Rattle.wire.specs.declared.order.Order.TheVariants.{Before, Same, After}
+use Rattle.std.specs.declared.cmp.Ordering.{Ordering}
+use Rattle.std.specs.declared.cmp.Ordering.TheVariants.{Less, Equal, Greater}
 use Rattle.tally.specs.Rows.{Row, Rows, add_row, plus, count_in, Above, Canonical}
 use Rattle.tally.specs.Tally.{ones, one, fields}
 use Rattle.tally.specs.Walks.{rows_bytes}
@@ -18,10 +18,10 @@ use Rattle.running_tally.specs.Groups.{Remaining, named, First, Grouped}
 use Rattle.running_tally.specs.Passes.{has, known, fresh, Passed, May, Cursor, RowRaised, RowMissing, RaisedTo, Starts, RaisedAs}
 use Rattle.running_tally.specs.declared.absorb.Group.{Group}
 use Rattle.tally.specs.declared.lookup.Lookup.TheVariants as lookups
-use Rattle.running_tally.specs.declared.absorb.Raised.TheVariants as raised
 use Rattle.running_tally.proofs.Counts.{has_some, some-has, total_count-add}
 use Rattle.running_tally.proofs.Measures.{fresh-there, fresh-new, fresh-none, known-there, known-new, known-none, fresh-known, agree-all, fresh-agree, bytes-plus, rows-plus}
 use Rattle.running_tally.proofs.Groups.{left_end}
+use Rattle.std.specs.Prelude.{Some, None}
 
 -- ---- the rows D come before the next of the rows H
 abbrev pub Under : Rows ones → Rows ones → Type 0
@@ -54,10 +54,10 @@ has-add g W h n = go (order g.name n) refl
     other : count_in ones (add_row ones g W) n ≡ count_in ones W n → has (add_row ones g W) n ≡ has W n
     other e = ap (leb 1) e
 
-    go : (o : Order) → order g.name n ≡ o → has (add_row ones g W) n ≡ has W n
-    go Before e = other (count_add ones g W n ∙ rw e (zero-add (count_in ones W n)))
-    go After e = other (count_add ones g W n ∙ rw e (zero-add (count_in ones W n)))
-    go Same e =
+    go : (o : Ordering) → order g.name n ≡ o → has (add_row ones g W) n ≡ has W n
+    go Less e = other (count_add ones g W n ∙ rw e (zero-add (count_in ones W n)))
+    go Greater e = other (count_add ones g W n ∙ rw e (zero-add (count_in ones W n)))
+    go Equal e =
         let q : g.name ≡ n = order_same g.name n e in
         let w : has W n ≡ true = rw (← q) h in
         has_some (add_row ones g W) n (rw (count_add ones g W n) (omega (arith, some-has W n w))) ∙ sym w
@@ -231,10 +231,10 @@ module _ (s c ps t₀ : List ℕ) (n i at b k : ℕ) (t : List ℕ) (x : Raising
             rows = λ G R y. on-place G R y p (row G R y);
           }
 
-          pub raising-full : length t₀ - n - b < length name + 10 → RaisedAs s c ps t₀ t' n raised.NoRoom
+          pub raising-full : length t₀ - n - b < length name + 10 → RaisedAs s c ps t₀ t' n None
           raising-full h G R y = (no_room_lem G R y (rw (← e) h) (row G R y).there, λ z. there.1 ∙ (now G R y).untouched z)
 
-  pub raising-end : length ps ≤ i → RaisedAs s c ps t₀ t n (raised.Missing b k)
+  pub raising-end : length ps ≤ i → RaisedAs s c ps t₀ t n (Some (b, k))
   raising-end h = (
     x.fits,
     omega (arith, x.rows_fit, x.inside),

@@ -1,8 +1,8 @@
 -- Rows added to rows in two passes: the first adds to the counts of names that are there, the second puts the rows of those that are not.
-use Rattle.std.specs.Prelude.{◌≡◌, ℕ, ◌+◌, ◌-◌, ◌<◌, ◌≤◌, Bool, true, false, cond, List, [], ◌∷◌, ◌++◌, length, take, drop, nat_le}
+use Rattle.std.specs.Prelude.{◌≡◌, ℕ, ◌+◌, ◌-◌, ◌<◌, ◌≤◌, Bool, true, false, cond, List, [], ◌∷◌, ◌++◌, length, take, drop, nat_le, Option, Some, None}
 use Rattle.wire.specs.Bytes.{Bytes}
 use Rattle.wire.specs.Order.{order}
-use Rattle.wire.specs.declared.order.Order.TheVariants.{Before}
+use Rattle.std.specs.declared.cmp.Ordering.TheVariants.{Less}
 use Rattle.tally.specs.Rows.{Row, Rows, Canonical, is_name, add_row, plus, count_in}
 use Rattle.tally.specs.Tally.{ones, one, fields}
 use Rattle.tally.specs.Walks.{rows_bytes}
@@ -12,8 +12,6 @@ use Rattle.tally.specs.declared.lookup.Lookup.TheVariants as lookups
 use Rattle.running_tally.specs.RunningTally.{count_limit}
 use Rattle.census.specs.UsedNames.{total_count}
 use Rattle.running_tally.specs.Groups.{Remaining}
-use Rattle.running_tally.specs.declared.absorb.Raised.{Raised}
-use Rattle.running_tally.specs.declared.absorb.Raised.TheVariants as raised
 use Rattle.running_tally.specs.declared.absorb.Hole.{Hole}
 
 -- whether a name has a row
@@ -31,7 +29,7 @@ fresh X (g ∷ G) = cond (has X g.name) (fresh X G) (g ∷ fresh X G)
 
 -- every name after that of g comes after the rows D
 abbrev pub Passed : Row ℕ → Rows ones → Type 0
-Passed g D = (m : List ℕ) → order g.name m ≡ Before → Below ones m D
+Passed g D = (m : List ℕ) → order g.name m ≡ Less → Below ones m D
 
 -- a row that may stand in a tally, behind the rows D
 pub record May (g : Row ℕ) (D : Rows ones) : Type 0 where
@@ -86,9 +84,9 @@ pub record RowsRaised (t t' : List ℕ) (n b k : ℕ) (G R : Rows ones) : Type 0
   pub sum : (m : List ℕ) → count_in ones (fresh W G) m + count_in ones W m ≡ count_in ones (plus ones G R) m
   pub behind : drop n t' ≡ drop n t
 
-abbrev pub RaisedAs : (s c ps t t' : List ℕ) (n : ℕ) → Raised → Type 0
-RaisedAs s c ps t t' n raised.NoRoom = (G R : Rows ones) → Starts s c ps t n G R → (length t < length (rows_bytes one (plus ones G R))) × (R ≡ [] → t' ≡ t)
-RaisedAs s c ps t t' n (raised.Missing b k) = (n + b ≤ length t) × (k ≤ length ps) × ((G R : Rows ones) → Starts s c ps t n G R → RowsRaised t t' n b k G R)
+abbrev pub RaisedAs : (s c ps t t' : List ℕ) (n : ℕ) → Option (ℕ × ℕ) → Type 0
+RaisedAs s c ps t t' n None = (G R : Rows ones) → Starts s c ps t n G R → (length t < length (rows_bytes one (plus ones G R))) × (R ≡ [] → t' ≡ t)
+RaisedAs s c ps t t' n (Some (b, k)) = (n + b ≤ length t) × (k ≤ length ps) × ((G R : Rows ones) → Starts s c ps t n G R → RowsRaised t t' n b k G R)
 
 -- ---- the second pass
 -- the rows D are written, the rows L are still to be read, and between them is a hole
@@ -110,7 +108,7 @@ pub record RowFilled (t t' : List ℕ) (g g' : Hole) (n : ℕ) (r : Row ℕ) (D 
   pub apart : Apart t' g' n D' L'
   pub sum : D' ++ L' ≡ cond (has L r.name) (D ++ L) (add_row ones r (D ++ L))
   pub passed : Passed r D'
-  pub same : (m : List ℕ) → order r.name m ≡ Before → count_in ones L' m ≡ count_in ones L m
+  pub same : (m : List ℕ) → order r.name m ≡ Less → count_in ones L' m ≡ count_in ones L m
   pub room : g'.write + g.read ≡ g.write + g'.read + cond (has L r.name) 0 (length ((fields one).encode r))
   pub behind : drop n t' ≡ drop n t
 

@@ -1,54 +1,25 @@
--- A record judged, as the code told it.
+-- A record judged by a clear table: the verdict is document 01's.
 use Prim.Native.Nat.{ℕ}
-use mathlib.Core.Path.{◌≡◌, refl, ap, sym, ◌∙◌}
-use mathlib.Core.Bool.{Bool, true, false}
+use mathlib.Core.Path.{◌≡◌, refl, ap, ◌∙◌}
+use mathlib.Core.Bool.{Bool}
 use mathlib.Core.List.{List}
 use mathlib.Core.Option.{Option}
 use lib.IntN.{ℤ}
-use Rattle.wire.specs.Read.{done, refused, map_read, map-done, map-refused}
-use Rattle.wire.specs.Answer.{Answer, good, refusal, plain, map_answer, Matches, out_of_range, sheet_malformed}
+use Rattle.wire.specs.Answer.{Answer, good, map_answer, Matches}
 use Rattle.wire.proofs.Answers.{matches-map}
-use Rattle.position.specs.Keys.{split_of}
 use Rattle.position.specs.declared.key.Coordinates.{Coordinates}
 use Rattle.mapblock.specs.Layout.{all}
 use Rattle.mapblock.specs.Block.{verdict}
-use Rattle.mapblock.specs.Numbers.{refusal_number}
 use Rattle.block_reader.specs.Questions.{block_of}
-use Rattle.block_reader.specs.Sections.{scanned_of}
 use Rattle.mapblock.specs.Table.{free_in, clear_table}
-use Rattle.mapblock.specs.declared.fault.Fault.{Fault}
 use Rattle.block_reader.specs.declared.scan.Scanned.{Scanned}
 use Rattle.block_reader.proofs.BlockAnswers.{clear-all}
 use Rattle.sheet.specs.Placed.{Placed}
-use Rattle.sheet.specs.Sheet.{SheetRecord, rises, judged_in, judge_record}
+use Rattle.sheet.specs.Sheet.{SheetRecord, judged_in, judge_record}
 use Rattle.sheet.specs.Records.{scanned_at, ScannedAs}
 use Rattle.sheet.proofs.TakenBlocks.{block-by}
 use Rattle.sheet.proofs.RecordSteps.{judge-taken}
 
--- ---- as the code tells it
-module _ (free : ℕ → Bool) (last : Option ℤ) (r : SheetRecord) where
-  abbrev judged : Answer (Coordinates × Scanned)
-  judged = map_answer scanned_at (judged_in free last r)
-
-  pub judged-out-of-range : plain out_of_range ≡ split_of r.key → plain out_of_range ≡ judged
-  unfolding judged_in
-  judged-out-of-range h = rw (sym h)
-
-  module _ {c : Coordinates} (h : good c ≡ split_of r.key) where
-    pub judged-falling : rises last r.key ≡ false → plain sheet_malformed ≡ judged
-    unfolding judged_in
-    judged-falling f = rw (sym h, f)
-
-    module _ (u : rises last r.key ≡ true) where
-      pub judged-refused : {f : Fault} {p : ℕ} → refused f p ≡ map_read scanned_of (verdict free r.block) → refusal (refusal_number f) 0 p ≡ judged
-      unfolding judged_in
-      judged-refused {f} {p} k = rw (sym h, u, map-refused scanned_of (verdict free r.block) f p (sym k))
-
-      pub judged-taken : {w : Scanned} {n : ℕ} → done w n ≡ map_read scanned_of (verdict free r.block) → good (c, w) ≡ judged
-      unfolding judged_in
-      judged-taken {w} {n} k = let x = map-done scanned_of (verdict free r.block) w n (sym k) in rw (sym h, u, x.1, x.2)
-
--- ---- by a clear table
 -- what the code keeps of a block that stands in s
 abbrev pub KeptOf : List ℕ → Coordinates × Scanned → Placed → Type 0
 KeptOf s w x = (x.at ≡ w.0) × ScannedAs s w.1 x.block

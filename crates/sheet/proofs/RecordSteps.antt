@@ -6,15 +6,20 @@ use mathlib.Core.List.{List, [], ◌∷◌, ◌++◌}
 use mathlib.Core.Option.{Option, some, none}
 use native.Mathlib.Omega.{arith}
 use lib.IntN.{ℤ}
-use lib.ListN.{length, drop, take}
+use lib.ListN.{length, drop}
 use lib.Seq.{drop-drop, drop-append_seam}
 use borrow.Author.Tests.{eq-eqb, ne_eqb}
-use Rattle.wire.specs.Read.{Read, done, refused}
+use Rattle.wire.specs.Read.{Read, done, refused, to_option}
+use borrow.Author.Rules.{rules}
 use Rattle.wire.specs.Format.{◌⨾◌, iso}
 use Rattle.wire.specs.Formats.{s64, half64, prefixed}
 use Rattle.wire.specs.Answer.{Answer, good, refusal, plain, map_answer, sheet_malformed}
 use Rattle.wire.proofs.Answers.{no-good, then-good, map-good}
-use Rattle.wire.specs.Told.{Short, short}
+use Rattle.std.specs.Prelude.{Some, None, Ok, Err, Result}
+use Rattle.std.specs.Result.{result_ok}
+use Rattle.wire.specs.Told.{Short, short, told_run}
+use Rattle.wire.specs.declared.fields.EndsAt.{EndsAt}
+use Rattle.sheet.specs.Records.{told_frame}
 use Rattle.wire.proofs.Steps.{signed-told, prefixed-told}
 use Rattle.position.specs.Keys.{split_of}
 use Rattle.position.specs.declared.key.Coordinates.{Coordinates}
@@ -23,27 +28,26 @@ use Rattle.block_reader.specs.Questions.{block_of}
 use Rattle.sheet.specs.Placed.{Placed, placed}
 use Rattle.sheet.specs.Sheet.{Misframed, misframed, SheetRecord, frame, sheet_head, rises, judged_in, judge_record, records_from, sheet_of}
 
--- ---- a record's framing, by its fields as the leaves tell them
+-- ---- a record's framing, as the code reads it: none where the bytes of its key or its block end, else the block behind the twelve of key and length
 module _ (s : List ℕ) where
-  pub frame-short-key : {e : Short} {p : ℕ} → refused e p ≡ (s64 {ends = short}).read s → frame.read s ≡ refused misframed p
+  pub frame-no-key : {e : Short} {p : ℕ} → refused e p ≡ (s64 {ends = short}).read s → none ≡ to_option (frame.read s)
   unfolding frame iso ◌⨾◌
-  frame-short-key h = rw (signed-told misframed 8 half64 refl s h)
+  frame-no-key h = rw (signed-told misframed 8 half64 refl s h)
 
   module _ {key : ℤ} (h : done key 8 ≡ (s64 {ends = short}).read s) where
-    pub frame-short-block : {e : Short} {p : ℕ} → refused e p ≡ (prefixed {ends = short} 4).read (drop 8 s) → frame.read s ≡ refused misframed (8 + p)
+    pub frame-no-block : (r : Result ℕ EndsAt) → told_run 4 (drop 8 s) r ≡ (prefixed {ends = short} 4).read (drop 8 s) → None ≡ result_ok r → none ≡ to_option (frame.read s)
     unfolding frame iso ◌⨾◌
-    frame-short-block g = rw (signed-told misframed 8 half64 refl s h, prefixed-told misframed 4 (drop 8 s) g)
+    frame-no-block (Ok k) g n = absurd (search rules)
+    frame-no-block (Err p) g n = rw (signed-told misframed 8 half64 refl s h, prefixed-told misframed 4 (drop 8 s) g)
 
-    pub frame-done : {b : List ℕ} {n : ℕ} → done b n ≡ (prefixed {ends = short} 4).read (drop 8 s) → frame.read s ≡ done (record { key = key; block = b }) (8 + n)
+    pub frame-block : {n : ℕ} (r : Result ℕ EndsAt) → told_run 4 (drop 8 s) r ≡ (prefixed {ends = short} 4).read (drop 8 s) → Some n ≡ result_ok r
+        → told_frame s (Some (key, n)) ≡ to_option (frame.read s)
     unfolding frame iso ◌⨾◌
-    frame-done g = rw (signed-told misframed 8 half64 refl s h, prefixed-told misframed 4 (drop 8 s) g)
-
-  -- the same by the leaves' places: the block stands behind both
-  pub frame-read : {key : ℤ} (n : ℕ) → done key 8 ≡ (s64 {ends = short}).read s → done (take n (drop 4 (drop 8 s))) (4 + n) ≡ (prefixed {ends = short} 4).read (drop 8 s)
-      → frame.read s ≡ done (record { key = key; block = take n (drop 12 s) }) (12 + n)
-  frame-read n h g =
-      let end : 8 + (4 + n) ≡ 12 + n = omega arith in
-      frame-done h g ∙ rw (end, drop-drop 4 8 s)
+    frame-block {n} (Ok k) g e =
+        let end : 8 + (4 + n) ≡ 12 + n = omega arith in
+        let same : n ≡ k = cc in
+        rw (signed-told misframed 8 half64 refl s h, prefixed-told misframed 4 (drop 8 s) g, sym same, end, drop-drop 4 8 s)
+    frame-block (Err p) g e = absurd (search rules)
 
 -- ---- the head, and what follows from it
 module _ (s : List ℕ) where

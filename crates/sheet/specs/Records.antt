@@ -12,39 +12,30 @@ use Rattle.block_reader.specs.Sections.{scanned_of}
 use Rattle.block_reader.specs.declared.scan.Scanned.{Scanned}
 use Rattle.sheet.specs.Placed.{Placed}
 use Rattle.sheet.specs.Sheet.{SheetRecord}
-use Rattle.sheet.specs.declared.records.FrameRead.{FrameRead}
-use Rattle.sheet.specs.declared.records.FrameRead.TheVariants as frames
-use Rattle.sheet.specs.declared.records.LastKey.{LastKey}
-use Rattle.sheet.specs.declared.records.LastKey.TheVariants as lasts
 use Rattle.sheet.specs.declared.records.RecordFault.{RecordFault}
 use Rattle.sheet.specs.declared.records.RecordFault.TheVariants as faults
-use Rattle.sheet.specs.declared.records.RecordAnswer.{RecordAnswer}
-use Rattle.sheet.specs.declared.records.RecordAnswer.TheVariants as records
+use Rattle.std.specs.Prelude.{Some, None, Ok, Err, Result, Option as Optional}
 
 -- ---- the framing: of what is not framed no place is told
 abbrev pub record_of : ℤ → List ℕ → SheetRecord
 record_of key block = record { key = key; block = block }
 
 -- the record at the front of s, and where it ends: its block stands behind the eight bytes of the key and the four of the length
-abbrev pub told_frame : List ℕ → FrameRead → Option (SheetRecord × ℕ)
-told_frame s (frames.Record key n) = some (record_of key (take n (drop 12 s)), 12 + n)
-told_frame s frames.Misframed = none
+abbrev pub told_frame : List ℕ → Optional (ℤ × ℕ) → Option (SheetRecord × ℕ)
+told_frame s (Some (key, n)) = some (record_of key (take n (drop 12 s)), 12 + n)
+told_frame s None = none
 
 -- ---- the verdict on a record
-abbrev pub last_of : LastKey → Option ℤ
-last_of lasts.Nothing = none
-last_of (lasts.Key k) = some k
-
 abbrev pub fault_number : RecordFault → ℕ
 fault_number faults.OutOfRange = out_of_range
 fault_number faults.NotRising = sheet_malformed
-fault_number (faults.Block f p) = refusal_number f
+fault_number (faults.Block w) = refusal_number w.fault
 
 -- 0 but for the block's numbers
 abbrev pub fault_offset : RecordFault → ℕ
 fault_offset faults.OutOfRange = 0
 fault_offset faults.NotRising = 0
-fault_offset (faults.Block f p) = p
+fault_offset (faults.Block w) = w.offset
 
 -- a fault of the i-th record
 abbrev pub faulty : {A : Type 0} → RecordFault → ℕ → Answer A
@@ -55,9 +46,9 @@ abbrev pub scanned_at : Placed → Coordinates × Scanned
 scanned_at x = (x.at, scanned_of x.block)
 
 -- the record is told as 0
-abbrev pub told_record : RecordAnswer → Answer (Coordinates × Scanned)
-told_record (records.Taken at w) = good (at, w)
-told_record (records.Refused f) = faulty f 0
+abbrev pub told_record : Result (Coordinates × Scanned) RecordFault → Answer (Coordinates × Scanned)
+told_record (Ok (at, w)) = good (at, w)
+told_record (Err f) = faulty f 0
 
 -- the scan found the block b in s
 pub record ScannedAs (s : List ℕ) (w : Scanned) (b : Block) : Type 0 where

@@ -1,11 +1,12 @@
 -- How many bytes a read gives.
 use Prim.Native.Nat.{ℕ, ◌+◌, ◌≤◌}
-use mathlib.Core.Path.{◌≡◌, refl, ap, sym, subst, ◌∙◌}
-use mathlib.Core.List.{List}
+use mathlib.Core.Path.{◌≡◌, refl, ap, sym, ◌∙◌}
+use mathlib.Core.List.{List, ◌++◌}
 use native.Mathlib.Omega.{arith}
 use lib.IntN.{ℤ}
 use lib.ListN.{length, take, length-append, length-take}
-use Rattle.wire.specs.Bytes.{Bytes, to_be-length}
+use Rattle.std.proofs.lemmas.List.{take-append-le}
+use Rattle.wire.specs.Bytes.{Bytes, bytes_take}
 use Rattle.wire.specs.Read.{Read, done, refused}
 use Rattle.wire.specs.Format.{◌⨾◌, iso, run, ends-in}
 use Rattle.wire.specs.Formats.{number, signed}
@@ -14,27 +15,22 @@ use Rattle.wire.proofs.Answers.{no-good}
 use Rattle.sheet.specs.Sheet.{Misframed}
 use Rattle.sheetcount_lib.specs.Program.{record_head, block_length_of}
 use Rattle.sheetcount_lib.proofs.Sheetcount.{unread}
-use Rattle.sheetcount_lib.specs.Reading.{Within, RecordWithin}
-use Rattle.sheetcount_lib.specs.declared.reading.BytesRead.{BytesRead}
-use Rattle.sheetcount_lib.specs.declared.reading.BytesRead.TheVariants as bytes_reads
+use Rattle.sheetcount_lib.specs.Reading.{record_length}
+use Rattle.std.specs.Prelude.{Result, Ok, Err, IfOk}
 
-pub within : {room n : ℕ} {r : BytesRead} → Within room r → r ≡ bytes_reads.Bytes n → n ≤ room
-within {room} h e = subst (Within room) e h
+-- fewer than a number are fewer than a larger one
+pub at-most : {E : Type 0} {k m : ℕ} (r : Result ℕ E) → k ≤ m → IfOk r (λ n. n ≤ k) → IfOk r (λ n. n ≤ m)
+at-most (Ok n) l h = omega arith
+at-most (Err e) l h = tt
 
--- into a slice of a buffer no more than was asked for
-pub within-part : (k : ℕ) (s : List ℕ) {n : ℕ} {r : BytesRead} → Within (length (take k s)) r → r ≡ bytes_reads.Bytes n → n ≤ k
-within-part k s {n} h e =
-    let z : n ≤ length (take k s) = within h e in
-    omega (arith, length-take k s)
-
-pub within_more : {k m : ℕ} (r : BytesRead) → k ≤ m → Within k r → Within m r
-within_more (bytes_reads.Bytes n) l h = omega arith
-within_more bytes_reads.Failed l h = tt
+-- what was read to the front of a buffer are bytes
+pub bytes-read : {n : ℕ} (a b : List ℕ) → n ≤ length a → Bytes a → Bytes (take n (a ++ b))
+bytes-read {n} a b h k = rw (take-append-le n a b h) (bytes_take n a k)
 
 -- ---- a record's first twelve bytes
 head-length : (h : ℤ × ℕ) → length (record_head.encode h) ≡ 12
 unfolding record_head ◌⨾◌ signed number iso run
-head-length h = simp (length-append, to_be-length)
+head-length h = simp length-append
 
 -- they are there where they tell a length
 twelve : (s : List ℕ) {n : ℕ} → Bytes s → block_length_of 0 s ≡ good n → 12 ≤ length s
@@ -54,8 +50,8 @@ module _ (s : List ℕ) (head size : ℕ) (short : head ≤ 12) (b : Bytes (take
       ap (λ (n : ℕ). take n s) same
 
   -- with them no more than the block is read
-  pub record-within : (t : List ℕ) (r : BytesRead) → take 12 t ≡ take 12 s → Within (12 + size) r → RecordWithin t r
-  record-within t (bytes_reads.Bytes n) k w =
+  pub record-within : (t : List ℕ) {E : Type 0} (r : Result ℕ E) → take 12 t ≡ take 12 s → IfOk r (λ n. n ≤ 12 + size) → IfOk r (λ n. n ≤ record_length (take 12 t))
+  record-within t (Ok n) k w =
       let z : block_length_of 0 (take 12 t) ≡ good size = ap (block_length_of 0) (k ∙ sym all-twelve) ∙ h in
       rw z w
-  record-within t bytes_reads.Failed k w = tt
+  record-within t (Err e) k w = tt

@@ -97,7 +97,7 @@ module _ (i n : ℕ) (s : List ℕ) (b : Bytes s) (h : block_length_of i s ≡ g
           (a, m, g, same, omega arith)
       go false e = no-good (sym (unwanted i s g (leb-false a.1 max_block_length e)) ∙ h)
 
-  pub length_most : n ≤ max_block_length
+  length_most : n ≤ max_block_length
   length_most = (length-read (record_head.read s) refl).4
 
 -- the length of a record's block is the one that it states

@@ -12,8 +12,6 @@ use Rattle.sheet.specs.Sheet.{SheetForm, SheetRecord, frame, sheet_head, framed}
 use Rattle.meter.specs.SheetTally.{tally_sheet_of}
 use Rattle.meter.specs.Streaming.{State, no_records, steps_of, take_of, finish_of}
 use Rattle.sheet.specs.Theorems.{sheet_bytes, Framed}
-use Rattle.sheetcount_lib.specs.declared.program.LengthRead.{LengthRead}
-use Rattle.sheetcount_lib.specs.declared.program.LengthRead.TheVariants as lengths
 
 -- "uses the whole world and all time, and holds a record's block to 49,152 bytes and the tally to 8,192"
 abbrev pub everything : Part
@@ -47,12 +45,6 @@ counted_from (suc k) w s = then_answer (next_of w s) λ x. counted_from k x.0 (d
 -- the tally that is printed, or the refusal
 unfoldable pub sheetcount_of : List ℕ → Answer (List ℕ)
 sheetcount_of s = framed 0 (sheet_head.read s) λ n k. counted_from n (no_records by_one) (drop k s)
-
--- ---- what the code's answer says, of the i-th record
-abbrev pub told_length : ℕ → LengthRead → Answer ℕ
-told_length i (lengths.Block n) = good n
-told_length i lengths.Misframed = refusal sheet_malformed i 0
-told_length i lengths.TooLong = refusal no_room i 0
 
 -- ---- what holds of it
 -- of so many records in these bytes none states a longer block

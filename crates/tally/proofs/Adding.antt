@@ -16,7 +16,7 @@ use Rattle.wire.specs.Bytes.{Bytes, to_be, bytes_take}
 use Rattle.wire.specs.Formats.{u32, u64, head_length}
 use Rattle.wire.specs.Order.{order}
 use Rattle.wire.proofs.TotalOrder.{order-refl}
-use Rattle.wire.specs.declared.order.Order.TheVariants.{Same}
+use Rattle.std.specs.declared.cmp.Ordering.TheVariants.{Equal}
 use Rattle.wire.specs.Store.{overwrite, stored}
 use Rattle.wire.specs.Told.{short}
 use Rattle.wire.proofs.Tests.{and_yes, yes_and, and_no, three-yes, yes-three}
@@ -26,16 +26,18 @@ use Rattle.tally.specs.Tally.{TallyKind, TallyRow, TallyRows, head_bytes, fields
 use Rattle.tally.specs.Operations.{check_of, tallied, add_of}
 use Rattle.tally.specs.Told.{told_add}
 use Rattle.tally.specs.Walks.{rows_bytes, Holds}
-use Rattle.tally.specs.LookedUp.{AddReady, LookedUp, RowPresent, RowAbsent, row_inserted, AddedAs}
-use Rattle.tally.specs.declared.add.AddAnswer.{AddAnswer}
-use Rattle.tally.specs.declared.add.AddAnswer.TheVariants as answers
+use Rattle.tally.specs.LookedUp.{AddReady, LookedUp, RowPresent, RowAbsent, lookup_of, row_inserted, AddedAs}
+use Rattle.tally.specs.declared.lookup.Lookup.{Lookup}
 use Rattle.tally.specs.declared.lookup.Lookup.TheVariants as lookups
 use Rattle.tally.proofs.Held.{Opened, opened as tally-opened, rows_append, tally-bytes, head-size, tally-size, one_size}
 use Rattle.tally.proofs.Checks.{Checked, checked, check-long}
-use Rattle.tally.proofs.LookingUp.{cut-is, cut-size}
+use Rattle.tally.proofs.LookingUp.{cut-is, cut-size, looked-up-told}
 use Rattle.tally.proofs.Opening.{count-overwrite, rows-overwrite, part-opened}
 use Rattle.tally.proofs.Steps.{add_at, add-between}
 use Rattle.tally.proofs.Fitting.{many-answered, room-answered, good-answered}
+use Rattle.std.specs.Prelude.{Ok, Err, Result}
+use Rattle.tally.specs.declared.add.AddError.{AddError}
+use Rattle.tally.specs.declared.add.AddError.TheVariants as add_errors
 
 -- ---- the answer by cases
 module _ (k : TallyKind) (d : List ℕ) (n : ℕ) (r : TallyRow k) where
@@ -84,7 +86,7 @@ module _ (d : List ℕ) (n rows : ℕ) (r : Row ℕ) (h : length r.name ≤ 6553
     stands = s;
   }
 
-  pub row-added : (e : List ℕ) (a : AddAnswer) → 0 < r.count → AddedAs d e n r a → Answered (told_add a) d e (add_of one d n r)
+  pub row-added : (e : List ℕ) (a : Result ℕ AddError) → 0 < r.count → AddedAs d e n r a → Answered (told_add a) d e (add_of one d n r)
   row-added e a s f = rw (add-some one d n r h i there.l there.is (le-leb 1 r.count s)) (f there.l there.is)
 
 -- ---- rows with one more among them
@@ -117,9 +119,9 @@ module _ (k : TallyKind) where
   parts-size L D R s = tally-size k L ∙ ap (λ (j : ℕ). head_length + j) (ap length (ap (rows_bytes k) s ∙ rows_append k D R) ∙ length-append (rows_bytes k D) (rows_bytes k R))
 
 -- ---- a row added to the tally in the first n bytes of d
-module _ (d : List ℕ) (n rows : ℕ) (r : Row ℕ) (w : AddReady d n rows r) where
+module _ {d : List ℕ} {n rows : ℕ} {r : Row ℕ} (w : AddReady d n rows r) where
   -- what is answered, and what the buffer then holds, where the rows are L
-  abbrev Added : AddAnswer → List ℕ → Rows ones → Type 0
+  abbrev Added : Result ℕ AddError → List ℕ → Rows ones → Type 0
   Added a after L = Answered (told_add a) d after (tallied one (length d) (add_row ones r L))
 
   -- the bytes behind the head
@@ -132,14 +134,19 @@ module _ (d : List ℕ) (n rows : ℕ) (r : Row ℕ) (w : AddReady d n rows r) w
   part-is : part ≡ drop head_length (take n d)
   part-is = cut-is head_length n d w.long w.inside
 
-  -- a place in them
-  pub row-place : (at before : ℕ) → LookedUp part r.name (lookups.Present at before) → at + (length r.name + 10) + head_length ≤ n
-  row-place at before q = omega (arith, q.0, part-size, w.long)
+  module _ (b : Bytes d) where
+    -- what is found there
+    found : {x : Lookup} → x ≡ lookup_of part r.name → LookedUp part r.name x
+    found h = looked-up-told d head_length (n - head_length) r.name b h refl
 
-  pub new-place : (at : ℕ) → LookedUp part r.name (lookups.Absent at) → at + head_length ≤ n
-  new-place at q = omega (arith, q.0, part-size, w.long)
+    -- a place in them
+    pub row-place : {at before : ℕ} → lookups.Present at before ≡ lookup_of part r.name → at + (length r.name + 10) + head_length ≤ n
+    row-place h = omega (arith, (found h).0, part-size, w.long)
 
-  module _ (b : Bytes d) (L : Rows ones) (e : rows_of one (take n d) ≡ some L) where
+    pub new-place : {at : ℕ} → lookups.Absent at ≡ lookup_of part r.name → at + head_length ≤ n
+    new-place h = omega (arith, (found h).0, part-size, w.long)
+
+  module _ (b : Bytes d) {L : Rows ones} (e : rows_of one (take n d) ≡ some L) where
     opens : Opened one (take n d) L
     opens = tally-opened one (take n d) L (bytes_take n d b) e
 
@@ -166,7 +173,10 @@ module _ (d : List ℕ) (n rows : ℕ) (r : Row ℕ) (w : AddReady d n rows r) w
       sizes = sym (length-take-le n d w.inside) ∙ ap length opens.bytes ∙ parts-size one L D R s
 
     -- ---- to the count of its row
-    module _ (at before : ℕ) (q : LookedUp part r.name (lookups.Present at before)) where
+    module _ {at before : ℕ} (there : lookups.Present at before ≡ lookup_of part r.name) where
+      q : LookedUp part r.name (lookups.Present at before)
+      q = found b there
+
       abbrev f : RowPresent r.name at before L
       f = q.1 L holds
 
@@ -178,7 +188,7 @@ module _ (d : List ℕ) (n rows : ℕ) (r : Row ℕ) (w : AddReady d n rows r) w
 
       sum : add_row ones r L ≡ T
       sum =
-          let same : order r.name f.r.name ≡ Same = rw f.name (order-refl r.name) in
+          let same : order r.name f.r.name ≡ Equal = rw f.name (order-refl r.name) in
           let c : r.count + f.r.count ≡ before + r.count = omega (arith, f.counts) in
           let joins : joined ones r f.r ≡ more = λ i. record { name = sym f.name i; count = c i } in
           ap (add_row ones r) f.split ∙ add_at ones r f.r f.D f.R f.below same ∙ ap (λ (y : Row ℕ). f.D ++ y ∷ f.R) joins
@@ -217,21 +227,24 @@ module _ (d : List ℕ) (n rows : ℕ) (r : Row ℕ) (w : AddReady d n rows r) w
           ap₂ (λ (j : ℕ) (y : List ℕ). overwrite j (to_be 8 (before + r.count)) y) place was ∙ count-overwrite A (rest ++ drop n d) f.r (before + r.count)
           ∙ sym (ap (λ (y : List ℕ). y ++ drop n d) bytes ∙ append_assoc A (new ++ rest) (drop n d) ∙ ap (λ (y : List ℕ). A ++ y) (append_assoc new rest (drop n d)))
 
-      pub row-full : max_count - before < r.count → Added answers.TooMany d L
+      pub row-full : max_count < before + r.count → Added (Err add_errors.TooMany) d L
       row-full h =
           rw sum (many-answered one d T
           (and_no (limited one T) (leb (length T) max_rows) (inl (limited-not one f.D f.R more (lt-leb (before + r.count) max_count (omega arith))))))
 
-      pub row-counted : (a : List ℕ) → r.count ≤ max_count - before → before ≤ max_count
-          → a ≡ stored (((at + head_length) + 2) + length r.name) ((u64 {ends = short}).encode (before + r.count)) d → Added (answers.Added n) a L
-      row-counted a h i g =
+      pub row-counted : (a : List ℕ) → before + r.count ≤ max_count
+          → a ≡ stored (((at + head_length) + 2) + length r.name) ((u64 {ends = short}).encode (before + r.count)) d → Added (Ok n) a L
+      row-counted a h g =
           rw sum (good-answered one d T (sum_fits (omega arith)) same_size w.inside
-          ((put-number (((at + head_length) + 2) + length r.name) 8 (before + r.count) (omega (arith, row-place at before q, w.inside)) g).overwrites ∙ sum-overwrite))
+          ((put-number (((at + head_length) + 2) + length r.name) 8 (before + r.count) (omega (arith, row-place b there, w.inside)) g).overwrites ∙ sum-overwrite))
 
     -- ---- as a row of its own
-    module _ (at : ℕ) (q : LookedUp part r.name (lookups.Absent at)) where
+    module _ {at : ℕ} (there : lookups.Absent at ≡ lookup_of part r.name) where
+      free : LookedUp part r.name (lookups.Absent at)
+      free = found b there
+
       abbrev g : RowAbsent r.name at L
-      g = q.1 L holds
+      g = free.1 L holds
 
       abbrev U : Rows ones
       U = g.D ++ r ∷ g.R
@@ -281,10 +294,10 @@ module _ (d : List ℕ) (n rows : ℕ) (r : Row ℕ) (w : AddReady d n rows r) w
           ap (λ (y : List ℕ). y ++ z) (tally-parts one U g.D (r ∷ g.R) refl ∙ ap (λ (m : ℕ). (head_bytes one m ++ D) ++ (row ++ R)) new-rows)
           ∙ append_assoc (head ++ D) (row ++ R) z ∙ append_assoc head D ((row ++ R) ++ z) ∙ ap (λ (y : List ℕ). head ++ (D ++ y)) (append_assoc row R z)
 
-      pub new-many : rows ≡ max_rows → Added answers.TooMany d L
+      pub new-many : max_rows ≤ rows → Added (Err add_errors.TooMany) d L
       new-many h = rw new-sum (many-answered one d U (and_no (limited one U) (leb (length U) max_rows) (inr (lt-leb (length U) max_rows (omega (arith, new-rows))))))
 
-      pub new-full : rows < max_rows → r.count ≤ max_count → length d - n < length r.name + 10 → Added answers.NoRoom d L
+      pub new-full : rows < max_rows → r.count ≤ max_count → length d - n < length r.name + 10 → Added (Err add_errors.NoRoom) d L
       new-full h c l = rw new-sum (room-answered one d U (new-fits h c) (omega (arith, new-size, w.inside)))
 
       module _ (room : n + (length r.name + 10) ≤ length d) (ys : List ℕ) (o : ys ≡ row_inserted (n - (at + head_length)) r (take (length d - (at + head_length)) (drop (at + head_length) d))) where
@@ -294,11 +307,11 @@ module _ (d : List ℕ) (n rows : ℕ) (r : Row ℕ) (w : AddReady d n rows r) w
         now-is : now-there ≡ head_bytes one (length L) ++ behind
         now-is =
             let z = drop (n + (length r.name + 10)) d in
-            part-opened d (at + head_length) n r ys (new-place at q) room o ∙ ap₂ (λ (x y : List ℕ). x ++ ((fields one).encode r ++ (y ++ z))) front-is behind-is
+            part-opened d (at + head_length) n r ys (new-place b there) room o ∙ ap₂ (λ (x y : List ℕ). x ++ ((fields one).encode r ++ (y ++ z))) front-is behind-is
             ∙ append_assoc (head_bytes one (length L)) (rows_bytes one g.D) ((fields one).encode r ++ (rows_bytes one g.R ++ z))
 
         pub new-added : (a : List ℕ) → rows < max_rows → r.count ≤ max_count → a ≡ stored 5 ((u32 {ends = short}).encode (rows + 1)) now-there
-            → Added (answers.Added (n + (length r.name + 10))) a L
+            → Added (Ok (n + (length r.name + 10))) a L
         new-added a h c p =
             let number = (u32 {ends = short}).encode (rows + 1) in
             let head : 5 + 4 ≤ length (head_bytes one (length L) ++ behind) = omega (arith, length-append (head_bytes one (length L)) behind, head-size one (length L)) in

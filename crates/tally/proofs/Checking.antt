@@ -11,8 +11,6 @@ use lib.Dec.{eqb}
 use lib.ListN.{length, take, drop, length-drop}
 use borrow.Author.Tests.{eq-eqb, ne_eqb, eqb-true, eqb-false}
 use Rattle.wire.proofs.Tests.{yes_and, and_no}
-use Rattle.wire.specs.Order.{order, choose}
-use Rattle.wire.specs.declared.order.Order.{Order}
 use Rattle.wire.specs.Read.{Read, done, refused, to_option, to_option-done}
 use Rattle.wire.specs.Format.{items, read_items}
 use Rattle.wire.proofs.Joints.{refine-done, refine-passes}
@@ -21,13 +19,11 @@ use Rattle.tally.specs.Rows.{Row, Rows}
 use Rattle.tally.specs.Tally.{Malformed, malformed, rises, fields, may_stand, row, ones, one}
 use Rattle.tally.specs.Told.{told_row}
 use Rattle.tally.specs.Walks.{may_follow, is_some, takes}
-use Rattle.tally.specs.declared.rows.RowRead.TheVariants as rows
 use Rattle.tally.proofs.Held.{row_inside}
-use Rattle.tally.proofs.FrontRows.{row-refused, row-good, row-bad}
-
--- a name after the last one
-pub follow-by : (first : Bool) (last name : List ℕ) {o p : Order} → first ≡ false → o ≡ order last name → o ≡ p → choose p true false false ≡ may_follow first last name
-follow-by first last name e f g = rw (e, ← f, g)
+use Rattle.wire.proofs.Lists.{rest-is}
+use Rattle.tally.proofs.FrontRows.{name-part, row-refused, row-good, row-bad}
+use Rattle.std.specs.Prelude.{Some, None, Option as Optional}
+use Rattle.std.specs.Borrow.{Bor}
 
 -- ---- a row after those seen, by the same row judged alone
 module _ (seen : Rows ones) (s : List ℕ) where
@@ -54,46 +50,50 @@ module _ (seen : Rows ones) (s : List ℕ) where
   no-row-follows h = no-row-by ((fields one).read s) refl h
 
 -- ---- so many rows
-pub record Checking (count : ℕ) (s rest last : List ℕ) (first : Bool) (left : ℕ) : Type 0 where
+pub record Checking (count : ℕ) (s rest : List ℕ) (last : Optional (Bor (List ℕ))) (left : ℕ) : Type 0 where
   pub pre : Rows ones
   pub seen : Rows ones
   pub at : ℕ
   pub reads : after pre at (read_items (row one) left seen rest) ≡ (items (row one) count).read s
   pub size : at + length rest ≡ length s
-  pub follows : (n : List ℕ) → may_follow first last n ≡ rises seen n
+  pub follows : (n : List ℕ) → may_follow last n ≡ rises seen n
 
-pub checking-start : (count : ℕ) (s last : List ℕ) → Checking count s s last true count
-checking-start count s last = record { pre = []; seen = []; at = 0; reads = items-start (row one) count s; size = zero-add (length s); follows = λ n. refl }
+pub checking-start : (count : ℕ) (s : List ℕ) {left : ℕ} → left ≡ count → Checking count s s None left
+checking-start count s e = record { pre = []; seen = []; at = 0; reads = rw e (items-start (row one) count s); size = zero-add (length s); follows = λ n. refl }
 
-module _ {count : ℕ} {s rest last : List ℕ} {first : Bool} {left : ℕ} (k : Checking count s rest last first left) where
+module _ {count : ℕ} {s rest : List ℕ} {last : Optional (Bor (List ℕ))} {left : ℕ} (k : Checking count s rest last left) where
   none-taken : {e : Malformed} {p : ℕ} → (items (row one) count).read s ≡ refused e p → false ≡ takes (items (row one) count) s
   none-taken h = rw h
 
   module _ (more : 0 < left) where
-    pub checking-none : told_row rest rows.Malformed ≡ to_option ((row one []).read rest) → false ≡ takes (items (row one) count) s
+    pub checking-none : told_row rest None ≡ to_option ((row one []).read rest) → false ≡ takes (items (row one) count) s
     checking-none h =
         let x = no-row-follows k.seen rest h in
         none-taken (sym k.reads ∙ items_refused (row one) left k.pre k.seen k.at rest more x.2)
 
-    module _ (n c : ℕ) (h : told_row rest (rows.Row n c) ≡ to_option ((row one []).read rest)) where
+    module _ (n c : ℕ) (h : told_row rest (Some (n, c)) ≡ to_option ((row one []).read rest)) where
       read : (row one []).read rest ≡ done (record { name = take n (drop 2 rest); count = c }) (n + 10)
       read = to_option-done ((row one []).read rest) h
 
-      pub checking-falls : may_follow first last (take n (drop 2 rest)) ≡ false → false ≡ takes (items (row one) count) s
-      checking-falls e =
-          none-taken (sym k.reads ∙ items_refused (row one) left k.pre k.seen k.at rest more (row-falls k.seen rest read (sym (k.follows (take n (drop 2 rest))) ∙ e)))
+      -- the code compares a part
+      named : {b v : Bool} → b ≡ may_follow last (take (n + 2 - 2) (drop 2 rest)) → b ≡ v → rises k.seen (take n (drop 2 rest)) ≡ v
+      named f g = sym (k.follows (take n (drop 2 rest))) ∙ ap (may_follow last) (sym (name-part n rest)) ∙ sym f ∙ g
 
-      pub checking-on : {r l : List ℕ} → r ≡ drop (n + 10) rest → l ≡ take n (drop 2 rest) → may_follow first last (take n (drop 2 rest)) ≡ true
-          → Checking count s r l false (left - 1)
-      checking-on f g e =
+      pub checking-falls : {b : Bool} → b ≡ may_follow last (take (n + 2 - 2) (drop 2 rest)) → b ≡ false → false ≡ takes (items (row one) count) s
+      checking-falls f g =
+          none-taken (sym k.reads ∙ items_refused (row one) left k.pre k.seen k.at rest more (row-falls k.seen rest read (named f g)))
+
+      pub checking-on : {b : Bool} {name : Bor (List ℕ)} {fewer : ℕ} → b ≡ may_follow last (take (n + 2 - 2) (drop 2 rest)) → b ≡ true
+          → name.now ≡ take (n + 2 - 2) (drop 2 rest) → fewer ≡ left - 1 → Checking count s (take (length rest - (n + 10)) (drop (n + 10) rest)) (Some name) fewer
+      checking-on f g e z =
           let r : Row ℕ = record { name = take n (drop 2 rest); count = c } in
           record {
             pre = k.pre ++ r ∷ [];
             seen = r ∷ k.seen;
             at = k.at + (n + 10);
-            reads = rw f (sym (items-on (row one) left k.pre k.seen k.at rest more (row-follows k.seen rest read (sym (k.follows (take n (drop 2 rest))) ∙ e))) ∙ k.reads);
-            size = rw (f, length-drop) (omega (arith, k.size, row_inside rest n c h));
-            follows = λ m. rw g;
+            reads = rw (z, rest-is (n + 10) rest) (sym (items-on (row one) left k.pre k.seen k.at rest more (row-follows k.seen rest read (named f g))) ∙ k.reads);
+            size = rw (rest-is (n + 10) rest, length-drop) (omega (arith, k.size, row_inside rest n c h));
+            follows = λ m. rw (e ∙ name-part n rest);
           }
 
   pub checking-end : left ≤ 0 → eqb (length rest) 0 ≡ takes (items (row one) count) s

@@ -1,7 +1,7 @@
 -- What checking answers, and what its answer says of the bytes.
 use Prim.Native.Nat.{ℕ, ◌≤◌}
 use mathlib.Core.Path.{◌≡◌, refl, ap, sym}
-use mathlib.Core.Bool.{true, false}
+use mathlib.Core.Bool.{Bool, true, false}
 use mathlib.Core.List.{List, []}
 use mathlib.Core.Option.{Option, some, none}
 use lib.ListN.{length, drop}
@@ -14,7 +14,9 @@ use Rattle.wire.specs.Format.{items, items-length}
 use Rattle.wire.specs.Formats.{head_length}
 use Rattle.tally.specs.Tally.{TallyKind, TallyRows, whole, row, rows_of, one}
 use Rattle.tally.specs.Operations.{with_rows, check_of, row_bytes_of}
+use Rattle.tally.specs.Told.{told_check}
 use Rattle.tally.specs.Walks.{is_some, takes}
+use Rattle.std.specs.Bool.{then_some}
 use Rattle.tally.proofs.Held.{opened, whole-some}
 
 -- ---- the answer, by what the head states
@@ -30,15 +32,19 @@ module _ (t : List ℕ) (n : ℕ) (b : Bytes t) (h : rows_of one t ≡ whole (dr
       ap good (sym (items-length (row one) n [] l r.ok))
   counted none e g = no_true g
 
-  pub check-good : takes (items (row one) n) (drop head_length t) ≡ true → good n ≡ check_of one t
+  check-good : takes (items (row one) n) (drop head_length t) ≡ true → good n ≡ check_of one t
   check-good g = rw h (counted (whole (drop head_length t) ((items (row one) n).read (drop head_length t))) refl g)
 
   uncounted : (r : Option (TallyRows one)) → is_some r ≡ false → plain tally_malformed ≡ with_rows r λ l. good (length l)
   uncounted (some l) g = no_false g
   uncounted none g = refl
 
-  pub check-bad : takes (items (row one) n) (drop head_length t) ≡ false → plain tally_malformed ≡ check_of one t
+  check-bad : takes (items (row one) n) (drop head_length t) ≡ false → plain tally_malformed ≡ check_of one t
   check-bad g = rw h (uncounted (whole (drop head_length t) ((items (row one) n).read (drop head_length t))) g)
+
+  pub check-taken : (g : Bool) → g ≡ takes (items (row one) n) (drop head_length t) → told_check (then_some g n) ≡ check_of one t
+  check-taken true e = check-good (sym e)
+  check-taken false e = check-bad (sym e)
 
 -- ---- what it says
 pub record Checked (k : TallyKind) (t : List ℕ) (n : ℕ) : Type 0 where

@@ -14,8 +14,8 @@ use Rattle.wire.proofs.Answers.{room-short, room-put}
 use Rattle.wire.proofs.Tests.{and_yes, yes_and}
 use Rattle.wire.specs.Order.{order, choose}
 use Rattle.wire.proofs.TotalOrder.{order_same}
-use Rattle.wire.specs.declared.order.Order.{Order}
-use Rattle.wire.specs.declared.order.Order.TheVariants.{Before, Same, After}
+use Rattle.std.specs.declared.cmp.Ordering.{Ordering}
+use Rattle.std.specs.declared.cmp.Ordering.TheVariants.{Less, Equal, Greater}
 use Rattle.tally.specs.Rows.{joined, add_row, plus, Canonical}
 use Rattle.tally.specs.Tally.{TallyKind, TallyRow, TallyRows, fields, tally, rows_of, limited, countable, max_rows}
 use Rattle.tally.specs.Operations.{tallied, merge_of}
@@ -100,7 +100,7 @@ module _ (k : TallyKind) where
     size = rw (length-append ((fields k).encode s) (rows_bytes k l), length-append ((fields k).encode s) (rows_bytes k m)) (omega (arith, w.size));
   }
 
-  within-joined : (r s : TallyRow k) (l : TallyRows k) → order r.name s.name ≡ Same → Within (s ∷ l) (joined k.counts r s ∷ l)
+  within-joined : (r s : TallyRow k) (l : TallyRows k) → order r.name s.name ≡ Equal → Within (s ∷ l) (joined k.counts r s ∷ l)
   within-joined r s l e = record {
     limit = λ h. let p = and_yes _ _ h in yes_and (k.limit-part _ _ p.0) p.1;
     rows = omega arith;
@@ -117,11 +117,11 @@ module _ (k : TallyKind) where
   within-add r [] = within-front r []
   within-add r (s ∷ l) = go (order r.name s.name) refl (within-add r l)
     where
-      go : (w : Order) → order r.name s.name ≡ w → Within l (add_row k.counts r l)
+      go : (w : Ordering) → order r.name s.name ≡ w → Within l (add_row k.counts r l)
           → Within (s ∷ l) (choose w (r ∷ s ∷ l) (joined k.counts r s ∷ l) (s ∷ add_row k.counts r l))
-      go Before e ih = within-front r (s ∷ l)
-      go Same e ih = within-joined r s l e
-      go After e ih = within-cons s l (add_row k.counts r l) ih
+      go Less e ih = within-front r (s ∷ l)
+      go Equal e ih = within-joined r s l e
+      go Greater e ih = within-cons s l (add_row k.counts r l) ih
 
   fits-within : (room : ℕ) (l m : TallyRows k) → Within l m → Fits k room m → Fits k room l
   fits-within room l m w h =

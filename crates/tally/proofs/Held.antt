@@ -22,9 +22,9 @@ use Rattle.tally.specs.Tally.{Malformed, malformed, TallyKind, TallyRow, TallyRo
 use Rattle.tally.specs.Told.{told_row}
 use Rattle.tally.specs.Walks.{rows_bytes, Holds}
 use Rattle.tally.proofs.Canon.{above-weak}
-use Rattle.tally.specs.declared.rows.RowRead.TheVariants as rows
-use Rattle.wire.specs.declared.order.Order.{Order}
-use Rattle.wire.specs.declared.order.Order.TheVariants.{Before, Same, After}
+use Rattle.std.specs.declared.cmp.Ordering.{Ordering}
+use Rattle.std.specs.declared.cmp.Ordering.TheVariants.{Less, Equal, Greater}
+use Rattle.std.specs.Prelude.{Some, None}
 
 -- ---- what reading found
 pub whole-some : {A : Type 0} (s : List ℕ) (r : Read Malformed A) (a : A) → whole s r ≡ some a → r ≡ done a (length s)
@@ -35,10 +35,10 @@ whole-some {A} s (done b m) a h = go (eqb m (length s)) refl h
     go false e g = absurd (none-ne-some a g)
 whole-some s (refused e p) a h = absurd (none-ne-some a h)
 
-pub before-yes : (o : Order) → choose o true false false ≡ true → o ≡ Before
-before-yes Before e = refl
-before-yes Same e = no_true e
-before-yes After e = no_true e
+pub before-yes : (o : Ordering) → choose o true false false ≡ true → o ≡ Less
+before-yes Less e = refl
+before-yes Equal e = no_true e
+before-yes Greater e = no_true e
 
 mark-bytes : Bytes tally_mark
 mark-bytes = bytes-cons 84 (76 ∷ 89 ∷ []) (lit< tt) (bytes-cons 76 (89 ∷ []) (lit< tt) (bytes-cons 89 [] (lit< tt) bytes-nil))
@@ -94,7 +94,7 @@ module _ (k : TallyKind) where
 
   rises-on : (seen : TallyRows k) (r : TallyRow k) (l : TallyRows k) → Follows seen (r ∷ l) → rises seen r.name ≡ true
   rises-on [] r l h = refl
-  rises-on (s ∷ seen) r l h = ap (λ (o : Order). choose o true false false) h.0
+  rises-on (s ∷ seen) r l h = ap (λ (o : Ordering). choose o true false false) h.0
 
   fields-ok : (r : TallyRow k) → ((fields k).Ok r → Bytes r.name × (k.limit r.count ≡ true))
   unfolding fields iso ◌⨾◌ prefixed
@@ -237,10 +237,10 @@ pub record FirstRow (s : List ℕ) (n c : ℕ) (L : Rows ones) : Type 0 where
   pub limit : limited one (r ∷ R) ≡ true
 
 -- a row that was read lies in the bytes
-pub row_inside : (s : List ℕ) (n c : ℕ) → told_row s (rows.Row n c) ≡ to_option ((row one []).read s) → n + 10 ≤ length s
+pub row_inside : (s : List ℕ) (n c : ℕ) → told_row s (Some (n, c)) ≡ to_option ((row one []).read s) → n + 10 ≤ length s
 row_inside s n c h = ends-in (row one []) (to_option-done ((row one []).read s) h)
 
-pub first-row : (s : List ℕ) (n c : ℕ) (L : Rows ones) → told_row s (rows.Row n c) ≡ to_option ((row one []).read s) → Holds one s L → FirstRow s n c L
+pub first-row : (s : List ℕ) (n c : ℕ) (L : Rows ones) → told_row s (Some (n, c)) ≡ to_option ((row one []).read s) → Holds one s L → FirstRow s n c L
 first-row s n c [] h k = let z : length s ≡ 0 = ap length k.bytes in absurd (omega (arith, row_inside s n c h))
 first-row s n c (r ∷ R) h k =
     let name = (prefixed {ends = malformed} 2).encode r.name in
@@ -263,6 +263,6 @@ first-row s n c (r ∷ R) h k =
     }
 
 -- where no row was read, there is none
-pub no_row : (s : List ℕ) (L : Rows ones) → told_row s rows.Malformed ≡ to_option ((row one []).read s) → Holds one s L → L ≡ []
+pub no_row : (s : List ℕ) (L : Rows ones) → told_row s None ≡ to_option ((row one []).read s) → Holds one s L → L ≡ []
 no_row s [] h k = refl
 no_row s (r ∷ R) h k = absurd (none-ne-some _ (h ∙ holds-front one s r R k))

@@ -1,5 +1,5 @@
 -- A name looked up among rows, from the first on: what the search finds in bytes that hold rows, and what the code knows on its way.
-use Prim.Native.Nat.{ℕ, zero, suc, ◌+◌, ◌-◌, ◌<◌, ◌≤◌}
+use Prim.Native.Nat.{ℕ, zero, suc, ◌+◌, ◌-◌, ◌≤◌}
 use mathlib.Core.Path.{◌≡◌, refl, sym, ap, ap₂, subst, ◌∙◌}
 use mathlib.Core.List.{List, [], ◌∷◌, ◌++◌, append_assoc}
 use mathlib.Core.Option.{some, some-injective}
@@ -11,8 +11,8 @@ use Rattle.wire.proofs.Lists.{rest-is}
 use Rattle.wire.specs.Bytes.{Bytes, to_be, to_be-length, bytes_take, bytes_drop}
 use Rattle.wire.specs.Order.{order, choose}
 use Rattle.wire.proofs.TotalOrder.{flip, order_same, order_flip}
-use Rattle.wire.specs.declared.order.Order.{Order}
-use Rattle.wire.specs.declared.order.Order.TheVariants.{Before, Same, After}
+use Rattle.std.specs.declared.cmp.Ordering.{Ordering}
+use Rattle.std.specs.declared.cmp.Ordering.TheVariants.{Less, Equal, Greater}
 use Rattle.tally.specs.Rows.{Row, Rows, Above}
 use Rattle.wire.specs.Read.{Read, done, refused, Misread, at_place, to_option, to_option-done, to_option-none}
 use Rattle.wire.specs.Walk.{row_then, rows_read}
@@ -20,12 +20,12 @@ use Rattle.tally.specs.Tally.{Malformed, fields, row, ones, one}
 use Rattle.tally.specs.Told.{told_row}
 use Rattle.tally.specs.Walks.{rows_bytes, Holds}
 use Rattle.tally.specs.LookedUp.{lookup_in, lookup_of, Below, LookedUp}
-use Rattle.tally.specs.declared.rows.RowRead.TheVariants as rows
 use Rattle.tally.specs.declared.lookup.Lookup.{Lookup}
 use Rattle.tally.specs.declared.lookup.Lookup.TheVariants as lookups
 use Rattle.tally.proofs.Canon.{above-weak}
 use Rattle.tally.proofs.Held.{row-bytes, name-bytes, item-bytes, rows_append, FirstRow, row_inside, first-row, no_row, one_size}
 use Rattle.tally.proofs.FrontRows.{name-part}
+use Rattle.std.specs.Prelude.{Some, None}
 
 -- ---- bytes up to a place, from another on
 pub cut-is : (at n : ℕ) (t : List ℕ) → at ≤ n → n ≤ length t → take (n - at) (drop at t) ≡ drop at (take n t)
@@ -38,15 +38,12 @@ pub cut-size : (at n : ℕ) (t : List ℕ) → n ≤ length t → length (take (
 cut-size at n t k = length-take-le (n - at) (drop at t) (rw length-drop (omega arith))
 
 -- ---- a row with n bytes of name stands at the front of the rest of some bytes, which begins at a place
-name-order : (name rest : List ℕ) (n : ℕ) {o : Order} → o ≡ order (take ((n + 2) - 2) (drop 2 rest)) name → order (take n (drop 2 rest)) name ≡ o
+name-order : (name rest : List ℕ) (n : ℕ) {o : Ordering} → o ≡ order (take ((n + 2) - 2) (drop 2 rest)) name → order (take n (drop 2 rest)) name ≡ o
 name-order name rest n k = ap (λ (m : List ℕ). order m name) (sym (name-part n rest)) ∙ sym k
 
-module _ (rest : List ℕ) (n c : ℕ) (e : told_row rest (rows.Row n c) ≡ to_option ((row one []).read rest)) where
+module _ (rest : List ℕ) (n c : ℕ) (e : told_row rest (Some (n, c)) ≡ to_option ((row one []).read rest)) where
   name-long : length (take n (drop 2 rest)) ≡ n
   name-long = length-take-le n (drop 2 rest) (rw length-drop (omega (arith, row_inside rest n c e)))
-
-  pub rest-less : length (take (length rest - (n + 10)) (drop (n + 10) rest)) < length rest
-  rest-less = rw (rest-is (n + 10) rest, length-drop) (omega (arith, row_inside rest n c e))
 
   module _ (s : List ℕ) (at : ℕ) (h : at + length rest ≡ length s) where
     pub row_ends : at + (n + 10) ≤ length s
@@ -89,22 +86,22 @@ module _ {s name rest : List ℕ} {at : ℕ} (w : LookingUp s name rest at) wher
   )
 
   -- the rows end
-  pub looking-up-end : told_row rest rows.Malformed ≡ to_option ((row one []).read rest) → LookedUp s name (lookups.Absent at)
+  pub looking-up-end : told_row rest None ≡ to_option ((row one []).read rest) → LookedUp s name (lookups.Absent at)
   looking-up-end e = place_at (λ L h. rw (no_row rest (w.passed L h).R e (w.passed L h).left) tt)
 
   -- a row of n bytes of name stands there
-  module _ (n c : ℕ) (e : told_row rest (rows.Row n c) ≡ to_option ((row one []).read rest)) where
+  module _ (n c : ℕ) (e : told_row rest (Some (n, c)) ≡ to_option ((row one []).read rest)) where
     first : (L : Rows ones) (h : Holds one s L) → FirstRow rest n c (w.passed L h).R
     first L h = first-row rest n c (w.passed L h).R e (w.passed L h).left
 
-    module _ {o : Order} (k : o ≡ order (take ((n + 2) - 2) (drop 2 rest)) name) where
+    module _ {o : Ordering} (k : o ≡ order (take ((n + 2) - 2) (drop 2 rest)) name) where
       named : order (take n (drop 2 rest)) name ≡ o
       named = name-order name rest n k
 
       stands : (L : Rows ones) (h : Holds one s L) → order (first L h).r.name name ≡ o
       stands L h = ap (λ (m : List ℕ). order m name) (sym (first L h).name) ∙ named
 
-    pub looking-up-on : Before ≡ order (take ((n + 2) - 2) (drop 2 rest)) name → LookingUp s name (take (length rest - (n + 10)) (drop (n + 10) rest)) (at + (n + 10))
+    pub looking-up-on : Less ≡ order (take ((n + 2) - 2) (drop 2 rest)) name → LookingUp s name (take (length rest - (n + 10)) (drop (n + 10) rest)) (at + (n + 10))
     looking-up-on k = rw (rest-is (n + 10) rest) record {
       size = rest-ends rest n c e s at w.size;
       passed = λ L h.
@@ -120,7 +117,7 @@ module _ {s name rest : List ℕ} {at : ℕ} (w : LookingUp s name rest at) wher
           };
     }
 
-    pub looking-up-row : Same ≡ order (take ((n + 2) - 2) (drop 2 rest)) name → LookedUp s name (lookups.Present at c)
+    pub looking-up-row : Equal ≡ order (take ((n + 2) - 2) (drop 2 rest)) name → LookedUp s name (lookups.Present at c)
     looking-up-row k =
         let long : length name ≡ n = ap length (sym (order_same (take n (drop 2 rest)) name (named k))) ∙ name-long rest n c e in (
           omega (arith, long, row_ends rest n c e s at w.size),
@@ -139,10 +136,10 @@ module _ {s name rest : List ℕ} {at : ℕ} (w : LookingUp s name rest at) wher
               },
         )
 
-    pub looking-up-over : After ≡ order (take ((n + 2) - 2) (drop 2 rest)) name → LookedUp s name (lookups.Absent at)
+    pub looking-up-over : Greater ≡ order (take ((n + 2) - 2) (drop 2 rest)) name → LookedUp s name (lookups.Absent at)
     looking-up-over k = place_at (λ L h.
         let f = first L h in
-        let v : order name f.r.name ≡ Before = order_flip f.r.name name ∙ ap flip (stands k L h) in
+        let v : order name f.r.name ≡ Less = order_flip f.r.name name ∙ ap flip (stands k L h) in
         rw f.split (v, above-weak ones name f.r.name f.R v f.canonical.3))
 
 -- ---- the bytes of a row
@@ -150,7 +147,7 @@ row-encodes : (r : Row ℕ) → (row one []).encode r ≡ (to_be 2 (length r.nam
 row-encodes r = item-bytes one [] r ∙ row-bytes one r ∙ ap (λ (l : List ℕ). l ++ one.count.encode r.count) (name-bytes one r.name)
 
 -- ---- a row that was read, by the length of its name and its count
-row-shape : (s : List ℕ) (r : Row ℕ) (m : ℕ) → Bytes s → (row one []).read s ≡ done r m → told_row s (rows.Row (length r.name) r.count) ≡ to_option ((row one []).read s)
+row-shape : (s : List ℕ) (r : Row ℕ) (m : ℕ) → Bytes s → (row one []).read s ≡ done r m → told_row s (Some ((length r.name), r.count)) ≡ to_option ((row one []).read s)
 row-shape s r m b h =
     let t = (row one []).backward s r m b h in
     let bytes : s ≡ to_be 2 (length r.name) ++ (r.name ++ (one.count.encode r.count ++ drop m s)) =
@@ -177,7 +174,7 @@ module _ (s name : List ℕ) where
       by_row (done r m) e = absurd (omega (arith, row_inside rest (length r.name) r.count (row-shape rest r m b e)))
   finds (suc k) rest at w h b = by_row (finds k) ((row one []).read rest) refl
     where
-      by_order : Finds k → (r : Row ℕ) (m : ℕ) → (row one []).read rest ≡ done r m → (o : Order) → order r.name name ≡ o
+      by_order : Finds k → (r : Row ℕ) (m : ℕ) → (row one []).read rest ≡ done r m → (o : Ordering) → order r.name name ≡ o
           → LookedUp s name (choose o (lookup_in name (at + (length r.name + 10)) (rows_read (row one []).read k (drop m rest))) (lookups.Present at r.count) (lookups.Absent at))
       by_order next r m e o q =
           let told = row-shape rest r m b e in
@@ -188,15 +185,15 @@ module _ (s name : List ℕ) where
           let size : n + 10 ≡ m = ap (λ (x : Row ℕ × ℕ). x.1) same in
           by-case o named size
         where
-          by-case : (o : Order) → o ≡ order (take ((length r.name + 2) - 2) (drop 2 rest)) name → length r.name + 10 ≡ m
+          by-case : (o : Ordering) → o ≡ order (take ((length r.name + 2) - 2) (drop 2 rest)) name → length r.name + 10 ≡ m
               → LookedUp s name (choose o (lookup_in name (at + (length r.name + 10)) (rows_read (row one []).read k (drop m rest))) (lookups.Present at r.count) (lookups.Absent at))
-          by-case Before v z =
+          by-case Less v z =
               let told = row-shape rest r m b e in
               let on = rw (rest-is (length r.name + 10) rest, z) at (looking-up-on w (length r.name) r.count told v) in
               let less : length (drop m rest) ≤ k = rw length-drop (omega (arith, row_inside rest (length r.name) r.count told)) in
               rw z (next (drop m rest) (at + m) on less (bytes_drop m rest b))
-          by-case Same v z = looking-up-row w (length r.name) r.count (row-shape rest r m b e) v
-          by-case After v z = looking-up-over w (length r.name) r.count (row-shape rest r m b e) v
+          by-case Equal v z = looking-up-row w (length r.name) r.count (row-shape rest r m b e) v
+          by-case Greater v z = looking-up-over w (length r.name) r.count (row-shape rest r m b e) v
 
       by_row : Finds k → (x : Read Malformed (Row ℕ)) → (row one []).read rest ≡ x
           → LookedUp s name (lookup_in name at (row_then x (λ n. rows_read (row one []).read k (drop n rest))))
@@ -217,11 +214,8 @@ pub record LooksUp (s name rest : List ℕ) (at : ℕ) : Type 0 where
   pub enough : length rest ≤ bound
   pub same : lookup_in name at (rows_read (row one []).read bound rest) ≡ lookup_of s name
 
-pub looks-up-start : (s name : List ℕ) → LooksUp s name s 0
-looks-up-start s name = record { bound = length s; size = zero-add (length s); enough = omega arith; same = refl }
-
 module _ {s name rest : List ℕ} {at : ℕ} (w : LooksUp s name rest at) where
-  pub looks-up-end : told_row rest rows.Malformed ≡ to_option ((row one []).read rest) → lookups.Absent at ≡ lookup_of s name
+  pub looks-up-end : told_row rest None ≡ to_option ((row one []).read rest) → lookups.Absent at ≡ lookup_of s name
   unfolding lookup_in rows_read
   looks-up-end e = ap (lookup_in name at) (sym (none-there (to_option-none ((row one []).read rest) e) w.bound)) ∙ w.same
     where
@@ -229,7 +223,7 @@ module _ {s name rest : List ℕ} {at : ℕ} (w : LooksUp s name rest at) where
       none-there m zero = refl
       none-there (at_place p q) (suc k) = ap (λ (x : Read Malformed (Row ℕ)). row_then x (λ n. rows_read (row one []).read k (drop n rest))) q
 
-  module _ (n c : ℕ) (e : told_row rest (rows.Row n c) ≡ to_option ((row one []).read rest)) where
+  module _ (n c : ℕ) (e : told_row rest (Some (n, c)) ≡ to_option ((row one []).read rest)) where
     abbrev here : Row ℕ
     here = record { name = take n (drop 2 rest); count = c }
 
@@ -251,7 +245,7 @@ module _ {s name rest : List ℕ} {at : ℕ} (w : LooksUp s name rest at) where
           is = ap (λ (x : Read Malformed (Row ℕ)). lookup_in name at (row_then x (λ m. rows_read (row one []).read k (drop m rest)))) (sym (to_option-done ((row one []).read rest) e)) ∙ g;
         }
 
-    pub looks-up-on : Before ≡ order (take ((n + 2) - 2) (drop 2 rest)) name → LooksUp s name (take (length rest - (n + 10)) (drop (n + 10) rest)) (at + (n + 10))
+    pub looks-up-on : Less ≡ order (take ((n + 2) - 2) (drop 2 rest)) name → LooksUp s name (take (length rest - (n + 10)) (drop (n + 10) rest)) (at + (n + 10))
     unfolding lookup_in
     looks-up-on k = rw (rest-is (n + 10) rest) record {
       bound = first-is.more;
@@ -260,10 +254,10 @@ module _ {s name rest : List ℕ} {at : ℕ} (w : LooksUp s name rest at) where
       same = rw (name-order name rest n k, name-long rest n c e) at first-is.is;
     }
 
-    pub looks-up-row : Same ≡ order (take ((n + 2) - 2) (drop 2 rest)) name → lookups.Present at c ≡ lookup_of s name
+    pub looks-up-row : Equal ≡ order (take ((n + 2) - 2) (drop 2 rest)) name → lookups.Present at c ≡ lookup_of s name
     unfolding lookup_in
     looks-up-row k = rw (name-order name rest n k) at first-is.is
 
-    pub looks-up-over : After ≡ order (take ((n + 2) - 2) (drop 2 rest)) name → lookups.Absent at ≡ lookup_of s name
+    pub looks-up-over : Greater ≡ order (take ((n + 2) - 2) (drop 2 rest)) name → lookups.Absent at ≡ lookup_of s name
     unfolding lookup_in
     looks-up-over k = rw (name-order name rest n k) at first-is.is

@@ -1,6 +1,6 @@
 -- Measuring a sum: how many rows it has and how long they are, counted from the front of both lists.
 use Prim.Native.Nat.{ℕ, ◌+◌, ◌-◌, ◌≤◌}
-use mathlib.Core.Path.{◌≡◌, ap, ◌∙◌}
+use mathlib.Core.Path.{◌≡◌, ap, subst, ◌∙◌}
 use mathlib.Core.List.{List, []}
 use native.Mathlib.Nat.{zero-add}
 use native.Mathlib.Omega.{arith}
@@ -9,10 +9,14 @@ use Rattle.wire.proofs.Lists.{rest-is}
 use Rattle.tally.specs.Rows.{Rows, plus}
 use Rattle.tally.specs.Tally.{fields, limited, max_count, ones, one}
 use Rattle.tally.specs.Walks.{rows_bytes, Holds}
-use Rattle.tally.specs.Sums.{SumRowInside, SumRowIs, MeasuredAs}
-use Rattle.tally.specs.declared.merge.SumRow.TheVariants as sum_rows
-use Rattle.tally.specs.declared.merge.Measured.TheVariants as measures
-use Rattle.tally.proofs.SumRows.{left-on, left-room, Rest, rest-start, rest-on, rest-bytes}
+use Rattle.tally.specs.Sums.{SumRowIs, MeasuredAs}
+use Rattle.tally.specs.declared.merge.SumRow.{SumRow}
+use Rattle.tally.specs.declared.merge.TooMany.{TooMany}
+use Rattle.std.specs.Prelude.{Option, Some, None, Result, Ok, Err}
+use Rattle.std.specs.Result.{IsErr}
+use Rattle.wire.specs.Choice.{no_true}
+use Rattle.tally.specs.declared.merge.SumSize.{SumSize}
+use Rattle.tally.proofs.SumRows.{left-on, Rest, rest-start, rest-on, rest-bytes}
 
 -- what is counted, and the rows that are left
 pub record Run (x y : List ℕ) (rows size : ℕ) (A B : Rows ones) : Type 0 where
@@ -33,14 +37,11 @@ measuring-start a b = record {
 }
 
 module _ {a b x y : List ℕ} {rows size : ℕ} (m : Measuring a b x y rows size) where
-  -- the sum is no longer than both
-  pub measuring-room : {first second n : ℕ} → SumRowInside x y first second n → size + n ≤ length a + length b
-  measuring-room k = left-room k size (length a + length b) m.short
-
-  pub measuring-end : SumRowIs x y sum_rows.End → MeasuredAs a b (measures.Rows rows size)
-  measuring-end n A B p q =
+  pub measuring-end : {o : Option SumRow} → o ≡ None → SumRowIs x y (Ok o) → MeasuredAs a b (Ok record { rows = rows; size = size })
+  measuring-end z t A B p q =
       let w = m.counted A B p q in
       let l = w.rest in
+      let n = subst (λ (o : Option SumRow). SumRowIs x y (Ok o)) z t in
       let e : plus ones l.P l.Q ≡ [] = n l.P l.Q l.left l.right in
       record {
         fits = l.fits ∙ ap (limited one) e;
@@ -48,11 +49,15 @@ module _ {a b x y : List ℕ} {rows size : ℕ} (m : Measuring a b x y rows size
         sized = omega (arith, w.sized, ap (λ (t : Rows ones). length (rows_bytes one t)) e);
       }
 
-  pub measuring-many : SumRowIs x y sum_rows.TooMany → MeasuredAs a b measures.TooMany
-  measuring-many n A B p q = let l = (m.counted A B p q).rest in l.fits ∙ n l.P l.Q l.left l.right
+  pub measuring-many : {t : TooMany} → SumRowIs x y (Err t) → (r : Result SumSize TooMany) → IsErr r → MeasuredAs a b r
+  measuring-many n (Ok s) e = no_true e
+  measuring-many n (Err t) e = λ A B p q. let l = (m.counted A B p q).rest in l.fits ∙ n l.P l.Q l.left l.right
 
-  module _ {first second n count : ℕ} (next : SumRowIs x y (sum_rows.Row first second n count)) (h : count ≤ max_count) where
-    counted-on : (A B : Rows ones) → Run x y rows size A B → Run (drop first x) (drop second y) (rows + 1) (size + n) A B
+  module _ {r : SumRow} {o : Option SumRow} (z : o ≡ Some r) (t : SumRowIs x y (Ok o)) (h : r.count ≤ max_count) where
+    next : SumRowIs x y (Ok (Some r))
+    next = subst (λ (o : Option SumRow). SumRowIs x y (Ok o)) z t
+
+    counted-on : (A B : Rows ones) → Run x y rows size A B → Run (drop r.first x) (drop r.second y) (rows + 1) (size + r.size) A B
     counted-on A B w =
         let l = w.rest in
         let t = next.1 l.P l.Q l.left l.right in
@@ -62,8 +67,8 @@ module _ {a b x y : List ℕ} {rows size : ℕ} (m : Measuring a b x y rows size
           sized = omega (arith, w.sized, t.sized, ap length (rest-bytes l t), length-append ((fields one).encode t.r) (rows_bytes one (plus ones t.P t.Q)));
         }
 
-    pub measuring-on : Measuring a b (take (length x - first) (drop first x)) (take (length y - second) (drop second y)) (rows + 1) (size + n)
-    measuring-on = rw (rest-is first x, rest-is second y) record {
+    pub measuring-on : Measuring a b (take (length x - r.first) (drop r.first x)) (take (length y - r.second) (drop r.second y)) (rows + 1) (size + r.size)
+    measuring-on = rw (rest-is r.first x, rest-is r.second y) record {
       few = omega (arith, m.few, next.0.long);
       short = left-on next.0 size (length a + length b) m.short;
       counted = λ A B p q. counted-on A B (m.counted A B p q);

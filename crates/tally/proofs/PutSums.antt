@@ -1,11 +1,10 @@
 -- Writing a sum: its rows are put into a buffer, one behind the other.
 use Prim.Native.Nat.{ℕ, ◌+◌, ◌-◌, ◌≤◌}
 use mathlib.Core.Path.{◌≡◌, refl, ap, sym, subst, ◌∙◌}
-use mathlib.Core.List.{List, [], ◌++◌, append_assoc, append-nil}
+use mathlib.Core.List.{List, [], ◌++◌, append_assoc}
 use native.Mathlib.Omega.{arith}
 use lib.ListN.{length, take, drop, length-append}
 use Rattle.wire.proofs.Lists.{rest-is}
-use Rattle.wire.specs.Choice.{no_true}
 use Rattle.wire.specs.Bytes.{to_be}
 use Rattle.wire.specs.Store.{overwrite, stored, PutAt}
 use Rattle.wire.specs.Format.{iso, run}
@@ -14,10 +13,11 @@ use Rattle.wire.proofs.Puts.{put-nothing, put-run, front-room, put_two}
 use Rattle.tally.specs.Rows.{Row, Rows, plus}
 use Rattle.tally.specs.Tally.{malformed, fields, max_count, ones, one}
 use Rattle.tally.specs.Walks.{rows_bytes}
-use Rattle.tally.specs.Sums.{side, SumRowInside, SumRowIs, put_with_count, SumFits, SumPut}
-use Rattle.tally.specs.declared.merge.SumRow.TheVariants as sum_rows
+use Rattle.tally.specs.Sums.{side, SumRowIs, put_with_count, SumFits}
+use Rattle.tally.specs.declared.merge.SumRow.{SumRow}
+use Rattle.std.specs.Prelude.{Option, Some, Ok}
 use Rattle.tally.proofs.Held.{row-bytes}
-use Rattle.tally.proofs.SumRows.{left-on, left-room, Rest, rest-start, rest-on, rest-bytes}
+use Rattle.tally.proofs.SumRows.{left-on, Rest, rest-start, rest-on, rest-bytes}
 
 -- ---- one row
 -- two stores, the second behind the first
@@ -57,24 +57,12 @@ writing_start a b d = record {
 }
 
 module _ {a b x y d out : List ℕ} {at : ℕ} (m : Writing a b x y d out at) where
-  -- the sum is no longer than both
-  pub writing-room : {first second size : ℕ} → SumRowInside x y first second size → at + size ≤ length a + length b
-  writing-room k = left-room k at (length a + length b) m.short
+  module _ {r : SumRow} {o : Option SumRow} (z : o ≡ Some r) (t : SumRowIs x y (Ok o)) (h : r.count ≤ max_count) where
+    next : SumRowIs x y (Ok (Some r))
+    next = subst (λ (o : Option SumRow). SumRowIs x y (Ok o)) z t
 
-  pub writing-end : SumRowIs x y sum_rows.End → SumPut a b d out
-  writing-end n A B f =
-      let w = m.written A B f in
-      let l = w.rest in
-      let e : plus ones l.P l.Q ≡ [] = n l.P l.Q l.left l.right in
-      let u : w.W ≡ rows_bytes one (plus ones A B) = sym (append-nil w.W) ∙ ap (λ (t : Rows ones). w.W ++ rows_bytes one t) (sym e) ∙ w.sum in
-      w.put.overwrites ∙ ap (λ (t : List ℕ). overwrite 0 t d) u
-
-  pub writing-many : SumRowIs x y sum_rows.TooMany → SumPut a b d out
-  writing-many n A B f = let l = (m.written A B f).rest in no_true (sym (n l.P l.Q l.left l.right) ∙ sym l.fits ∙ f.limit)
-
-  module _ {first second size count : ℕ} (next : SumRowIs x y (sum_rows.Row first second size count)) (h : count ≤ max_count) where
     written_on : (A B : Rows ones) → SumFits a b d A B → Written x y d out at A B
-        → Written (drop first x) (drop second y) d (put_with_count at (side first x y) size count out) (at + size) A B
+        → Written (drop r.first x) (drop r.second y) d (put_with_count at (side r.first x y) r.size r.count out) (at + r.size) A B
     written_on A B f w =
         let l = w.rest in
         let t = next.1 l.P l.Q l.left l.right in
@@ -86,13 +74,13 @@ module _ {a b x y d out : List ℕ} {at : ℕ} (m : Writing a b x y d out at) wh
           rest = rest-on l t h;
           W = w.W ++ row;
           sum = sum;
-          put = put_two room w.put (λ k. subst (λ (n : ℕ). PutAt at row out (put_with_count at (side first x y) size n out) (at + size)) t.counts
-              (row_put at size (side first x y) out t.r t.sized t.lead (omega (arith, k, t.sized))));
+          put = put_two room w.put (λ k. subst (λ (n : ℕ). PutAt at row out (put_with_count at (side r.first x y) r.size n out) (at + r.size)) t.counts
+              (row_put at r.size (side r.first x y) out t.r t.sized t.lead (omega (arith, k, t.sized))));
         }
 
-    pub writing-on : {last : List ℕ} → last ≡ put_with_count at (side first x y) size count out → length last ≡ length out
-        → Writing a b (take (length x - first) (drop first x)) (take (length y - second) (drop second y)) d last (at + size)
-    writing-on e k = rw (rest-is first x, rest-is second y) record {
+    pub writing-on : {last : List ℕ} → last ≡ put_with_count at (side r.first x y) r.size r.count out → length last ≡ length out
+        → Writing a b (take (length x - r.first) (drop r.first x)) (take (length y - r.second) (drop r.second y)) d last (at + r.size)
+    writing-on e k = rw (rest-is r.first x, rest-is r.second y) record {
       short = left-on next.0 at (length a + length b) m.short;
       same = k ∙ m.same;
       written = λ A B f. rw e (written_on A B f (m.written A B f));

@@ -1,74 +1,52 @@
 -- The next row of the sum of two lists of rows: at the end of both, from the first, from the second, from both, or too large.
 use Prim.Native.Nat.{ℕ, ◌+◌, ◌-◌, ◌<◌, ◌≤◌}
-use mathlib.Core.Path.{◌≡◌, refl, ap, ap₂, sym, subst, subst⁻¹, ◌∙◌}
+use mathlib.Core.Path.{◌≡◌, refl, ap, ap₂, sym, ◌∙◌, subst}
 use mathlib.Core.Bool.{false}
 use mathlib.Core.List.{List, [], ◌∷◌, ◌++◌}
 use mathlib.Core.Logic.{inl}
 use native.Mathlib.Omega.{arith}
 use lib.Dec.{leb}
-use lib.ListN.{length, take, drop, length-append, length-drop}
-use borrow.Author.Tests.{le-leb, lt-leb, ne_eqb, eq-eqb}
+use lib.ListN.{length, take, drop, length-drop}
+use borrow.Author.Tests.{le-leb, lt-leb, ne_eqb}
 use Rattle.wire.proofs.Tests.{and_no}
 use Rattle.wire.specs.Formats.{prefixed}
-use Rattle.wire.proofs.Lists.{rest-is}
 use Rattle.wire.specs.Order.{order}
-use Rattle.wire.specs.declared.order.Order.{Order}
-use Rattle.wire.specs.declared.order.Order.TheVariants.{Before, Same, After}
+use Rattle.std.specs.declared.cmp.Ordering.{Ordering}
+use Rattle.std.specs.declared.cmp.Ordering.TheVariants.{Less, Equal, Greater}
 use Rattle.tally.specs.Rows.{Row, Rows, joined, plus}
 use Rattle.wire.specs.Read.{to_option}
 use Rattle.tally.specs.Tally.{malformed, fields, row, limited, max_count, ones, one}
 use Rattle.tally.specs.Told.{told_row}
 use Rattle.tally.specs.Walks.{rows_bytes, Holds}
 use Rattle.tally.specs.Sums.{side, SumRowInside, SumRowTold, SumRowIs}
-use Rattle.tally.specs.declared.rows.RowRead.{RowRead}
-use Rattle.tally.specs.declared.rows.RowRead.TheVariants as rows
 use Rattle.tally.specs.declared.merge.SumRow.{SumRow}
-use Rattle.tally.specs.declared.merge.SumRow.TheVariants as sum_rows
+use Rattle.tally.specs.declared.merge.TooMany.{TooMany}
 use Rattle.tally.proofs.Held.{FirstRow, row_inside, first-row, no_row, one_size}
 use Rattle.tally.proofs.FrontRows.{name-part}
 use Rattle.tally.proofs.Steps.{step-before, step_after, step_same}
 use Rattle.tally.proofs.Canon.{plus-unit}
+use Rattle.std.specs.Prelude.{Some, None, Option, Result, Ok, Err}
+use Rattle.std.specs.Result.{IsErr}
+use Rattle.wire.specs.Choice.{no_true}
 
 -- ---- which list the name stands in
 pub side-first : (x y : List ℕ) {first : ℕ} → (first ≡ 0 → ⊥) → side first x y ≡ x
 side-first x y {first} h = rw (ne_eqb first 0 h)
 
-pub side-second : (x y : List ℕ) {first : ℕ} → first ≡ 0 → side first x y ≡ y
-side-second x y {first} h = rw (eq-eqb first 0 h)
-
 -- ---- the front of a list of rows
-abbrev pub Front : List ℕ → RowRead → Type 0
+abbrev pub Front : List ℕ → Option (ℕ × ℕ) → Type 0
 Front s r = told_row s r ≡ to_option ((row one []).read s)
 
-no_rows : (X : Rows ones) → Holds one [] X → X ≡ []
-no_rows [] h = refl
-no_rows (r ∷ R) h = absurd (omega (arith, ap length h.bytes, length-append ((fields one).encode r) (rows_bytes one R), one_size r))
+-- where no row was read there is none
+unread : (s : List ℕ) {r : Option (ℕ × ℕ)} {L : Rows ones} → r ≡ None → Front s r → Holds one s L → L ≡ []
+unread s {L = L} e f h = no_row s L (subst (Front s) e f) h
 
-no_bytes : (s : List ℕ) (X : Rows ones) → Front s rows.Malformed → Holds one s X → s ≡ []
-no_bytes s X f h = h.bytes ∙ ap (rows_bytes one) (no_row s X f h)
+pub both-ended : (x y : List ℕ) {p q : Option (ℕ × ℕ)} → p ≡ None → q ≡ None → Front x p → Front y q → SumRowIs x y (Ok None)
+both-ended x y d e f g X Y hx hy = rw (unread x d f hx, unread y e g hy)
 
--- the first list is at its end
-module _ (x y : List ℕ) (f : Front x rows.Malformed) where
-  emptied : (X : Rows ones) → Holds one x X → Holds one [] X
-  emptied X h = subst (λ (s : List ℕ). Holds one s X) (no_bytes x X f h) h
-
-  pub first_ended : (r : SumRow) → SumRowIs [] y r → SumRowIs x y r
-  first_ended sum_rows.End n = λ X Y hx hy. n X Y (emptied X hx) hy
-  first_ended sum_rows.TooMany n = λ X Y hx hy. n X Y (emptied X hx) hy
-  first_ended (sum_rows.Row first second size count) n =
-      let none : first ≡ 0 = omega (arith, n.0.first-in) in (
-        record {
-          first-in = omega arith;
-          second-in = n.0.second-in;
-          side-in = rw (side-second x y none) (rw (side-second [] y none) at n.0.side-in);
-          long = n.0.long;
-          short = n.0.short;
-        },
-        λ X Y hx hy. subst⁻¹ (λ (s : List ℕ). SumRowTold s y first second size count X Y) (no_bytes x X f hx) (n.1 X Y (emptied X hx) hy),
-      )
-
-pub both-ended : (y : List ℕ) → Front y rows.Malformed → SumRowIs [] y sum_rows.End
-both-ended y f X Y hx hy = rw (no_rows X hx, no_row y Y f hy)
+-- the next row is this one
+abbrev pub NextIs : (x y : List ℕ) (first second size count : ℕ) → Type 0
+NextIs x y first second size count = SumRowIs x y (Ok (Some record { first = first; second = second; size = size; count = count }))
 
 -- ---- a row in front, as the sum takes it
 module _ {s : List ℕ} {n c : ℕ} {L : Rows ones} (f : FirstRow s n c L) where
@@ -95,60 +73,61 @@ module _ {s : List ℕ} {n c : ℕ} {L : Rows ones} (f : FirstRow s n c L) where
   }
 
 -- from the first list
-module _ (x y : List ℕ) (n c : ℕ) (h : Front x (rows.Row n c)) where
+module _ (x y : List ℕ) (n : ℕ) {c : ℕ} (h : Front x (Some (n, c))) where
   in-first : side (n + 10) x y ≡ x
   in-first = side-first x y (λ (e : n + 10 ≡ 0). omega arith)
 
   first-inside : {second : ℕ} → second ≤ length y → SumRowInside x y (n + 10) second (n + 10)
   first-inside k = let inside = row_inside x n c h in record { first-in = inside; second-in = k; side-in = rw in-first inside; long = omega arith; short = omega arith }
 
-  from_first : ((X Y : Rows ones) (f : FirstRow x n c X) → Holds one y Y → plus ones X Y ≡ f.r ∷ plus ones f.R Y) → SumRowIs x y (sum_rows.Row (n + 10) 0 (n + 10) c)
+  from_first : ((X Y : Rows ones) (f : FirstRow x n c X) → Holds one y Y → plus ones X Y ≡ f.r ∷ plus ones f.R Y) → NextIs x y (n + 10) 0 (n + 10) c
   from_first step = (
     first-inside (omega arith),
     λ X Y hx hy. let f = first-row x n c X h hx in front-row f x y f.r in-first refl f.counts (step X Y f hy) f.rest hy,
   )
 
-  pub first_alone : Front y rows.Malformed → SumRowIs x y (sum_rows.Row (n + 10) 0 (n + 10) c)
-  first_alone e = from_first (λ X Y f hy.
-      rw (f.split, no_row y Y e hy, plus-unit ones (f.r ∷ f.R) f.canonical, plus-unit ones f.R f.canonical.4))
+  pub first_alone : {r : Option (ℕ × ℕ)} → r ≡ None → Front y r → NextIs x y (n + 10) 0 (n + 10) c
+  first_alone e g = from_first (λ X Y f hy.
+      rw (f.split, unread y e g hy, plus-unit ones (f.r ∷ f.R) f.canonical, plus-unit ones f.R f.canonical.4))
 
 -- from the second
-module _ (x y : List ℕ) (m d : ℕ) (h : Front y (rows.Row m d)) where
-  from_second : ((X Y : Rows ones) (g : FirstRow y m d Y) → Holds one x X → plus ones X Y ≡ g.r ∷ plus ones X g.R) → SumRowIs x y (sum_rows.Row 0 (m + 10) (m + 10) d)
+module _ (x y : List ℕ) (m : ℕ) {d : ℕ} (h : Front y (Some (m, d))) where
+  from_second : ((X Y : Rows ones) (g : FirstRow y m d Y) → Holds one x X → plus ones X Y ≡ g.r ∷ plus ones X g.R) → NextIs x y 0 (m + 10) (m + 10) d
   from_second step =
       let inside = row_inside y m d h in (
         record { first-in = omega arith; second-in = inside; side-in = inside; long = omega arith; short = omega arith },
         λ X Y hx hy. let g = first-row y m d Y h hy in front-row g x y g.r refl refl g.counts (step X Y g hx) hx g.rest,
       )
 
-pub second-alone : (y : List ℕ) (m d : ℕ) → Front y (rows.Row m d) → SumRowIs [] y (sum_rows.Row 0 (m + 10) (m + 10) d)
-second-alone y m d h = from_second [] y m d h (λ X Y g hx. rw (no_rows X hx) g.split)
+  pub second-alone : {r : Option (ℕ × ℕ)} → r ≡ None → Front x r → NextIs x y 0 (m + 10) (m + 10) d
+  second-alone e f = from_second (λ X Y g hx. rw (unread x e f hx) g.split)
 
 -- ---- a row of each: o is how their names stand to each other
-module _ (x y : List ℕ) (n c m d : ℕ) (h : Front x (rows.Row n c)) (k : Front y (rows.Row m d)) {o : Order} (e : o ≡ order (take (n + 2 - 2) (drop 2 x)) (take (m + 2 - 2) (drop 2 y))) where
-  ordered : {X Y : Rows ones} (f : FirstRow x n c X) (g : FirstRow y m d Y) {p : Order} → o ≡ p → order f.r.name g.r.name ≡ p
+module _ (x y : List ℕ) (n m : ℕ) {c d : ℕ} (h : Front x (Some (n, c))) (k : Front y (Some (m, d))) {o : Ordering} (e : o ≡ order (take (n + 2 - 2) (drop 2 x)) (take (m + 2 - 2) (drop 2 y))) where
+  ordered : {X Y : Rows ones} (f : FirstRow x n c X) (g : FirstRow y m d Y) {p : Ordering} → o ≡ p → order f.r.name g.r.name ≡ p
   ordered f g q = ap₂ order (sym (front-name f)) (sym (front-name g)) ∙ sym e ∙ q
 
-  pub both-before : o ≡ Before → SumRowIs x y (sum_rows.Row (n + 10) 0 (n + 10) c)
-  both-before q = from_first x y n c h (λ X Y f hy. let g = first-row y m d Y k hy in
+  pub both-before : o ≡ Less → NextIs x y (n + 10) 0 (n + 10) c
+  both-before q = from_first x y n h (λ X Y f hy. let g = first-row y m d Y k hy in
       rw (f.split, g.split) (step-before ones f.r g.r f.R g.R f.canonical g.canonical (ordered f g q)))
 
-  pub both-after : o ≡ After → SumRowIs x y (sum_rows.Row 0 (m + 10) (m + 10) d)
-  both-after q = from_second x y m d k (λ X Y g hx. let f = first-row x n c X h hx in
+  pub both-after : o ≡ Greater → NextIs x y 0 (m + 10) (m + 10) d
+  both-after q = from_second x y m k (λ X Y g hx. let f = first-row x n c X h hx in
       rw (f.split, g.split) (step_after ones f.r g.r f.R g.R f.canonical g.canonical (ordered f g q)))
 
-  both-sum : {X Y : Rows ones} (f : FirstRow x n c X) (g : FirstRow y m d Y) → o ≡ Same → plus ones X Y ≡ joined ones f.r g.r ∷ plus ones f.R g.R
+  both-sum : {X Y : Rows ones} (f : FirstRow x n c X) (g : FirstRow y m d Y) → o ≡ Equal → plus ones X Y ≡ joined ones f.r g.r ∷ plus ones f.R g.R
   both-sum f g q = rw (f.split, g.split) (step_same ones f.r g.r f.R g.R f.canonical g.canonical (ordered f g q))
 
-  pub both-same : o ≡ Same → SumRowIs x y (sum_rows.Row (n + 10) (m + 10) (n + 10) (c + d))
+  pub both-same : o ≡ Equal → NextIs x y (n + 10) (m + 10) (n + 10) (c + d)
   both-same q = (
-    first-inside x y n c h (row_inside y m d k),
+    first-inside x y n h (row_inside y m d k),
     λ X Y hx hy. let f = first-row x n c X h hx in let g = first-row y m d Y k hy in
-        front-row f x y (joined ones f.r g.r) (in-first x y n c h) refl (ap₂ ◌+◌ f.counts g.counts) (both-sum f g q) f.rest g.rest,
+        front-row f x y (joined ones f.r g.r) (in-first x y n h) refl (ap₂ ◌+◌ f.counts g.counts) (both-sum f g q) f.rest g.rest,
   )
 
-  pub both-many : o ≡ Same → max_count - c < d → SumRowIs x y sum_rows.TooMany
-  both-many q l X Y hx hy =
+  pub both-many : o ≡ Equal → max_count < c + d → (r : Result (Option SumRow) TooMany) → IsErr r → SumRowIs x y r
+  both-many q l (Ok r) i = no_true i
+  both-many q l (Err t) i = λ X Y hx hy.
       let f = first-row x n c X h hx in let g = first-row y m d Y k hy in
       let large : leb (f.r.count + g.r.count) max_count ≡ false = lt-leb (f.r.count + g.r.count) max_count (omega (arith, f.counts, g.counts)) in
       rw (both-sum f g q) (and_no _ (limited one (plus ones f.R g.R)) (inl large))
@@ -157,12 +136,6 @@ module _ (x y : List ℕ) (n c m d : ℕ) (h : Front x (rows.Row n c)) (k : Fron
 module _ {x y : List ℕ} {first second size : ℕ} (n : SumRowInside x y first second size) where
   pub left-on : (at whole : ℕ) → at + (length x + length y) ≤ whole → at + size + (length (drop first x) + length (drop second y)) ≤ whole
   left-on at whole h = rw (length-drop first x, length-drop second y) (omega (arith, n.first-in, n.second-in, n.short))
-
-  pub left_less : length (take (length x - first) (drop first x)) + length (take (length y - second) (drop second y)) < length x + length y
-  left_less = rw (rest-is first x, rest-is second y, length-drop first x, length-drop second y) (omega (arith, n.first-in, n.second-in, n.long, n.short))
-
-  pub left-room : (at whole : ℕ) → at + (length x + length y) ≤ whole → at + size ≤ whole
-  left-room at whole h = omega (arith, n.first-in, n.second-in, n.short)
 
 -- the rows that are left; the sum keeps to the limit where theirs does
 pub record Rest (x y : List ℕ) (A B : Rows ones) : Type 0 where

@@ -4,7 +4,7 @@ use Rattle.std.proofs.Math.Option.{some}
 use Rattle.wire.specs.Order.{order, choose}
 use Rattle.wire.specs.Formats.{head_length}
 use Rattle.wire.specs.Answer.{Answered}
-use Rattle.wire.specs.declared.order.Order.TheVariants.{Before}
+use Rattle.std.specs.declared.cmp.Ordering.TheVariants.{Less}
 use Rattle.tally.specs.Rows.{Counts, Row, Rows, Above, add_row}
 use Rattle.wire.specs.Walk.{rows_read}
 use Rattle.tally.specs.Tally.{fields, row, rows_of, ones, one}
@@ -13,7 +13,8 @@ use Rattle.tally.specs.Told.{told_add}
 use Rattle.tally.specs.Walks.{rows_bytes, Holds}
 use Rattle.tally.specs.declared.lookup.Lookup.{Lookup}
 use Rattle.tally.specs.declared.lookup.Lookup.TheVariants as lookups
-use Rattle.tally.specs.declared.add.AddAnswer.{AddAnswer}
+use Rattle.std.specs.Prelude.{Result}
+use Rattle.tally.specs.declared.add.AddError.{AddError}
 
 -- ---- a name looked up among the rows at the front of some bytes
 -- the rows at the front, each judged alone: a row has bytes, so that there are no more rows than bytes
@@ -34,7 +35,7 @@ lookup_of s n = lookup_in n 0 (all_rows s)
 module _ (S : Counts) where
   abbrev pub Below : List ℕ → Rows S → Type 0
   Below n [] = Unit {0}
-  Below n (r ∷ l) = (order r.name n ≡ Before) × Below n l
+  Below n (r ∷ l) = (order r.name n ≡ Less) × Below n l
 
 -- the name's row r stands at a place of the rows L, between D and R
 pub record RowPresent (n : List ℕ) (at count : ℕ) (L : Rows ones) : Type 0 where
@@ -73,5 +74,5 @@ pub record AddReady (d : List ℕ) (n rows : ℕ) (r : Row ℕ) : Type 0 where
   pub name : length r.name < 65536
   pub stands : 0 < r.count
 
-abbrev pub AddedAs : List ℕ → List ℕ → ℕ → Row ℕ → AddAnswer → Type 0
+abbrev pub AddedAs : List ℕ → List ℕ → ℕ → Row ℕ → Result ℕ AddError → Type 0
 AddedAs before after n r a = (L : Rows ones) → rows_of one (take n before) ≡ some L → Answered (told_add a) before after (tallied one (length before) (add_row ones r L))

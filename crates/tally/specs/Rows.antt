@@ -3,7 +3,7 @@
 use Rattle.std.specs.Prelude.{ℕ, ◌≡◌, Bool, true, false, List, [], ◌∷◌, leb, length}
 use Rattle.wire.specs.Bytes.{Bytes}
 use Rattle.wire.specs.Order.{order, choose}
-use Rattle.wire.specs.declared.order.Order.TheVariants.{Before}
+use Rattle.std.specs.declared.cmp.Ordering.TheVariants.{Less}
 
 -- Counts: nothing, their sum, and which of them may stand in a row.
 pub record Counts : Type 1 where
@@ -55,7 +55,7 @@ module _ (S : Counts) where
   -- every name of the rows comes after n
   abbrev pub Above : List ℕ → Rows → Type 0
   Above n [] = Unit {0}
-  Above n (r ∷ l) = (order n r.name ≡ Before) × Above n l
+  Above n (r ∷ l) = (order n r.name ≡ Less) × Above n l
 
   -- rows as a tally has them: names that may stand there and rise strictly, and counts that may stand there
   abbrev pub Canonical : Rows → Type 0

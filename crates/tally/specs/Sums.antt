@@ -10,10 +10,10 @@ use Rattle.tally.specs.Operations.{tallied}
 use Rattle.tally.specs.Told.{told_merge}
 use Rattle.tally.specs.Walks.{rows_bytes, Holds}
 use Rattle.tally.specs.declared.merge.SumRow.{SumRow}
-use Rattle.tally.specs.declared.merge.SumRow.TheVariants as sum_rows
-use Rattle.tally.specs.declared.merge.Measured.{Measured}
-use Rattle.tally.specs.declared.merge.Measured.TheVariants as measures
-use Rattle.tally.specs.declared.merge.MergeAnswer.{MergeAnswer}
+use Rattle.tally.specs.declared.merge.SumSize.{SumSize}
+use Rattle.tally.specs.declared.merge.TooMany.{TooMany}
+use Rattle.std.specs.Prelude.{Option, Some, None, Result, Ok, Err}
+use Rattle.tally.specs.declared.merge.MergeError.{MergeError}
 
 -- the list that the name of the next row stands in
 abbrev pub side : ℕ → List ℕ → List ℕ → List ℕ
@@ -39,11 +39,11 @@ pub record SumRowTold (x y : List ℕ) (first second size count : ℕ) (X Y : Ro
   pub sized : length ((fields one).encode r) ≡ size
   pub lead : take (size - 8) (side first x y) ≡ (prefixed {ends = malformed} 2).encode r.name
 
-abbrev pub SumRowIs : List ℕ → List ℕ → SumRow → Type 0
-SumRowIs x y sum_rows.End = (X Y : Rows ones) → Holds one x X → Holds one y Y → plus ones X Y ≡ []
-SumRowIs x y sum_rows.TooMany = (X Y : Rows ones) → Holds one x X → Holds one y Y → limited one (plus ones X Y) ≡ false
-SumRowIs x y (sum_rows.Row first second size count) =
-    SumRowInside x y first second size × ((X Y : Rows ones) → Holds one x X → Holds one y Y → SumRowTold x y first second size count X Y)
+abbrev pub SumRowIs : List ℕ → List ℕ → Result (Option SumRow) TooMany → Type 0
+SumRowIs x y (Ok None) = (X Y : Rows ones) → Holds one x X → Holds one y Y → plus ones X Y ≡ []
+SumRowIs x y (Ok (Some r)) =
+    SumRowInside x y r.first r.second r.size × ((X Y : Rows ones) → Holds one x X → Holds one y Y → SumRowTold x y r.first r.second r.size r.count X Y)
+SumRowIs x y (Err e) = (X Y : Rows ones) → Holds one x X → Holds one y Y → limited one (plus ones X Y) ≡ false
 
 -- ---- the measuring pass
 pub record MeasuredRows (rows size : ℕ) (A B : Rows ones) : Type 0 where
@@ -51,9 +51,9 @@ pub record MeasuredRows (rows size : ℕ) (A B : Rows ones) : Type 0 where
   pub counts : rows ≡ length (plus ones A B)
   pub sized : size ≡ length (rows_bytes one (plus ones A B))
 
-abbrev pub MeasuredAs : List ℕ → List ℕ → Measured → Type 0
-MeasuredAs a b (measures.Rows rows size) = (A B : Rows ones) → Holds one a A → Holds one b B → MeasuredRows rows size A B
-MeasuredAs a b measures.TooMany = (A B : Rows ones) → Holds one a A → Holds one b B → limited one (plus ones A B) ≡ false
+abbrev pub MeasuredAs : List ℕ → List ℕ → Result SumSize TooMany → Type 0
+MeasuredAs a b (Ok m) = (A B : Rows ones) → Holds one a A → Holds one b B → MeasuredRows m.rows m.size A B
+MeasuredAs a b (Err e) = (A B : Rows ones) → Holds one a A → Holds one b B → limited one (plus ones A B) ≡ false
 
 -- ---- the writing pass
 -- the row of so many bytes at the front of s, with another count, put where it fits
@@ -71,6 +71,6 @@ abbrev pub SumPut : List ℕ → List ℕ → List ℕ → List ℕ → Type 0
 SumPut a b before after = (A B : Rows ones) → SumFits a b before A B → after ≡ overwrite 0 (rows_bytes one (plus ones A B)) before
 
 -- ---- the sum of two lists of rows as a tally in a room
-abbrev pub MergedAs : List ℕ → List ℕ → List ℕ → List ℕ → MergeAnswer → Type 0
+abbrev pub MergedAs : List ℕ → List ℕ → List ℕ → List ℕ → Result ℕ MergeError → Type 0
 MergedAs a b before after r =
     (A B : Rows ones) → Holds one a A → Holds one b B → Answered (told_merge r) before after (tallied one (length before) (plus ones A B))

@@ -1,14 +1,17 @@
 -- Bytes that are rows, as the functions of this crate walk them.
 use Rattle.std.specs.Prelude.{ℕ, ◌≡◌, Bool, true, false, cond, List, [], ◌∷◌, ◌++◌}
 use Rattle.std.proofs.Math.Option.{Option, some, none}
+use Rattle.std.specs.Prelude.{Some, None, Option as Optional}
+use Rattle.std.specs.Borrow.{Bor}
 use Rattle.wire.specs.Order.{order, is_before}
 use Rattle.wire.specs.Store.{stored}
 use Rattle.tally.specs.Rows.{Row, Canonical, is_name}
 use Rattle.tally.specs.Tally.{TallyFormat, TallyKind, TallyRows, whole, fields, limited, one}
 
--- a name after the last one, unless it is the first
-abbrev pub may_follow : Bool → List ℕ → List ℕ → Bool
-may_follow first last name = cond first true (is_before (order last name))
+-- a name after the last one, if there is one
+abbrev pub may_follow : Optional (Bor (List ℕ)) → List ℕ → Bool
+may_follow (Some last) name = is_before (order last.now name)
+may_follow None name = true
 
 -- the format takes the bytes to their end
 abbrev pub is_some : {A : Type 0} → Option A → Bool

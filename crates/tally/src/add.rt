@@ -6,11 +6,11 @@ ghost use Rattle.tally.specs.Operations.{add_of};
 ghost use Rattle.tally.specs.Told.{told_add};
 ghost use Rattle.tally.specs.LookedUp.{row_inserted, AddReady, AddedAs};
 
-use crate::check::{CheckAnswer, check};
+use crate::check::check;
 use crate::lookup::{Lookup, look_up};
-use crate::rows::{MAX_COUNT, MAX_NAME_LENGTH, MAX_ROWS, NAME_AT, ROW_OVERHEAD, put_row};
+use crate::rows::{MAX_NAME_LENGTH, NAME_AT, ROW_OVERHEAD, put_row};
 use wire::heads::{COUNT_AT, HEAD_LENGTH};
-use wire::store::{move_back, put_u32, put_u64};
+use wire::store::{move_back, put_number};
 
 // Puts a new row in front of the first n bytes of a buffer, which move back.
 fn insert_row(tail: &mut [u8], n: usize, name: &[u8], count: u64)
@@ -22,10 +22,9 @@ fn insert_row(tail: &mut [u8], n: usize, name: &[u8], count: u64)
     put_row(tail, 0, name, count);
 }
 
-#[derive(Clone, Copy)]
-pub enum AddAnswer {
-    // The tally's length now.
-    Added(usize),
+// Why a count is not added.
+#[derive(Clone, Copy, Debug, PartialEq, Eq, Hash)]
+pub enum AddError {
     NameTooLong,
     Malformed,
     TooMany,
@@ -33,55 +32,49 @@ pub enum AddAnswer {
 }
 
 // Adds a count to a tally of so many rows in the first `used` bytes of a buffer.
-fn add_row(buffer: &mut [u8], used: usize, rows: u32, name: &[u8], count: u64) -> AddAnswer
+fn add_row(
+    buffer: &mut [u8],
+    used: usize,
+    rows: u32,
+    name: &[u8],
+    count: u64,
+) -> Result<usize, AddError>
     requires { AddReady buffer.old used rows (record { name = name.now; count = count }) }
     ensures { AddedAs buffer.old buffer.new used
         (record { name = name.entry.now; count = count }) result }
 {
     match look_up(&buffer[HEAD_LENGTH..used], name) {
         Lookup::Present { at, count: before } => {
-            if MAX_COUNT - before < count {
-                return AddAnswer::TooMany;
-            }
-            put_u64(
-                buffer,
-                at + HEAD_LENGTH + NAME_AT + name.len(),
-                before + count,
-            );
-            AddAnswer::Added(used)
+            let sum = before.checked_add(count).ok_or(AddError::TooMany)?;
+            put_number(buffer, at + HEAD_LENGTH + NAME_AT + name.len(), sum);
+            Ok(used)
         }
         Lookup::Absent(at) => {
-            if rows == MAX_ROWS {
-                return AddAnswer::TooMany;
-            }
+            let more = rows.checked_add(1).ok_or(AddError::TooMany)?;
             let size = name.len() + ROW_OVERHEAD;
             if buffer.len() - used < size {
-                return AddAnswer::NoRoom;
+                return Err(AddError::NoRoom);
             }
             let place = at + HEAD_LENGTH;
             insert_row(&mut buffer[place..], used - place, name, count);
-            put_u32(buffer, COUNT_AT, rows + 1);
-            AddAnswer::Added(used + size)
+            put_number(buffer, COUNT_AT, more);
+            Ok(used + size)
         }
     }
 }
 
 // Adds a count to a name in the tally that the first `used` bytes of a buffer are.
-pub fn add(buffer: &mut [u8], used: usize, name: &[u8], count: u64) -> AddAnswer
+pub fn add(buffer: &mut [u8], used: usize, name: &[u8], count: u64) -> Result<usize, AddError>
     ensures { Answered (told_add result) buffer.old buffer.new
         (add_of one buffer.old used (record { name = name.entry.now; count = count })) }
 {
     if MAX_NAME_LENGTH < name.len() {
-        return AddAnswer::NameTooLong;
+        return Err(AddError::NameTooLong);
     }
-    if buffer.len() < used {
-        return AddAnswer::Malformed;
-    }
-    let CheckAnswer::Tally(rows) = check(&buffer[..used]) else {
-        return AddAnswer::Malformed;
-    };
+    let tally = buffer.get(..used).ok_or(AddError::Malformed)?;
+    let rows = check(tally).ok_or(AddError::Malformed)?;
     if count == 0 {
-        return AddAnswer::Added(used);
+        return Ok(used);
     }
     add_row(buffer, used, rows, name, count)
 }

@@ -10,29 +10,15 @@ ghost use Rattle.tally.specs.Told.{told_check};
 ghost use Rattle.tally.specs.Walks.{may_follow, takes};
 
 use crate::head::stated_rows;
-use crate::rows::{NAME_AT, ROW_OVERHEAD, RowRead, front_row};
-use wire::heads::{HEAD_LENGTH, HeadRead};
-use wire::order::{Order, compare};
-
-#[derive(Clone, Copy)]
-pub enum CheckAnswer {
-    // The number of rows.
-    Tally(u32),
-    Malformed,
-}
+use crate::rows::{NAME_AT, ROW_OVERHEAD, front_row};
+use wire::heads::HEAD_LENGTH;
+use wire::order::compare;
 
 // Tells whether a name may follow the last one: it comes later, or none was before it.
-fn may_follow(first: bool, last: &[u8], name: &[u8]) -> bool
-    ensures { result ≡ may_follow first last.now name.now }
+fn may_follow(last: Option<&[u8]>, name: &[u8]) -> bool
+    ensures { result ≡ may_follow last.entry name.now }
 {
-    if first {
-        return true;
-    }
-    match compare(last, name) {
-        Order::Before => true,
-        Order::Same => false,
-        Order::After => false,
-    }
+    last.is_none_or(|last| compare(last, name).is_lt())
 }
 
 // Tells whether bytes are so many rows in order, and nothing else.
@@ -40,37 +26,27 @@ fn are_rows(s: &[u8], count: u32) -> bool
     ensures { result ≡ takes (items (row one) count) s.now }
 {
     let mut rest = s;
-    let mut last = &s[..0];
-    let mut first = true;
-    let mut left = count;
-    while 0 < left {
-        let RowRead::Row { size: n, count: _ } = front_row(rest) else {
+    let mut last = None;
+    for _ in 0..count {
+        let Some((n, _)) = front_row(rest) else {
             return false;
         };
         let name = &rest[NAME_AT..n + NAME_AT];
-        if !may_follow(first, last, name) {
+        if !may_follow(last, name) {
             return false;
         }
-        last = name;
-        first = false;
+        last = Some(name);
         rest = &rest[n + ROW_OVERHEAD..];
-        left -= 1;
     }
-    rest.len() == 0
+    rest.is_empty()
 }
 
 // Tells whether bytes are a tally, and of how many rows: the whole of it is judged, so that whoever walks its rows afterwards need not.
-pub fn check(t: &[u8]) -> CheckAnswer
+pub fn check(t: &[u8]) -> Option<u32>
     ensures { told_check result ≡ check_of one t.now }
 {
-    let HeadRead::Count(count) = stated_rows(t) else {
-        return CheckAnswer::Malformed;
-    };
-    if are_rows(&t[HEAD_LENGTH..], count) {
-        CheckAnswer::Tally(count)
-    } else {
-        CheckAnswer::Malformed
-    }
+    let count = stated_rows(t)?;
+    are_rows(&t[HEAD_LENGTH..], count).then_some(count)
 }
 
 // Gives the rows of a tally, to be taken from the front; an empty slice where it is none.
@@ -80,7 +56,7 @@ pub fn rows_of(t: &[u8]) -> &[u8]
         ≡ place_in t.entry (start_told (λ _. head_length) (row_bytes_of one t.now)) }
 {
     match check(t) {
-        CheckAnswer::Tally(_) => &t[HEAD_LENGTH..],
-        CheckAnswer::Malformed => &t[..0],
+        Some(_) => &t[HEAD_LENGTH..],
+        None => &t[..0],
     }
 }

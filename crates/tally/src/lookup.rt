@@ -2,11 +2,12 @@
 ghost use Rattle.std.specs.Prelude.{◌≡◌};
 ghost use Rattle.tally.specs.LookedUp.{lookup_of};
 
-use crate::rows::{NAME_AT, ROW_OVERHEAD, RowRead, front_row};
-use wire::order::{Order, compare};
+use crate::rows::{NAME_AT, ROW_OVERHEAD, front_row};
+use std::cmp::Ordering;
+use wire::order::compare;
 
 // Where a name stands among rows: its row's place and count, or the place where its row would be.
-#[derive(Clone, Copy)]
+#[derive(Clone, Copy, Debug, PartialEq, Eq, Hash)]
 pub enum Lookup {
     Present { at: usize, count: u64 },
     Absent(usize),
@@ -17,22 +18,16 @@ pub fn look_up(s: &[u8], name: &[u8]) -> Lookup
     ensures { result ≡ lookup_of s.now name.now }
 {
     let mut rest = s;
-    let mut at: usize = 0;
-    loop {
-        let RowRead::Row { size: n, count } = front_row(rest) else {
-            return Lookup::Absent(at);
-        };
+    let mut at = 0;
+    while let Some((n, count)) = front_row(rest) {
         match compare(&rest[NAME_AT..n + NAME_AT], name) {
-            Order::Before => {
+            Ordering::Less => {
                 rest = &rest[n + ROW_OVERHEAD..];
                 at += n + ROW_OVERHEAD;
             }
-            Order::Same => {
-                return Lookup::Present { at, count };
-            }
-            Order::After => {
-                return Lookup::Absent(at);
-            }
+            Ordering::Equal => return Lookup::Present { at, count },
+            Ordering::Greater => return Lookup::Absent(at),
         }
     }
+    Lookup::Absent(at)
 }

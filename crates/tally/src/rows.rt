@@ -1,5 +1,5 @@
-// Rows of a tally, from the front: the front row's count, its name as a slice of what was given, and the rows behind it handed on
-// as what remains. A call that hands back a slice hands back an empty one when refused; its number is asked by the row's own question.
+// Rows of a tally, from the front: the front row's count, its name as a slice of what was given, and the rows behind it, which are what
+// remains. A function that gives a slice gives an empty one where there is no row; `row_of` then tells why.
 ghost use Rattle.std.specs.Prelude.{◌≡◌, [], ℕ};
 ghost use Rattle.wire.specs.Answer.{map_answer, bytes_of};
 ghost use Rattle.wire.specs.Places.{place_in, start_told};
@@ -10,8 +10,8 @@ ghost use Rattle.tally.specs.Operations.{front_of};
 ghost use Rattle.tally.specs.Told.{told_row, told_front, shown_row};
 ghost use Rattle.tally.specs.Walks.{row_stored};
 
-use wire::fields::{Run, U64, run16_at, u64_at};
-use wire::store::{put_bytes, put_u16, put_u64};
+use wire::fields::{number_at, run_at};
+use wire::store::{put_bytes, put_number};
 
 // Where a row's name begins, behind its length; the size of its count; and both together, which is what a row has beside its name.
 pub const NAME_AT: usize = 2;
@@ -20,58 +20,39 @@ pub const COUNT_SIZE: usize = 8;
 
 pub const ROW_OVERHEAD: usize = 10;
 
-// The longest name, the largest count and the most rows.
+// The longest name and the largest count.
 pub const MAX_NAME_LENGTH: usize = 65535;
 
-pub const MAX_COUNT: u64 = 18446744073709551615;
-
-pub const MAX_ROWS: u32 = 4294967295;
-
-// The length of the name and the count, or that no row stands there.
-#[derive(Clone, Copy)]
-pub enum RowRead {
-    Row { size: usize, count: u64 },
-    Malformed,
-}
+pub const MAX_COUNT: u64 = u64::MAX;
 
 // Reads the row at the front of some rows, judged alone.
-pub fn front_row(s: &[u8]) -> RowRead
+pub fn front_row(s: &[u8]) -> Option<(usize, u64)>
     ensures { told_row s.now result ≡ to_option ((row one []).read s.now) }
 {
-    let Run::Bytes(n) = run16_at(s, 0) else {
-        return RowRead::Malformed;
-    };
-    let U64::Value(count) = u64_at(s, n + NAME_AT) else {
-        return RowRead::Malformed;
-    };
+    let n = run_at::<u16>(s, 0).ok()?;
+    let count = number_at::<u64>(s, n + NAME_AT)?;
     if count == 0 {
-        return RowRead::Malformed;
+        return None;
     }
-    RowRead::Row { size: n, count }
+    Some((n, count))
 }
 
-#[derive(Clone, Copy)]
-pub enum RowAnswer {
-    // The count, and the row's length.
-    Row { count: u64, length: usize },
+// Why a front row is not given.
+#[derive(Clone, Copy, Debug, PartialEq, Eq, Hash)]
+pub enum RowError {
     NoSuchRow,
     Malformed,
 }
 
 // Tells the front row's count and its length. Whether rows are in order is asked of the whole tally.
-pub fn row_of(rows: &[u8]) -> RowAnswer
+pub fn row_of(rows: &[u8]) -> Result<(u64, usize), RowError>
     ensures { told_front result ≡ map_answer shown_row (front_of one rows.now) }
 {
-    if rows.len() == 0 {
-        return RowAnswer::NoSuchRow;
+    if rows.is_empty() {
+        return Err(RowError::NoSuchRow);
     }
-    match front_row(rows) {
-        RowRead::Row { size: n, count } => RowAnswer::Row {
-            count,
-            length: n + ROW_OVERHEAD,
-        },
-        RowRead::Malformed => RowAnswer::Malformed,
-    }
+    let (n, count) = front_row(rows).ok_or(RowError::Malformed)?;
+    Ok((count, n + ROW_OVERHEAD))
 }
 
 // Gives the name in the front row.
@@ -80,8 +61,8 @@ pub fn name_of(rows: &[u8]) -> &[u8]
     ensures place { result.ref_ptr ≡ place_in rows.entry (start_told (λ _. 2) (front_of one rows.now)) }
 {
     match front_row(rows) {
-        RowRead::Row { size: n, count: _ } => &rows[NAME_AT..n + NAME_AT],
-        RowRead::Malformed => &rows[..0],
+        Some((n, _)) => &rows[NAME_AT..n + NAME_AT],
+        None => &rows[..0],
     }
 }
 
@@ -92,8 +73,8 @@ pub fn behind_row(rows: &[u8]) -> &[u8]
         ≡ place_in rows.entry (start_told (λ (x : TallyRow one × ℕ). x.1) (front_of one rows.now)) }
 {
     match front_row(rows) {
-        RowRead::Row { size: n, count: _ } => &rows[n + ROW_OVERHEAD..],
-        RowRead::Malformed => &rows[..0],
+        Some((n, _)) => &rows[n + ROW_OVERHEAD..],
+        None => &rows[..0],
     }
 }
 
@@ -102,16 +83,13 @@ pub fn put_row(out: &mut [u8], at: usize, name: &[u8], count: u64)
     ensures { out.new
         ≡ row_stored at (record { name = name.entry.now; count = count }) out.old }
 {
-    if MAX_NAME_LENGTH < name.len() {
+    let Ok(length) = u16::try_from(name.len()) else {
+        return;
+    };
+    if out.len().saturating_sub(at) < name.len() + ROW_OVERHEAD {
         return;
     }
-    if out.len() < at {
-        return;
-    }
-    if out.len() - at < name.len() + ROW_OVERHEAD {
-        return;
-    }
-    put_u16(out, at, name.len() as u16);
+    put_number(out, at, length);
     put_bytes(out, at + NAME_AT, name);
-    put_u64(out, at + NAME_AT + name.len(), count);
+    put_number(out, at + NAME_AT + name.len(), count);
 }

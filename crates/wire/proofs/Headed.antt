@@ -14,8 +14,8 @@ use Rattle.wire.specs.Read.{Read, done, refused, shift, to_option, not_done, to_
 use Rattle.wire.specs.Format.{Format, refine, ◌⨾◌, iso, run}
 use Rattle.wire.specs.Formats.{number, u16, u32, fixed, behind, headed, head_length, head}
 use Rattle.wire.specs.Store.{stored, PutAt}
-use Rattle.wire.specs.Told.{short, told_u16}
-use Rattle.wire.specs.declared.fields.U16.TheVariants as u16s
+use Rattle.wire.specs.Told.{short, told_number, told_head}
+use Rattle.std.specs.Prelude.{Option, Some, None}
 use Rattle.wire.proofs.Steps.{mark-done, mark-fails, mark-ends, number-done, number-ends, number-told}
 use Rattle.wire.proofs.Fixed.{fixed_on, fixed-other, fixed-refused}
 use Rattle.wire.proofs.Overwrites.{stored-fits, stored-not}
@@ -48,10 +48,10 @@ module _ (m : List ℕ) (three : length m ≡ 3) (v : ℕ) (s : List ℕ) {E A :
         mark-done e m e (fixed 2 v e f) s k (ap (λ (n : ℕ). (fixed 2 v e f).read (drop n s)) three ∙ h)
         ∙ ap (λ (n : ℕ). shift n (λ a. a) r) three
 
-    pub headed-unversioned : told_u16 u16s.Ends ≡ (u16 {ends = short}).read (drop 3 s) → (headed m v e f).read s ≡ refused e 3
+    pub headed-unversioned : told_number {A = ℕ} 2 None ≡ (u16 {ends = short}).read (drop 3 s) → (headed m v e f).read s ≡ refused e 3
     headed-unversioned h = behind-mark (fixed-refused e 2 v e f (drop 3 s) (number-told e 2 (drop 3 s) h))
 
-    module _ {x : ℕ} (h : told_u16 (u16s.Value x) ≡ (u16 {ends = short}).read (drop 3 s)) where
+    module _ {x : ℕ} (h : told_number 2 (Some x) ≡ (u16 {ends = short}).read (drop 3 s)) where
       pub headed-other : (x ≡ v → ⊥) → (headed m v e f).read s ≡ refused e 3
       headed-other n = behind-mark (fixed-other e 2 v e f (drop 3 s) (number-told e 2 (drop 3 s) h) n)
 
@@ -109,6 +109,11 @@ module _ (m : List ℕ) (three : length m ≡ 3) (s : List ℕ) {E F : Type 0} (
       go : Opening m 1 s → to_option ((head {ends = e} m).read s) ≡ to_option ((head {ends = d} m).read s)
       go (misheaded p k) = ap to_option (k E ℕ e u32) ∙ to_option-is (k F ℕ d u32)
       go (opens k) = ap to_option (k E ℕ e u32) ∙ same_number (leb 4 (length (drop 5 s))) refl ∙ to_option-is (k F ℕ d u32)
+
+-- the number that stands behind the mark and the version, as the head's
+pub head-told : (r : Option ℕ) → told_head r ≡ to_option (behind_head (told_number 4 r))
+head-told (Some n) = refl
+head-told None = refl
 
 -- ---- written
 module _ (m : List ℕ) (three : length m ≡ 3) (n : ℕ) (d : List ℕ) where

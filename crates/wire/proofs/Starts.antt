@@ -1,23 +1,24 @@
--- A mark compared byte by byte, from place i of the mark and p of the list.
-use Prim.Native.Nat.{ℕ, ◌+◌, ◌<◌, ◌≤◌}
-use mathlib.Core.Path.{◌≡◌}
-use mathlib.Core.List.{List}
-use mathlib.Core.Bool.{true, false}
-use native.Mathlib.Numerals.{add-one}
-use lib.ListN.{length, get_or, drop, drop_of_length-le}
-use lib.Seq.{drop-cons}
-use borrow.Author.Tests.{eq-eqb, ne_eqb}
+-- The library's test of a slice's front, as the definitions have it.
+use Prim.Native.Nat.{ℕ, ◌-◌, min}
+use mathlib.Core.Path.{◌≡◌, refl, ap, ◌∙◌}
+use mathlib.Core.List.{List, [], ◌∷◌}
+use mathlib.Core.Bool.{Bool, true, false, cond, ◌&&◌}
+use lib.Dec.{eqb}
+use lib.ListN.{length, take, drop}
+use Rattle.std.specs.List.{starts_with}
+use Rattle.std.proofs.lemmas.List.{drop_min}
 use Rattle.wire.specs.Marks.{starts}
+use Rattle.wire.proofs.Lists.{rest-is}
 
-module _ (m s : List ℕ) (i p : ℕ) where
-  pub starts-end : length m ≤ i → starts (drop i m) (drop p s) ≡ true
-  starts-end h = rw (drop_of_length-le m h)
+and-is : (a b : Bool) → (a && b) ≡ cond a b false
+and-is true b = refl
+and-is false b = refl
 
-  pub starts-short : i < length m → length s ≤ p → starts (drop i m) (drop p s) ≡ false
-  starts-short h k = rw (drop-cons m i 0 h, drop_of_length-le s k)
+pub starts-with : (m l : List ℕ) → starts_with eqb l m ≡ starts m l
+starts-with [] l = refl
+starts-with (m ∷ ms) [] = refl
+starts-with (m ∷ ms) (x ∷ xs) = ap (λ (b : Bool). eqb m x && b) (starts-with ms xs) ∙ and-is (eqb m x) (starts ms xs)
 
-  pub starts_other : i < length m → p < length s → (get_or m i 0 ≡ get_or s p 0 → ⊥) → starts (drop i m) (drop p s) ≡ false
-  starts_other h k n = rw (drop-cons m i 0 h, drop-cons s p 0 k, ne_eqb _ _ n)
-
-  pub starts-on : i < length m → p < length s → get_or m i 0 ≡ get_or s p 0 → starts (drop i m) (drop p s) ≡ starts (drop (i + 1) m) (drop (p + 1) s)
-  starts-on h k e = rw (drop-cons m i 0 h, drop-cons s p 0 k, eq-eqb _ _ e, add-one i, add-one p)
+-- what stands from a place on; at the end, where the place is past it
+pub rest-from : (at : ℕ) (s : List ℕ) {m : ℕ} → m ≡ min at (length s) → take (length s - m) (drop m s) ≡ drop at s
+rest-from at s {m} e = rest-is m s ∙ rw e (drop_min at s)

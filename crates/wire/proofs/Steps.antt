@@ -1,10 +1,10 @@
 -- One law for each way on, of each way to make a format: what a proof about code cites.
-use Prim.Native.Nat.{ℕ, zero, suc, ◌+◌, ◌-◌, ◌*◌, ◌^◌, ◌<◌, ◌≤◌}
+use Prim.Native.Nat.{ℕ, suc, ◌+◌, ◌*◌, ◌^◌, ◌<◌, ◌≤◌}
 use mathlib.Core.Path.{◌≡◌, refl, ap, sym, ◌∙◌}
 use mathlib.Core.List.{List}
 use mathlib.Core.Bool.{Bool, true, false, cond}
 use native.Mathlib.Nat.{pow-suc, pow-le-pow_right, lt_of_lt_of_le}
-use native.Mathlib.Numerals.{add-one, sub-one}
+use native.Mathlib.Numerals.{add-one}
 use native.Mathlib.Omega.{arith}
 use lib.Dec.{leb, lit<}
 use lib.IntN.{ℤ}
@@ -16,12 +16,13 @@ use Rattle.wire.specs.Read.{Read, done, refused, bind, map_read, shift, with_fau
 use Rattle.wire.specs.Format.{Format, run, refine, ◌⨾◌, next, iso, pair}
 use Rattle.wire.specs.Formats.{number, signed, signed_of, prefixed, behind, mark}
 use Rattle.wire.specs.Marks.{starts, starts-long, starts-take}
-use Rattle.wire.specs.Told.{Short, short}
+use Rattle.std.specs.Prelude.{Option, Some, None, Result, Ok, Err}
+use Rattle.wire.specs.Told.{Short, short, told_number, told_run}
+use Rattle.wire.specs.declared.fields.EndsAt.{EndsAt}
 
 -- ---- a number, byte by byte
-pub from_be-on : (n v : ℕ) (s : List ℕ) (p : ℕ) → 0 < n → p < length s → from_be v (take n (drop p s)) ≡ from_be (v * 256 + get_or s p 0) (take (n - 1) (drop (p + 1) s))
-from_be-on zero v s p h k = absurd (omega arith)
-from_be-on (suc n) v s p h k = rw (drop-cons s p 0 k, sub-one, add-one)
+pub from_be-on : (v : ℕ) (s : List ℕ) (i : ℕ) → i < length s → from_be v (drop i s) ≡ from_be (v * 256 + get_or s i 0) (drop (i + 1) s)
+from_be-on v s i h = rw (drop-cons s i 0 h, add-one)
 
 pub digit-below : (n : ℕ) {v b : ℕ} → v < 256 ^ n → b < 256 → v * 256 + b < 256 ^ suc n
 digit-below n hv hb = rw pow-suc (omega arith)
@@ -61,16 +62,6 @@ module _ {E : Type 0} (ends : E) where
   pub prefixed-refused : (k : ℕ) (s : List ℕ) {e : E} {p : ℕ} → (number {ends = ends} k).read s ≡ refused e p → (prefixed {ends = ends} k).read s ≡ refused e p
   unfolding prefixed iso ◌⨾◌
   prefixed-refused k s h = rw h
-
-  pub signed-done : (k half : ℕ) (h : 256 ^ k ≡ half + half) (s : List ℕ) {v n : ℕ} → (number {ends = ends} k).read s ≡ done v n
-      → (signed {ends = ends} k half h).read s ≡ done (signed_of half v) n
-  unfolding signed iso
-  signed-done k half h s e = rw e
-
-  pub signed-refused : (k half : ℕ) (h : 256 ^ k ≡ half + half) (s : List ℕ) {e : E} {p : ℕ} → (number {ends = ends} k).read s ≡ refused e p
-      → (signed {ends = ends} k half h).read s ≡ refused e p
-  unfolding signed iso
-  signed-refused k half h s e = rw e
 
   -- ---- marks
   module _ {A : Type 0} (m : List ℕ) (e : E) (f : Format E ends A) (s : List ℕ) where
@@ -128,3 +119,26 @@ module _ {E : Type 0} (ends : E) where
   pub prefixed-told : (k : ℕ) (s : List ℕ) {r : Read Short (List ℕ)} → r ≡ (prefixed {ends = short} k).read s → (prefixed {ends = ends} k).read s ≡ with_fault ends r
   unfolding prefixed iso ◌⨾◌
   prefixed-told k s h = rw (h, number-blamed k s, prefixed-by s ((number {ends = short} k).read s)) (map-blamed _ (bind ((number {ends = short} k).read s) (next (run {ends = short}) s)))
+
+-- ---- what `number_at` and `run_at` told, in each case of their answers
+module _ {E : Type 0} (ends : E) (k : ℕ) (s : List ℕ) where
+  module _ {r : Option ℕ} (t : told_number k r ≡ (number {ends = short} k).read s) where
+    pub number-some : {v : ℕ} → r ≡ Some v → (number {ends = ends} k).read s ≡ done v k
+    number-some e = number-told ends k s (told-as (told_number k) t e)
+
+    pub number-none : r ≡ None → (number {ends = ends} k).read s ≡ refused ends 0
+    number-none e = number-told ends k s (told-as (told_number k) t e)
+
+  module _ (half : ℕ) (h : 256 ^ k ≡ half + half) {r : Option ℤ} (t : told_number k r ≡ (signed {ends = short} k half h).read s) where
+    pub signed-some : {z : ℤ} → r ≡ Some z → (signed {ends = ends} k half h).read s ≡ done z k
+    signed-some e = signed-told ends k half h s (told-as (told_number k) t e)
+
+    pub signed-none : r ≡ None → (signed {ends = ends} k half h).read s ≡ refused ends 0
+    signed-none e = signed-told ends k half h s (told-as (told_number k) t e)
+
+  module _ {r : Result ℕ EndsAt} (t : told_run k s r ≡ (prefixed {ends = short} k).read s) where
+    pub prefixed-ok : {n : ℕ} → r ≡ Ok n → (prefixed {ends = ends} k).read s ≡ done (take n (drop k s)) (k + n)
+    prefixed-ok e = prefixed-told ends k s (told-as (told_run k s) t e)
+
+    pub prefixed-err : {p : EndsAt} → r ≡ Err p → (prefixed {ends = ends} k).read s ≡ refused ends p.0
+    prefixed-err e = prefixed-told ends k s (told-as (told_run k s) t e)

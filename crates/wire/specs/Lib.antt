@@ -13,3 +13,4 @@ pub mod Order
 pub mod Store
 pub mod Walk
 pub mod Told
+pub mod Fields

@@ -4,6 +4,7 @@
 pub mod fields;
 pub mod heads;
 pub mod marks;
+pub mod number;
 pub mod order;
 pub mod ranges;
 pub mod store;

@@ -6,17 +6,5 @@ ghost use Rattle.wire.specs.Marks.{starts};
 pub fn mark_at(s: &[u8], at: usize, mark: &[u8]) -> bool
     ensures { result ≡ starts mark.now (drop at s.now) }
 {
-    let mut p = at;
-    let mut i: usize = 0;
-    while i < mark.len() {
-        if s.len() <= p {
-            return false;
-        }
-        if mark[i] != s[p] {
-            return false;
-        }
-        p += 1;
-        i += 1;
-    }
-    true
+    s[at.min(s.len())..].starts_with(mark)
 }

@@ -3,7 +3,7 @@ ghost use Rattle.wire.specs.Ranges.{IsSlice};
 
 // A run of bytes in the caller's bytes. It crosses to a host as it is.
 #[repr(C)]
-#[derive(Clone, Copy)]
+#[derive(Clone, Copy, Debug, PartialEq, Eq, Hash)]
 pub struct Range {
     pub start: usize,
     pub length: usize,
@@ -19,13 +19,6 @@ pub const NO_RANGE: Range = Range {
 pub fn slice_of(s: &[u8], range: Range) -> &[u8]
     ensures { IsSlice s.entry range result }
 {
-    let start = range.start;
-    let n = range.length;
-    if s.len() <= start {
-        return &s[s.len()..];
-    }
-    if s.len() - start < n {
-        return &s[start..];
-    }
-    &s[start..start + n]
+    let rest = &s[range.start.min(s.len())..];
+    &rest[..range.length.min(rest.len())]
 }

@@ -1,10 +1,9 @@
 // The blocks of the sums.
 ghost use Rattle.std.specs.Prelude.{◌≤◌, length};
 
-use block_writer::write::{WriteAnswer, write};
+use block_writer::write::write;
 use mapblock::head::{Head, LIST_COUNTED};
 use mapblock::nodes::NODES;
-use wire::ranges::{Range, slice_of};
 
 // Room for each of them, and for a byte more.
 pub(crate) const ROOM: usize = 16_500;
@@ -30,7 +29,7 @@ pub(crate) fn head(version: u8, timer: u8, timestamp: u32) -> Head {
 }
 
 // Nodes that are all alike but for the first; what is not said of them is 0.
-#[derive(Clone, Copy)]
+#[derive(Clone, Copy, Debug, PartialEq, Eq, Hash)]
 pub(crate) struct Nodes {
     pub param0: u16,
     pub first_param0: u16,
@@ -52,20 +51,10 @@ pub(crate) fn put_block(head: Head, nodes: Nodes, names: &[u8], out: &mut [u8]) 
     let mut param2 = [0u8; NODES];
     param0[0] = nodes.first_param0;
     param2[0] = nodes.first_param2;
-    let WriteAnswer::Written(n) = write(head, &param0, &param1, &param2, names, b"", b"", b"", out)
-    else {
-        return 0;
-    };
-    n
+    write(head, &param0, &param1, &param2, names, b"", b"", b"", out).unwrap_or(0)
 }
 
-// Gives the first n bytes of a buffer.
+// Gives the first n bytes of a buffer; all of it where it has no more.
 pub(crate) fn front(s: &[u8], n: usize) -> &[u8] {
-    slice_of(
-        s,
-        Range {
-            start: 0,
-            length: n,
-        },
-    )
+    s.get(..n).unwrap_or(s)
 }

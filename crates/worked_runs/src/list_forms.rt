@@ -1,45 +1,35 @@
 // Document 02, item 3: the two forms of a metadata list of none, where the section stands, and the writer's 12.
-use crate::blocks::{AIR, ALL_ZERO, ROOM, front, head_with, put_block};
+use crate::blocks::{AIR, ALL_ZERO, ROOM, head_with, put_block};
 use crate::looking::METADATA_29;
-use crate::printing::{say, say_number, say_verdict};
+use crate::printing::verdict;
 use crate::reading::is_answer;
 use anowhetele::blocks::anow_sections;
 use anowhetele::writing::anow_write;
 use mapblock::head::{LIST_COUNTED, LIST_ZERO};
 use mapblock::nodes::NODES;
+use std::io;
+use wire::ranges::Range;
 
 // Shows the form that the head of a block has, and where its metadata section stands: it is empty, behind what stands before the rows.
-fn section_line(rt: &impl Print, version: u8, form: u8, start: usize) {
+fn section_line(rt: &impl Print, version: u8, form: u8, start: usize) -> io::Result<()> {
     let mut block = [0u8; ROOM];
     let n = put_block(head_with(version, 0, form, 0), ALL_ZERO, &AIR, &mut block);
-    let told = anow_sections(front(&block, n));
-    let head = told.head;
-    let sections = told.sections;
-    let rows = sections.metadata;
-    say(rt, b"version ");
-    say_number(rt, version as u64);
-    say(rt, b": form ");
-    say_number(rt, head.form as u64);
-    say(rt, b", metadata section of ");
-    say_number(rt, rows.length as u64);
-    say(rt, b" bytes at ");
-    say_number(rt, rows.start as u64);
-    say(rt, b"; ");
-    say_verdict(
-        rt,
-        (head.form == form) & (rows.start == start) & (rows.length == 0),
-    );
+    let told = anow_sections(&block[..n]);
+    let read = told.head.form;
+    let Range { start: at, length } = told.sections.metadata;
+    let is_right = read == form && at == start && length == 0;
+    print!(rt; "version {version}: form {read}, metadata section of ")?;
+    println!(rt; "{length} bytes at {at}; {}", verdict(is_right))
 }
 
 // Shows what the writer answers to a form of the list, with these rows of metadata.
 fn written_line(
     rt: &impl Print,
-    asked: &[u8],
     version: u8,
     form: u8,
     metadata: &[u8],
-    number: u32,
-) {
+    expected: u32,
+) -> io::Result<()> {
     let param0 = [0u16; NODES];
     let bytes = [0u8; NODES];
     let mut out = [0u8; ROOM];
@@ -54,26 +44,27 @@ fn written_line(
         b"",
         &mut out,
     );
-    say(rt, b"written, version ");
-    say_number(rt, version as u64);
-    say(rt, asked);
-    say(rt, b": ");
-    say_number(rt, answer.number as u64);
-    say(rt, b"; ");
-    say_verdict(rt, is_answer(answer, number, 0));
+    let rows = if metadata.is_empty() {
+        "no rows"
+    } else {
+        "a row"
+    };
+    let number = answer.number;
+    let told = verdict(is_answer(answer, expected, 0));
+    println!(rt; "written, version {version}, form {form}, {rows}: {number}; {told}")
 }
 
 // Shows both forms, and each 12.
-pub(crate) fn run(rt: &impl Print) {
-    say(rt, b"\nThe two forms of a metadata list of none\n");
-    section_line(rt, 22, LIST_COUNTED, 12_296);
-    section_line(rt, 23, LIST_COUNTED, 12_295);
-    section_line(rt, 23, LIST_ZERO, 12_293);
-    section_line(rt, 29, LIST_COUNTED, 16_407);
-    section_line(rt, 29, LIST_ZERO, 16_405);
-    written_line(rt, b", form 1, no rows", 29, LIST_ZERO, b"", 0);
-    written_line(rt, b", form 1, a row", 29, LIST_ZERO, &METADATA_29, 12);
-    written_line(rt, b", form 1, no rows", 22, LIST_ZERO, b"", 12);
-    written_line(rt, b", form 2, no rows", 29, 2, b"", 12);
-    written_line(rt, b", form 0, a row", 29, LIST_COUNTED, &METADATA_29, 0);
+pub(crate) fn run(rt: &impl Print) -> io::Result<()> {
+    println!(rt; "\nThe two forms of a metadata list of none")?;
+    section_line(rt, 22, LIST_COUNTED, 12_296)?;
+    section_line(rt, 23, LIST_COUNTED, 12_295)?;
+    section_line(rt, 23, LIST_ZERO, 12_293)?;
+    section_line(rt, 29, LIST_COUNTED, 16_407)?;
+    section_line(rt, 29, LIST_ZERO, 16_405)?;
+    written_line(rt, 29, LIST_ZERO, b"", 0)?;
+    written_line(rt, 29, LIST_ZERO, &METADATA_29, 12)?;
+    written_line(rt, 22, LIST_ZERO, b"", 12)?;
+    written_line(rt, 29, 2, b"", 12)?;
+    written_line(rt, 29, LIST_COUNTED, &METADATA_29, 0)
 }

@@ -1,6 +1,5 @@
 // What the reader answers, and what it read, written back.
 use crate::blocks::{ROOM, front};
-use crate::printing::are_same;
 use anowhetele::answer::AnowAnswer;
 use anowhetele::blocks::anow_read;
 use anowhetele::writing::anow_write;
@@ -25,7 +24,7 @@ pub(crate) fn writes_back(block: &[u8]) -> bool {
         timers_section(block),
         &mut out,
     );
-    are_same(front(&out, written.length as usize), block)
+    front(&out, written.length as usize) == block
 }
 
 // Gives what the reader answers.
@@ -39,5 +38,5 @@ pub(crate) fn read(block: &[u8]) -> AnowAnswer {
 
 // Tells whether an answer has this number and this place.
 pub(crate) fn is_answer(answer: AnowAnswer, number: u32, place: usize) -> bool {
-    (answer.number == number) & (answer.offset == place as u64)
+    answer.number == number && answer.offset == place as u64
 }

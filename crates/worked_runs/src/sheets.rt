@@ -8,7 +8,7 @@ use position::lot::Lot;
 use position::span::Span;
 use sheet::records::{BLOCK_AT, LENGTH_AT};
 use wire::heads::{HEAD_LENGTH, put_head};
-use wire::store::{put_bytes, put_s64, put_u32};
+use wire::store::{put_bytes, put_number};
 
 // Writes a record at a place, and tells where it ends, at most BLOCK_AT and ROOM further on. All nodes of its block are of id 0.
 fn put_record(sheet: &mut [u8], at: usize, key: i64, timestamp: u32, names: &[u8]) -> usize
@@ -17,9 +17,9 @@ fn put_record(sheet: &mut [u8], at: usize, key: i64, timestamp: u32, names: &[u8
 {
     let mut block = [0u8; ROOM];
     let n = put_block(head(29, 0, timestamp), ALL_ZERO, names, &mut block);
-    put_s64(sheet, at, key);
-    put_u32(sheet, at + LENGTH_AT, n as u32);
-    put_bytes(sheet, at + BLOCK_AT, front(&block, n));
+    put_number(sheet, at, key);
+    put_number(sheet, at + LENGTH_AT, n as u32);
+    put_bytes(sheet, at + BLOCK_AT, &block[..n]);
     at + BLOCK_AT + n
 }
 

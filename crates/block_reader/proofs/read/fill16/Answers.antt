@@ -10,7 +10,7 @@ loop-i-preserved c =
     let a = c.args in
     let l = c.loop-i in
     let s = a.s.now in
-    fill_on 2 (length a.out.now) s l.out l.i l.invariant _ (omega arith) (sym (entry-two s (2 * l.i) (omega arith)))
+    rw c.from_be_bytes.ensures (fill_on 2 (length a.out.now) s l.out l.i l.invariant _ (omega arith) (sym (entry-two s (2 * l.i) (omega arith))))
 
 pub returns : goal.returns
 returns c =

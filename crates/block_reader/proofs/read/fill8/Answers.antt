@@ -10,7 +10,7 @@ loop-i-preserved c =
     let a = c.args in
     let l = c.loop-i in
     let s = a.s.now in
-    fill_on 1 (length a.out.now) s l.out l.i l.invariant _ (omega arith) (rw one-mul (sym (entry-one s l.i)))
+    fill_on 1 (length a.out.now) s l.out l.i l.invariant _ (omega arith) (rw (c.from.ensures, one-mul) (sym (entry-one s l.i)))
 
 pub returns : goal.returns
 returns c =

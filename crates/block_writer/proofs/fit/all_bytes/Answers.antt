@@ -1,13 +1,13 @@
-use mathlib.Core.Path.{sym, ◌∙◌}
-use native.Mathlib.Omega.{arith}
-use Rattle.block_writer.proofs.Fits.{below_end, below_other, below_on}
+use borrow.Author.Rules.{rules}
+use borrow.Author.Tests.{tests}
+use mathlib.Core.Path.{◌∙◌}
+use lib.Dec.{ltb}
+use Rattle.std.proofs.lemmas.Iterator.{YieldsList-from_slice}
+use Rattle.std.proofs.lemmas.Iterator.Search.{all_from_yields_List}
+use Rattle.block_writer.proofs.Fits.{below-all}
 use Rattle.block_writer.proofs.fit.all_bytes.Goals as goal
 
-pub returns-then-entries-i-gt255 : goal.returns-then-entries-i-gt255
-returns-then-entries-i-gt255 c = sym (below_other 256 _ _ c.loop-i-test.true c.if-entries-i-gt255.true) ∙ c.loop-i.invariant.1
-
-pub loop-i-preserved : goal.loop-i-preserved
-loop-i-preserved c = (omega arith, sym (below_on 256 _ _ c.loop-i-test.true (omega arith)) ∙ c.loop-i.invariant.1)
-
 pub returns : goal.returns
-returns c = sym (below_end 256 _ _ c.loop-i-test.false) ∙ c.loop-i.invariant.1
+returns c =
+    let entries = c.args.entries.now in
+    all_from_yields_List (λ x. ltb x 256) _ _ c.all.result c.all.ensures.ran (YieldsList-from_slice entries cc) (λ x b q k. search (rules, tests)) ∙ below-all 256 entries

@@ -1,23 +1,17 @@
-use mathlib.Core.Path.{◌≡◌, ap, sym, ◌∙◌}
-use mathlib.Core.Option.{some}
+use borrow.Author.Rules.{rules}
 use native.Mathlib.Omega.{arith}
 use Rattle.wire.proofs.Lists.{rest-is}
-use Rattle.block_writer.specs.Sections.{frame_of, told_frame}
-use Rattle.block_writer.proofs.FrameLengths.{Long}
 use Rattle.block_writer.proofs.RowCounts.{counting-end, counting-over, counting-stop, counting-on}
 use Rattle.block_writer.proofs.frames.row_count.Goals as goal
 
-pub returns-then-left-eq0 : goal.returns-then-left-eq0
-returns-then-left-eq0 c = counting-over c.loop-rest.invariant c.loop-rest-test.true c.if-left-eq0.true
+pub returns-in_err-n : goal.returns-in_err-n
+returns-in_err-n c = rw c.from_residual.ensures (counting-stop c.loop-rest.invariant (search rules) c.in_err-n.ensures)
 
-pub returns-in-NotWhole : goal.returns-in-NotWhole
-returns-in-NotWhole c =
-    counting-stop c.loop-rest.invariant c.loop-rest-test.true (sym (ap told_frame c.in-NotWhole.is) ∙ c.front_row.ensures)
+pub returns-in_err-count : goal.returns-in_err-count
+returns-in_err-count c = rw c.from_residual-in_err-count.ensures (counting-over c.loop-rest.invariant (search rules) (omega (arith, c.in_err-count.ensures)))
 
 pub loop-rest-preserved : goal.loop-rest-preserved
-loop-rest-preserved c =
-    let row : some c.in-Row.n ≡ Long (frame_of c.args.section c.args.version) c.loop-rest.rest.now = sym (ap told_frame c.in-Row.is) ∙ c.front_row.ensures in
-    rw rest-is (counting-on c.loop-rest.invariant c.loop-rest-test.true (omega arith) row)
+loop-rest-preserved c = search (rules, rest-is, counting-on c.loop-rest.invariant (search rules) (search rules) c.in_ok-n.ensures)
 
 pub returns : goal.returns
-returns c = counting-end c.loop-rest.invariant c.loop-rest-test.false
+returns c = counting-end c.loop-rest.invariant (search rules)

@@ -1,8 +1,6 @@
-use Rattle.block_writer.proofs.FrameLengths.{timer-short, timer-whole}
+use mathlib.Core.Path.{refl}
+use Rattle.block_writer.proofs.FrameLengths.{timer-told}
 use Rattle.block_writer.proofs.frames.timer_frame.Goals as goal
 
-pub returns-then-s-lt-TIMER_ROW_LENGTH : goal.returns-then-s-lt-TIMER_ROW_LENGTH
-returns-then-s-lt-TIMER_ROW_LENGTH c = timer-short _ c.if-s-lt-TIMER_ROW_LENGTH.true
-
-pub returns-else-s-lt-TIMER_ROW_LENGTH : goal.returns-else-s-lt-TIMER_ROW_LENGTH
-returns-else-s-lt-TIMER_ROW_LENGTH c = timer-whole _ c.if-s-lt-TIMER_ROW_LENGTH.false
+pub returns : goal.returns
+returns c = rw c.then_some.ensures (timer-told c.args.s.now _ refl)

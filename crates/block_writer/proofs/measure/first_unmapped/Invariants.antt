@@ -6,6 +6,3 @@ use Rattle.block_writer.proofs.measure.first_unmapped.Given as goal
 
 abbrev pub invariant-loop-i : goal.invariant-loop-i
 invariant-loop-i l = first_from (unmarked_among l.version l.param0 l.param2 l.ids) (4096 - l.i) l.i ≡ first_unmapped_among l.version l.param0 l.param2 l.ids
-
-abbrev pub decreases-loop-i : goal.decreases-loop-i
-decreases-loop-i l = 4096 - l.i

@@ -9,16 +9,16 @@ pub put_front-at-requires : goal.put_front-at-requires
 unfolding block_bytes
 put_front-at-requires c =
     let a = c.args in
-    let front = front_bytes a.head a.counts.names a.names.now a.param0.now a.param1.now a.param2.now in
-    let rest = rest_bytes a.head a.counts a.names.now a.metadata.now a.objects.now a.timers.now in
+    let front = front_bytes a.parts.now.head a.counts.names a.parts.now.names.now a.parts.now.param0.now a.parts.now.param1.now a.parts.now.param2.now in
+    let rest = rest_bytes a.parts.now.head a.counts a.parts.now.names.now a.parts.now.metadata.now a.parts.now.objects.now a.parts.now.timers.now in
     omega (arith, c.requires, length-append front rest)
 
 pub put_rest-requires : goal.put_rest-requires
 unfolding block_bytes
 put_rest-requires c =
     let a = c.args in
-    let front = front_bytes a.head a.counts.names a.names.now a.param0.now a.param1.now a.param2.now in
-    let rest = rest_bytes a.head a.counts a.names.now a.metadata.now a.objects.now a.timers.now in
+    let front = front_bytes a.parts.now.head a.counts.names a.parts.now.names.now a.parts.now.param0.now a.parts.now.param1.now a.parts.now.param2.now in
+    let rest = rest_bytes a.parts.now.head a.counts a.parts.now.names.now a.parts.now.metadata.now a.parts.now.objects.now a.parts.now.timers.now in
     put-room {u = front} rest (rw zero-add c.requires) c.put_front-at.ensures
 
 pub returns : goal.returns

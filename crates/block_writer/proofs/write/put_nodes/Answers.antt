@@ -6,5 +6,5 @@ use Rattle.block_writer.proofs.write.put_nodes.Goals as goal
 pub returns : goal.returns
 returns c =
     let a = c.args in
-    let widths = widths-put a.version _ a.at a.out.now _ _ (omega (arith, c.requires)) c.width.ensures c.put_u8.ensures c.put_u8-2.ensures in
+    let widths = widths-put a.version _ a.at a.out.now _ _ (omega (arith, c.requires)) c.width.ensures c.put_number.ensures c.put_number-2.ensures in
     put_two c.requires widths (λ r. put_two r c.put_param0-first.ensures (λ s. put_two s c.put_run-second.ensures (λ _. c.put_run.ensures)))

@@ -1,28 +1,17 @@
-use Rattle.std.proofs.Common.{◌≡◌, true, sym, refl, ◌∙◌}
+use Rattle.std.proofs.Common.{rules, sym, ◌∙◌}
 use Rattle.wire.specs.Bytes.{Bytes}
-use Rattle.wire.specs.Choice.{no_true}
-use Rattle.position.specs.Spans.{in_span}
 use Rattle.census.proofs.CensusTaken.{counted_none, counted-some}
+use Rattle.census.proofs.ScannedBlock.{lists-inside, lists-cut}
 use Rattle.census.proofs.census.count_nodes.Goals as goal
 
-pub returns-then-not-has : goal.returns-then-not-has
-returns-then-not-has c =
+pub returns-then-not-has-clause-told : goal.returns-then-not-has-clause-told
+returns-then-not-has-clause-told c =
     let a = c.args in
-    let out = c.if-not-has.true in
     let bytes : Bytes a.block.now = λ i. (c.type_inv.block i).fits in
-    record {
-      within = sym out ∙ c.has.ensures;
-      outside = λ _. refl;
-      told = λ b n reads shows clear. counted_none a.block.now a.part a.at bytes reads shows clear (sym c.has.ensures ∙ out);
-    }
+    λ b n reads shows clear. counted_none a.block.now a.part a.at bytes reads shows clear (sym c.has.ensures ∙ c.if-not-has.true)
 
-pub returns : goal.returns
-returns c =
+pub returns-clause-told : goal.returns-clause-told
+returns-clause-told c =
     let a = c.args in
-    let spanned : in_span a.part.span a.scanned.head.timestamp ≡ true = sym c.has.ensures ∙ c.if-not-has.false in
     let bytes : Bytes a.block.now = λ i. (c.type_inv.block i).fits in
-    record {
-      within = sym spanned;
-      outside = λ out. no_true (sym out ∙ spanned);
-      told = λ b n reads shows clear. counted-some a.block.now a.part a.at bytes reads shows clear spanned c.slice_of-lists.ensures.bytes c.count_in.ensures.counts;
-    }
+    λ b n reads shows clear. counted-some a.block.now a.part a.at bytes reads shows clear (sym c.has.ensures ∙ c.if-not-has.false) (search (rules, lists-inside a.block.now bytes reads shows, lists-cut a.block.now bytes reads shows)) c.count_in.ensures.counts

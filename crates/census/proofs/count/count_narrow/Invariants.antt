@@ -4,7 +4,4 @@ use Rattle.census.specs.CountsById.{Raised}
 use Rattle.census.proofs.count.count_narrow.Given as goal
 
 abbrev pub invariant-loop-i : goal.invariant-loop-i
-invariant-loop-i l = (l.from ≤ l.i) × (l.i - l.from ≤ l.until - l.from) × Raised (is_at (narrow_id l.version l.lists)) l.from (l.i - l.from) l.initial.counts l.counts
-
-abbrev pub decreases-loop-i : goal.decreases-loop-i
-decreases-loop-i l = l.until - l.i
+invariant-loop-i l = (l.i - l.from ≤ l.until - l.from) × Raised (is_at (narrow_id l.version l.lists)) l.from (l.i - l.from) l.initial.counts l.counts

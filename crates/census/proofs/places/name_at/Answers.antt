@@ -1,7 +1,5 @@
 use Rattle.std.proofs.Common.{sym, ap, ◌∙◌}
-use Rattle.wire.proofs.Steps.{told-as}
 use Rattle.mapblock.specs.Data.{NameRow}
-use Rattle.mapblock.specs.Told.{told_name}
 use Rattle.wire.specs.Bytes.{Bytes}
 use Rattle.wire.proofs.Places.{place-first}
 use Rattle.census.proofs.RowsAt.{row-beyond, start-beyond, row-refused, start-refused, row-name, row-start}
@@ -15,21 +13,19 @@ returns-then-s-p c =
       place = place-first a.s (start-beyond a.s.now a.p c.if-s-p.true);
     }
 
-pub returns-in-Refused : goal.returns-in-Refused
-returns-in-Refused c =
+pub returns-in_default : goal.returns-in_default
+returns-in_default c =
     let a = c.args in
-    let told = told-as told_name c.name_row.ensures c.in-Refused.is in
     record {
-      told = ap (λ (r : NameRow). r.name) (sym (row-refused a.s.now a.p told));
-      place = place-first a.s (start-refused a.s.now a.p told);
+      told = ap (λ (r : NameRow). r.name) (sym (row-refused a.s.now a.p c.in_default.ensures));
+      place = place-first a.s (start-refused a.s.now a.p c.in_default.ensures);
     }
 
-pub returns-in-Row : goal.returns-in-Row
-returns-in-Row c =
+pub returns : goal.returns
+returns c =
     let a = c.args in
-    let told = told-as told_name c.name_row.ensures c.in-Row.is in
     let bytes : Bytes a.s.now = λ i. (c.type_inv.s i).fits in
     record {
-      told = c.slice_of.ensures.bytes ∙ row-name a.s.now a.p told bytes;
-      place = c.slice_of.ensures.place ∙ row-start a.s.now a.p told a.s.ref_ptr.0 a.s.ref_ptr.1 bytes;
+      told = c.slice_of.ensures.bytes ∙ row-name a.s.now a.p c.in-Ok.ensures bytes;
+      place = c.slice_of.ensures.place ∙ row-start a.s.now a.p c.in-Ok.ensures a.s.ref_ptr.0 a.s.ref_ptr.1 bytes;
     }

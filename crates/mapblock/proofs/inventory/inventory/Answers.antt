@@ -5,8 +5,8 @@ use lib.ListN.{drop}
 use Rattle.wire.specs.Marks.{starts}
 use Rattle.mapblock.specs.Inventory.{end_line}
 use Rattle.mapblock.proofs.Lines.{line-none, line-here, line_other, line-inside, inventory-ended}
+use Rattle.mapblock.proofs.inventory.inventory.Goals.{else-fresh-via-then-fresh+else-mark_at, else-fresh-via-else-fresh}
 use Rattle.mapblock.proofs.inventory.inventory.Goals as goal
-use Rattle.mapblock.proofs.inventory.inventory.Goals.{then-fresh+else-mark_at, else-fresh}
 
 pub returns-then-mark_at : goal.returns-then-mark_at
 returns-then-mark_at c =
@@ -17,10 +17,11 @@ returns-then-mark_at c =
 pub loop-at-preserved : goal.loop-at-preserved
 loop-at-preserved c =
     let l = c.loop-at in
-    elim c.if-fresh.branch [
-      | then-fresh+else-mark_at w ↦ sym (line_other _ l.at (omega arith) w.if-fresh.true (sym w.mark_at.ensures ∙ w.if-mark_at.false)) ∙ l.invariant
-      | else-fresh w ↦ sym (line-inside _ l.at (omega arith) w.if-fresh.false) ∙ l.invariant
+    elim c.else-fresh.branch [
+      | else-fresh-via-then-fresh+else-mark_at w ↦ sym (line_other _ l.at (omega arith) w.if-fresh.true (sym w.mark_at.ensures ∙ w.if-mark_at.false)) ∙ l.invariant
+      | else-fresh-via-else-fresh w ↦ sym (line-inside _ l.at (omega arith) w.if-fresh.false) ∙ l.invariant
     ]
 
 pub returns : goal.returns
-returns c = let l = c.loop-at in inventory-ended _ (sym l.invariant ∙ line-none _ l.at l.fresh (omega arith))
+returns c =
+    let l = c.loop-at in rw c.ends.ensures (inventory-ended _ (sym l.invariant ∙ line-none _ l.at l.fresh (omega arith)))

@@ -1,13 +1,20 @@
-use Rattle.wire.specs.Told.{told_u8}
-use Rattle.mapblock.proofs.Leaves.{by_number}
 use Rattle.mapblock.proofs.TaggedLists.{byte-refused, byte-other, byte-zero}
+use Rattle.mapblock.proofs.Leaves.{by_number}
+use Rattle.wire.specs.Told.{told_number}
+use Rattle.mapblock.proofs.Refusals.{none_becomes}
 use Rattle.mapblock.proofs.lists.byte_of_23.Goals as goal
 
-pub returns-in-Ends : goal.returns-in-Ends
-returns-in-Ends c = byte-refused _ (by_number 1 _ told_u8 c.u8_at.ensures c.in-Ends.is)
+pub returns-in_err-byte : goal.returns-in_err-byte
+returns-in_err-byte c =
+    let none = c.in_err-byte.ensures in
+    rw (none_becomes _ c.from_residual.ensures.1 none.value none.ok_part c.ends.ensures) (byte-refused _ (by_number 1 _ (told_number 1) c.number_at.ensures none.ok_part))
 
 pub returns-then-byte-ne0 : goal.returns-then-byte-ne0
-returns-then-byte-ne0 c = byte-other _ (by_number 1 _ told_u8 c.u8_at.ensures c.in-Value.is) c.if-byte-ne0.true
+returns-then-byte-ne0 c =
+    let byte = by_number 1 _ (told_number 1) c.number_at.ensures c.in_ok-byte.ensures.ok_part in
+    rw c.from.ensures (byte-other _ byte c.if-byte-ne0.true)
 
-pub returns-else-byte-ne0 : goal.returns-else-byte-ne0
-returns-else-byte-ne0 c = byte-zero _ (by_number 1 _ told_u8 c.u8_at.ensures c.in-Value.is) c.if-byte-ne0.false
+pub returns : goal.returns
+returns c =
+    let byte = by_number 1 _ (told_number 1) c.number_at.ensures c.in_ok-byte.ensures.ok_part in
+    byte-zero _ byte c.if-byte-ne0.false

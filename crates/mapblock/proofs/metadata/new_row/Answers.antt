@@ -1,73 +1,53 @@
-use Prim.Native.Nat.{◌+◌, ◌≤◌}
-use mathlib.Core.Path.{◌≡◌, ap, sym, ◌∙◌}
 use native.Mathlib.Omega.{arith}
+use Prim.Native.Nat.{◌+◌, ◌≤◌}
 use lib.ListN.{length, drop, length-drop}
-use Rattle.wire.proofs.Lists.{rest-is}
-use Rattle.wire.specs.Read.{done, refused}
 use Rattle.wire.specs.Formats.{times}
-use Rattle.wire.specs.Told.{told_u32}
 use Rattle.mapblock.specs.Inventory.{inventory}
 use Rattle.mapblock.specs.MetadataChecks.{variable_for}
-use Rattle.mapblock.specs.Told.{told_reach, ended}
-use Rattle.mapblock.proofs.Leaves.{by_number}
-use Rattle.mapblock.proofs.Readings.{num, within, within-ended}
+use Rattle.mapblock.proofs.Leaves.{by_number, read_behind}
+use Rattle.wire.specs.Told.{told_number}
+use Rattle.mapblock.proofs.Readings.{num, within-ended}
 use Rattle.mapblock.proofs.MetadataRows.{count-ends, variables-refused, inventory-refused, new-done}
+use Rattle.mapblock.proofs.Refusals.{none_becomes, part_refused, part_done}
+use Rattle.wire.proofs.Handed.{handed_on}
 use Rattle.mapblock.proofs.metadata.new_row.Goals as goal
 
-pub returns-in_default : goal.returns-in_default
-returns-in_default c =
+pub returns-in_err-count : goal.returns-in_err-count
+returns-in_err-count c =
     let p = c.requires in
-    count-ends _ _ _ p.1 p.0 (by_number 4 _ told_u32 c.u32_at.ensures c.in_default.is)
+    let none = c.in_err-count.ensures in
+    rw (none_becomes _ c.from_residual.ensures.1 none.value none.ok_part c.ends.ensures) (count-ends _ _ _ p.1 p.0 (by_number 4 _ (told_number 4) c.number_at.ensures none.ok_part))
 
-pub overflow_add-result-in-Refused-inventory-2 : goal.overflow_add-result-in-Refused-inventory-2
-overflow_add-result-in-Refused-inventory-2 c =
-    let s = c.args.s.now in
-    let count : (num 4).read (drop 2 s) ≡ done c.in-Value.count 4 = by_number 4 _ told_u32 c.u32_at.ensures c.in-Value.is in
-    let some-variables : done tt c.in-End.n ≡ ended ((times c.in-Value.count (variable_for c.args.values c.args.version)).read (drop 6 s)) =
-    rw (rest-is 6 s) at (sym (ap told_reach c.in-End.is) ∙ c.variables.ensures) in
-    let no-inventory : refused c.in-Refused-inventory.fault c.in-Refused-inventory.offset ≡ ended (inventory.read (drop (6 + c.in-End.n) s)) =
-    rw (rest-is (6 + c.in-End.n) s) at (sym (ap told_reach c.in-Refused-inventory.is) ∙ c.inventory.ensures) in
-    let six : 6 ≤ length s = omega (arith, rw length-drop at (within (num 4) _ count)) in
-    let variables-in : 6 + c.in-End.n ≤ length s = omega (arith, six, rw length-drop at (within-ended (times _ _) _ some-variables)) in
-    omega (arith, variables-in, rw length-drop at (within-ended inventory _ no-inventory))
-
-pub overflow_add-result-in-End-inventory-2 : goal.overflow_add-result-in-End-inventory-2
-overflow_add-result-in-End-inventory-2 c =
-    let s = c.args.s.now in
-    let count : (num 4).read (drop 2 s) ≡ done c.in-Value.count 4 = by_number 4 _ told_u32 c.u32_at.ensures c.in-Value.is in
-    let some-variables : done tt c.in-End.n ≡ ended ((times c.in-Value.count (variable_for c.args.values c.args.version)).read (drop 6 s)) =
-    rw (rest-is 6 s) at (sym (ap told_reach c.in-End.is) ∙ c.variables.ensures) in
-    let some-inventory : done tt c.in-End-inventory.m ≡ ended (inventory.read (drop (6 + c.in-End.n) s)) =
-    rw (rest-is (6 + c.in-End.n) s) at (sym (ap told_reach c.in-End-inventory.is) ∙ c.inventory.ensures) in
-    let six : 6 ≤ length s = omega (arith, rw length-drop at (within (num 4) _ count)) in
-    let variables-in : 6 + c.in-End.n ≤ length s = omega (arith, six, rw length-drop at (within-ended (times _ _) _ some-variables)) in
-    omega (arith, variables-in, rw length-drop at (within-ended inventory _ some-inventory))
-
-pub returns-in-Refused : goal.returns-in-Refused
-returns-in-Refused c =
-    let a = c.args in
-    let s = c.args.s.now in
-    let count : (num 4).read (drop 2 c.args.s.now) ≡ done c.in-Value.count 4 = by_number 4 _ told_u32 c.u32_at.ensures c.in-Value.is in
-    let no-variables : refused c.in-Refused.fault c.in-Refused.offset ≡ ended ((times c.in-Value.count (variable_for a.values a.version)).read (drop 6 a.s.now)) = rw (rest-is 6 s) at (sym (ap told_reach c.in-Refused.is) ∙ c.variables.ensures) in
+pub returns-in_err-n : goal.returns-in_err-n
+returns-in_err-n c =
     let p = c.requires in
-    variables-refused _ _ _ p.1 p.0 count no-variables
+    let count = by_number 4 _ (told_number 4) c.number_at.ensures c.in_ok-count.ensures.ok_part in
+    rw (handed_on _ c.from_residual-in_err-n.ensures.1)
+    (part_refused (times c.in_ok-count.count (variable_for c.args.values c.args.version)) 6 c.args.s.now c.variables.result c.in_err-n.ensures c.variables.ensures (omega arith) (omega arith) (λ e q k. variables-refused _ _ _ p.1 p.0 count k))
 
-pub returns-in-Refused-inventory : goal.returns-in-Refused-inventory
-returns-in-Refused-inventory c =
-    let a = c.args in
-    let s = c.args.s.now in
-    let count : (num 4).read (drop 2 c.args.s.now) ≡ done c.in-Value.count 4 = by_number 4 _ told_u32 c.u32_at.ensures c.in-Value.is in
-    let some-variables : done tt c.in-End.n ≡ ended ((times c.in-Value.count (variable_for a.values a.version)).read (drop 6 a.s.now)) = rw (rest-is 6 s) at (sym (ap told_reach c.in-End.is) ∙ c.variables.ensures) in
-    let no-inventory : refused c.in-Refused-inventory.fault c.in-Refused-inventory.offset ≡ ended (inventory.read (drop (6 + c.in-End.n) s)) = rw (rest-is (6 + c.in-End.n) s) at (sym (ap told_reach c.in-Refused-inventory.is) ∙ c.inventory.ensures) in
+pub returns-in_err-m : goal.returns-in_err-m
+returns-in_err-m c =
     let p = c.requires in
-    inventory-refused _ _ _ p.1 p.0 count some-variables no-inventory
+    let count = by_number 4 _ (told_number 4) c.number_at.ensures c.in_ok-count.ensures.ok_part in
+    let vars = part_done (times c.in_ok-count.count (variable_for c.args.values c.args.version)) 6 c.args.s.now c.variables.result c.in_ok-n.ensures c.variables.ensures in
+    let six : 6 ≤ length c.args.s.now = read_behind (num 4) 2 c.args.s.now count (omega arith) in
+    let n_in : c.in_ok-n.n ≤ length (drop 6 c.args.s.now) = within-ended (times c.in_ok-count.count (variable_for c.args.values c.args.version)) _ vars in
+    rw (handed_on _ c.from_residual-in_err-m.ensures.1)
+    (part_refused inventory (6 + c.in_ok-n.n) c.args.s.now c.inventory.result c.in_err-m.ensures c.inventory.ensures (omega (arith, six, n_in, length-drop 6 c.args.s.now)) (omega arith) (λ e q k. inventory-refused _ _ _ p.1 p.0 count vars k))
 
-pub returns-in-End-inventory : goal.returns-in-End-inventory
-returns-in-End-inventory c =
-    let a = c.args in
-    let s = c.args.s.now in
-    let count : (num 4).read (drop 2 c.args.s.now) ≡ done c.in-Value.count 4 = by_number 4 _ told_u32 c.u32_at.ensures c.in-Value.is in
-    let some-variables : done tt c.in-End.n ≡ ended ((times c.in-Value.count (variable_for a.values a.version)).read (drop 6 a.s.now)) = rw (rest-is 6 s) at (sym (ap told_reach c.in-End.is) ∙ c.variables.ensures) in
-    let some-inventory : done tt c.in-End-inventory.m ≡ ended (inventory.read (drop (6 + c.in-End.n) s)) = rw (rest-is (6 + c.in-End.n) s) at (sym (ap told_reach c.in-End-inventory.is) ∙ c.inventory.ensures) in
+pub returns : goal.returns
+returns c =
     let p = c.requires in
-    new-done _ _ _ p.1 p.0 count some-variables (λ i. (c.type_inv.s i).fits) some-inventory
+    let count = by_number 4 _ (told_number 4) c.number_at.ensures c.in_ok-count.ensures.ok_part in
+    let vars = part_done (times c.in_ok-count.count (variable_for c.args.values c.args.version)) 6 c.args.s.now c.variables.result c.in_ok-n.ensures c.variables.ensures in
+    let found = part_done inventory (6 + c.in_ok-n.n) c.args.s.now c.inventory.result c.in_ok-m.ensures c.inventory.ensures in
+    new-done _ _ _ p.1 p.0 count vars (λ i. (c.type_inv.s i).fits) found
+
+pub overflow_add-result : goal.overflow_add-result
+overflow_add-result c =
+    let count = by_number 4 _ (told_number 4) c.number_at.ensures c.in_ok-count.ensures.ok_part in
+    let vars = part_done (times c.in_ok-count.count (variable_for c.args.values c.args.version)) 6 c.args.s.now c.variables.result c.in_ok-n.ensures c.variables.ensures in
+    let six : 6 ≤ length c.args.s.now = read_behind (num 4) 2 c.args.s.now count (omega arith) in
+    let n_in : c.in_ok-n.n ≤ length (drop 6 c.args.s.now) = within-ended (times c.in_ok-count.count (variable_for c.args.values c.args.version)) _ vars in
+    let m_in : c.in_ok-m.m ≤ length (drop (6 + c.in_ok-n.n) c.args.s.now) = within-ended inventory _ (part_done inventory (6 + c.in_ok-n.n) c.args.s.now c.inventory.result c.in_ok-m.ensures c.inventory.ensures) in
+    omega (arith, six, n_in, length-drop 6 c.args.s.now, m_in, length-drop (6 + c.in_ok-n.n) c.args.s.now)

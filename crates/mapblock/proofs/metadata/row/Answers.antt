@@ -1,7 +1,7 @@
-use mathlib.Core.Path.{ap, sym, ◌∙◌}
-use Rattle.mapblock.specs.Told.{told_position}
+use mathlib.Core.Path.{sym}
 use Rattle.mapblock.proofs.MetadataRows.{row-refused}
+use Rattle.wire.proofs.Handed.{handed_on}
 use Rattle.mapblock.proofs.metadata.row.Goals as goal
 
-pub returns-in-Refused : goal.returns-in-Refused
-returns-in-Refused c = row-refused _ _ _ (sym c.row_position.ensures ∙ ap told_position c.in-Refused.is)
+pub returns-in_err-p : goal.returns-in_err-p
+returns-in_err-p c = rw (handed_on _ c.from_residual.ensures.1) (row-refused _ _ _ (sym c.in_err-p.ensures))

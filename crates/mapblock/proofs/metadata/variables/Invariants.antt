@@ -1,10 +1,7 @@
--- The invariant: the variables so far were read, and those that are left give the answer asked. The measure: `left`, the variables that are left.
+-- The variables so far were read up to the place, and those that are left give the answer asked.
 use Rattle.mapblock.specs.MetadataChecks.{variable_for}
 use Rattle.mapblock.proofs.Readings.{Reading}
 use Rattle.mapblock.proofs.metadata.variables.Given as goal
 
-abbrev pub invariant-loop-left : goal.invariant-loop-left
-invariant-loop-left l = Reading (λ _. variable_for l.values l.version) l.count l.s l.rest l.at l.left
-
-abbrev pub decreases-loop-left : goal.decreases-loop-left
-decreases-loop-left l = l.left
+abbrev pub invariant-loop : goal.invariant-loop
+invariant-loop l = Reading (λ _. variable_for l.values l.version) l.count l.s l.at l.counter

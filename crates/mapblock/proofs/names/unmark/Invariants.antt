@@ -1,12 +1,9 @@
--- The invariant: taking off the marks of the rows that are left gives the answer. The measure: `left`, the rows that are left.
-use Rattle.mapblock.specs.Table.{unmarked, front_rows}
-use lib.ListN.{length}
+-- Taking off the marks of the rows that are left gives the answer.
+use Prim.Native.Nat.{◌-◌, ◌≤◌}
 use mathlib.Core.Path.{◌≡◌}
-use Prim.Native.Nat.{◌≤◌}
+use lib.ListN.{length}
+use Rattle.mapblock.specs.Table.{unmarked, front_rows}
 use Rattle.mapblock.proofs.names.unmark.Given as goal
 
-abbrev pub invariant-loop-left : goal.invariant-loop-left
-invariant-loop-left l = (unmarked l.ids (front_rows l.left l.rest) ≡ unmarked l.initial.ids (front_rows l.count l.s)) × (length l.rest ≤ length l.s)
-
-abbrev pub decreases-loop-left : goal.decreases-loop-left
-decreases-loop-left l = l.left
+abbrev pub invariant-loop : goal.invariant-loop
+invariant-loop l = (unmarked l.ids (front_rows (l.count - l.counter) l.rest) ≡ unmarked l.initial.ids (front_rows l.count l.s)) × (length l.rest ≤ length l.s)

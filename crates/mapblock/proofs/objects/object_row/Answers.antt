@@ -1,54 +1,57 @@
-use Rattle.mapblock.proofs.Leaves.{by_number, by-signed, by-counted}
 use Rattle.mapblock.proofs.OtherRows.{object-no-kind, object-no-x, object-no-y, object-no-z, object-no-content, object-done}
-use Rattle.mapblock.specs.declared.fault.Fault.TheVariants as fault
-use Rattle.wire.specs.Formats.{u8, s32, half32}
-use Rattle.wire.specs.Read.{done}
-use Rattle.wire.specs.Told.{told_u8, told_s32, told_run}
+use Rattle.wire.specs.Told.{told_number}
+use Rattle.mapblock.proofs.Refusals.{none_becomes, at_refused, at_done}
+use Rattle.mapblock.proofs.Leaves.{by_number, by-signed}
+use mathlib.Core.Path.{refl}
+use Rattle.wire.specs.Formats.{half32}
 use mir.ValLaws.{to_z-of_z}
 use mir.Syntax.{w32}
 use mir.Val.{SFits}
 use borrow.Author.Rules.{rules}
-use lib.ListN.{drop}
-use mathlib.Core.Path.{◌≡◌, refl, ◌∙◌}
+use Rattle.wire.proofs.Handed.{handed_on}
 use Rattle.mapblock.proofs.objects.object_row.Goals as goal
 
-pub returns-in_default : goal.returns-in_default
-returns-in_default c = c.ends_at.ensures ∙ object-no-kind _ (by_number 1 _ told_u8 c.u8_at.ensures c.in_default.is)
+pub returns-in_err-kind : goal.returns-in_err-kind
+returns-in_err-kind c =
+    let none = c.in_err-kind.ensures in
+    rw (none_becomes _ c.from_residual.ensures.1 none.value none.ok_part c.ends.ensures) (object-no-kind _ (by_number 1 _ (told_number 1) c.number_at.ensures none.ok_part))
 
-pub returns-in_default-s32_at : goal.returns-in_default-s32_at
-returns-in_default-s32_at c =
-    let kind-is : (u8 {ends = fault.Ends}).read c.args.s.now ≡ done c.in-Value.kind 1 = by_number 1 _ told_u8 c.u8_at.ensures c.in-Value.is in
-    c.ends_at-in_default-s32_at.ensures ∙ object-no-x _ kind-is (by-signed 4 half32 refl _ told_s32 c.s32_at.ensures c.in_default-s32_at.is)
+pub returns-in_err-x : goal.returns-in_err-x
+returns-in_err-x c =
+    let kind = by_number 1 _ (told_number 1) c.number_at.ensures c.in_ok-kind.ensures.ok_part in
+    let none = c.in_err-x.ensures in
+    rw (none_becomes _ c.from_residual-in_err-x.ensures.1 none.value none.ok_part c.ends-2.ensures) (object-no-x _ kind (by-signed 4 half32 refl _ (told_number 4) c.number_at-2.ensures none.ok_part))
 
-pub returns-in_default-s32_at-2 : goal.returns-in_default-s32_at-2
-returns-in_default-s32_at-2 c =
-    let kind-is : (u8 {ends = fault.Ends}).read c.args.s.now ≡ done c.in-Value.kind 1 = by_number 1 _ told_u8 c.u8_at.ensures c.in-Value.is in
-    let x-is : (s32 {ends = fault.Ends}).read (drop 1 c.args.s.now) ≡ done c.in-Value-s32_at.x 4 = by-signed 4 half32 refl _ told_s32 c.s32_at.ensures c.in-Value-s32_at.is in
-    c.ends_at-in_default-s32_at-2.ensures ∙ object-no-y _ kind-is x-is (by-signed 4 half32 refl _ told_s32 c.s32_at-2.ensures c.in_default-s32_at-2.is)
+pub returns-in_err-y : goal.returns-in_err-y
+returns-in_err-y c =
+    let kind = by_number 1 _ (told_number 1) c.number_at.ensures c.in_ok-kind.ensures.ok_part in
+    let x = by-signed 4 half32 refl _ (told_number 4) c.number_at-2.ensures c.in_ok-x.ensures.ok_part in
+    let none = c.in_err-y.ensures in
+    rw (none_becomes _ c.from_residual-in_err-y.ensures.1 none.value none.ok_part c.ends-3.ensures) (object-no-y _ kind x (by-signed 4 half32 refl _ (told_number 4) c.number_at-3.ensures none.ok_part))
 
-pub returns-in_default-s32_at-3 : goal.returns-in_default-s32_at-3
-returns-in_default-s32_at-3 c =
-    let kind-is : (u8 {ends = fault.Ends}).read c.args.s.now ≡ done c.in-Value.kind 1 = by_number 1 _ told_u8 c.u8_at.ensures c.in-Value.is in
-    let x-is : (s32 {ends = fault.Ends}).read (drop 1 c.args.s.now) ≡ done c.in-Value-s32_at.x 4 = by-signed 4 half32 refl _ told_s32 c.s32_at.ensures c.in-Value-s32_at.is in
-    let y-is : (s32 {ends = fault.Ends}).read (drop 5 c.args.s.now) ≡ done c.in-Value-s32_at-2.y 4 = by-signed 4 half32 refl _ told_s32 c.s32_at-2.ensures c.in-Value-s32_at-2.is in
-    c.ends_at-in_default-s32_at-3.ensures ∙ object-no-z _ kind-is x-is y-is (by-signed 4 half32 refl _ told_s32 c.s32_at-3.ensures c.in_default-s32_at-3.is)
+pub returns-in_err-z : goal.returns-in_err-z
+returns-in_err-z c =
+    let kind = by_number 1 _ (told_number 1) c.number_at.ensures c.in_ok-kind.ensures.ok_part in
+    let x = by-signed 4 half32 refl _ (told_number 4) c.number_at-2.ensures c.in_ok-x.ensures.ok_part in
+    let y = by-signed 4 half32 refl _ (told_number 4) c.number_at-3.ensures c.in_ok-y.ensures.ok_part in
+    let none = c.in_err-z.ensures in
+    rw (none_becomes _ c.from_residual-in_err-z.ensures.1 none.value none.ok_part c.ends-4.ensures) (object-no-z _ kind x y (by-signed 4 half32 refl _ (told_number 4) c.number_at-4.ensures none.ok_part))
 
-pub returns-in-Ends : goal.returns-in-Ends
-returns-in-Ends c =
-    let kind-is : (u8 {ends = fault.Ends}).read c.args.s.now ≡ done c.in-Value.kind 1 = by_number 1 _ told_u8 c.u8_at.ensures c.in-Value.is in
-    let x-is : (s32 {ends = fault.Ends}).read (drop 1 c.args.s.now) ≡ done c.in-Value-s32_at.x 4 = by-signed 4 half32 refl _ told_s32 c.s32_at.ensures c.in-Value-s32_at.is in
-    let y-is : (s32 {ends = fault.Ends}).read (drop 5 c.args.s.now) ≡ done c.in-Value-s32_at-2.y 4 = by-signed 4 half32 refl _ told_s32 c.s32_at-2.ensures c.in-Value-s32_at-2.is in
-    let z-is : (s32 {ends = fault.Ends}).read (drop 9 c.args.s.now) ≡ done c.in-Value-s32_at-3.z 4 = by-signed 4 half32 refl _ told_s32 c.s32_at-3.ensures c.in-Value-s32_at-3.is in
-    c.ends_at-in-Ends.ensures ∙ object-no-content _ kind-is x-is y-is z-is (by-counted 2 _ (told_run 2 (drop 13 c.args.s.now)) c.run16_at.ensures c.in-Ends.is)
+pub returns-in_err-length : goal.returns-in_err-length
+returns-in_err-length c =
+    let kind = by_number 1 _ (told_number 1) c.number_at.ensures c.in_ok-kind.ensures.ok_part in
+    let x = by-signed 4 half32 refl _ (told_number 4) c.number_at-2.ensures c.in_ok-x.ensures.ok_part in
+    let y = by-signed 4 half32 refl _ (told_number 4) c.number_at-3.ensures c.in_ok-y.ensures.ok_part in
+    let z = by-signed 4 half32 refl _ (told_number 4) c.number_at-4.ensures c.in_ok-z.ensures.ok_part in
+    rw (handed_on _ c.from_residual-in_err-length.ensures.1) (at_refused 13 _ c.in_err-length.ensures (λ q e. object-no-content _ kind x y z e))
 
-pub returns-in-Bytes : goal.returns-in-Bytes
-returns-in-Bytes c =
-    let kind-is : (u8 {ends = fault.Ends}).read c.args.s.now ≡ done c.in-Value.kind 1 = by_number 1 _ told_u8 c.u8_at.ensures c.in-Value.is in
-    let x-is : (s32 {ends = fault.Ends}).read (drop 1 c.args.s.now) ≡ done c.in-Value-s32_at.x 4 = by-signed 4 half32 refl _ told_s32 c.s32_at.ensures c.in-Value-s32_at.is in
-    let y-is : (s32 {ends = fault.Ends}).read (drop 5 c.args.s.now) ≡ done c.in-Value-s32_at-2.y 4 = by-signed 4 half32 refl _ told_s32 c.s32_at-2.ensures c.in-Value-s32_at-2.is in
-    let z-is : (s32 {ends = fault.Ends}).read (drop 9 c.args.s.now) ≡ done c.in-Value-s32_at-3.z 4 = by-signed 4 half32 refl _ told_s32 c.s32_at-3.ensures c.in-Value-s32_at-3.is in
-    let x : SFits w32 c.in-Value-s32_at.x = search rules in
-    let y : SFits w32 c.in-Value-s32_at-2.y = search rules in
-    let z : SFits w32 c.in-Value-s32_at-3.z = search rules in
-    rw (to_z-of_z w32 _ x, to_z-of_z w32 _ y, to_z-of_z w32 _ z)
-    (object-done _ kind-is x-is y-is z-is (by-counted 2 _ (told_run 2 (drop 13 c.args.s.now)) c.run16_at.ensures c.in-Bytes.is))
+pub returns : goal.returns
+returns c =
+    let kind = by_number 1 _ (told_number 1) c.number_at.ensures c.in_ok-kind.ensures.ok_part in
+    let x = by-signed 4 half32 refl _ (told_number 4) c.number_at-2.ensures c.in_ok-x.ensures.ok_part in
+    let y = by-signed 4 half32 refl _ (told_number 4) c.number_at-3.ensures c.in_ok-y.ensures.ok_part in
+    let z = by-signed 4 half32 refl _ (told_number 4) c.number_at-4.ensures c.in_ok-z.ensures.ok_part in
+    let fits-x : SFits w32 c.in_ok-x.x = search rules in
+    let fits-y : SFits w32 c.in_ok-y.y = search rules in
+    let fits-z : SFits w32 c.in_ok-z.z = search rules in
+    rw (to_z-of_z w32 _ fits-x, to_z-of_z w32 _ fits-y, to_z-of_z w32 _ fits-z) (object-done _ kind x y z (at_done 13 _ c.in_ok-length.ensures))

@@ -1,22 +1,26 @@
-use mathlib.Core.Path.{◌≡◌}
 use native.Mathlib.Omega.{arith}
-use Rattle.wire.specs.Read.{refused}
 use Rattle.mapblock.specs.ListKinds.{row_after}
-use Rattle.mapblock.specs.Told.{ended}
 use Rattle.mapblock.proofs.Readings.{reading-end, reading-refused}
 use Rattle.mapblock.proofs.RowLists.{walk_start, walk-told, walk-on}
+use Rattle.mapblock.proofs.Refusals.{told_refused, told_done}
+use Rattle.wire.proofs.Handed.{handed_on}
 use Rattle.mapblock.proofs.rows.rows.Goals as goal
 
-pub loop-left-init : goal.loop-left-init
-loop-left-init c = walk_start _ _ _ _
+pub loop-init : goal.loop-init
+loop-init c = walk_start _ _ _ _
 
-pub returns-in-Refused : goal.returns-in-Refused
-returns-in-Refused c =
-    let no_row : refused c.in-Refused.fault c.in-Refused.offset ≡ ended ((row_after c.args.kind c.args.version c.loop-left.invariant.reading.seen).read c.loop-left.rest.now) = walk-told c.loop-left.invariant c.row_after.ensures c.in-Refused.is in
-    reading-refused c.loop-left.invariant.reading (omega arith) no_row
+pub returns-in_err-n : goal.returns-in_err-n
+returns-in_err-n c =
+    let l = c.loop in
+    let w = l.invariant in
+    rw (handed_on _ c.from_residual.ensures.1)
+    (told_refused (row_after c.args.kind c.args.version w.reading.seen) l.at c.args.s.now c.row_after.result c.in_err-n.ensures (walk-told w c.row_after.ensures) (omega arith) (omega arith) (λ e p k. reading-refused w.reading c.loop-test.true k))
 
-pub loop-left-preserved : goal.loop-left-preserved
-loop-left-preserved c = walk-on c.loop-left.invariant c.row_after.ensures c.in-End.is (omega arith)
+pub loop-preserved : goal.loop-preserved
+loop-preserved c =
+    let l = c.loop in
+    let w = l.invariant in
+    walk-on w c.row_after.ensures (told_done (row_after c.args.kind c.args.version w.reading.seen) l.at c.args.s.now c.row_after.result c.in_ok-n.ensures (walk-told w c.row_after.ensures)) c.loop-test.true
 
 pub returns : goal.returns
-returns c = reading-end c.loop-left.invariant.reading (omega arith)
+returns c = reading-end c.loop.invariant.reading (omega arith)

@@ -1,38 +1,31 @@
-use Rattle.std.proofs.Common.{arith}
-use Rattle.mapblock.specs.Table.{clear_table}
-use Rattle.meter.proofs.Putting.{put-absorbed, put-few, put-headless, absorbed-short, absorbed-rows, absorbed-size, absorbed-all}
+use Rattle.std.proofs.Common.{arith, rules}
+use Rattle.meter.proofs.Putting.{put-headless, put-nothing, put-rows, put-size, put-all}
 use Rattle.meter.proofs.block_tally.put_tally.Goals as goal
 
 pub returns-then-out-lt-HEAD_LENGTH : goal.returns-then-out-lt-HEAD_LENGTH
 returns-then-out-lt-HEAD_LENGTH c = λ b f. put-headless c.args.part c.args.at (λ i. (c.type_inv.block i).fits) f c.args.out.now c.if-out-lt-HEAD_LENGTH.true
 
-pub returns-then-running : goal.returns-then-running
-unfolding clear_table
-returns-then-running c = λ b f. absorbed-short c.args.out.now _ _ _ c.if-out-lt-HEAD_LENGTH.false c.add_block-running.ensures.kept
-    (put-absorbed c.args.part c.args.at (λ i. (c.type_inv.block i).fits) f _ c.empty.ensures (λ R. c.add_block-running.ensures.told b R))
-    c.if-running.true
+pub returns-in_err-size : goal.returns-in_err-size
+returns-in_err-size c =
+    let no = c.in_err-size.ensures in
+    let x = c.add_block-sum.ensures in
+    λ b f. search (rules, put-nothing c.args.part c.args.at (λ i. (c.type_inv.block i).fits) f c.args.out.now c.if-out-lt-HEAD_LENGTH.false x.kept c.requires.1 c.empty.ensures (λ R. x.told b R) no.ok_part)
 
-pub overflow_cast-running : goal.overflow_cast-running
-unfolding clear_table
-overflow_cast-running c =
-    let x = c.requires in
-    let few = put-few c.args.part c.args.at (λ i. (c.type_inv.block i).fits) x.1 in
-    let rows = absorbed-rows c.args.out.now _ _ _ c.if-out-lt-HEAD_LENGTH.false c.add_block-running.ensures.kept
-    (put-absorbed c.args.part c.args.at (λ i. (c.type_inv.block i).fits) x.1 _ c.empty.ensures (λ R. c.add_block-running.ensures.told x.0 R))
-    c.if-running.false in
-    record { fits = omega (arith, few, rows) }
+pub overflow_cast-rows : goal.overflow_cast-rows
+overflow_cast-rows c =
+    let (b, f) = c.requires.0 in
+    let x = c.add_block-sum.ensures in
+    let few = put-rows c.args.part c.args.at (λ i. (c.type_inv.block i).fits) f c.args.out.now c.if-out-lt-HEAD_LENGTH.false x.kept c.requires.1 c.empty.ensures (λ R. x.told b R) c.in_ok-size.ensures.ok_part in
+    record { fits = omega (arith, few) }
 
 pub overflow_add-result : goal.overflow_add-result
-unfolding clear_table
 overflow_add-result c =
-    let x = c.requires in
-    let size = absorbed-size c.args.out.now _ _ _ c.if-out-lt-HEAD_LENGTH.false c.add_block-running.ensures.kept
-    (put-absorbed c.args.part c.args.at (λ i. (c.type_inv.block i).fits) x.1 _ c.empty.ensures (λ R. c.add_block-running.ensures.told x.0 R))
-    c.if-running.false in
-    record { fits = omega (arith, size, c.well_formed) }
+    let (b, f) = c.requires.0 in
+    let x = c.add_block-sum.ensures in
+    let inside = put-size c.args.part c.args.at (λ i. (c.type_inv.block i).fits) f c.args.out.now c.if-out-lt-HEAD_LENGTH.false x.kept c.requires.1 c.empty.ensures (λ R. x.told b R) c.in_ok-size.ensures.ok_part in
+    record { fits = omega (arith, inside, c.well_formed) }
 
 pub returns : goal.returns
-unfolding clear_table
-returns c = λ b f. absorbed-all c.args.out.now _ _ _ c.if-out-lt-HEAD_LENGTH.false c.add_block-running.ensures.kept
-    (put-absorbed c.args.part c.args.at (λ i. (c.type_inv.block i).fits) f _ c.empty.ensures (λ R. c.add_block-running.ensures.told b R))
-    c.if-running.false c.put_head.ensures
+returns c =
+    let x = c.add_block-sum.ensures in
+    λ b f. put-all c.args.part c.args.at (λ i. (c.type_inv.block i).fits) f c.args.out.now c.if-out-lt-HEAD_LENGTH.false x.kept c.requires.1 c.empty.ensures (λ R. x.told b R) c.in_ok-size.ensures.ok_part c.put_head.ensures

@@ -1,43 +1,29 @@
-use Rattle.std.proofs.Common.{◌∙◌, subst}
-use Rattle.meter.specs.Progress.{TakenInside}
-use Rattle.meter.proofs.Walking.{walking_start, walking-more, walking-end, walking-stop, walking_on, begins}
+use Rattle.std.proofs.Common.{◌≡◌, ◌+◌, ◌-◌, ◌<◌, suc, length, arith, rules}
+use Rattle.meter.proofs.Walking.{walking-more, walking-end, walking-stop, walking_on, begins}
 use Rattle.meter.proofs.sheet_tally.take_records.Goals as goal
 
-pub loop-left-init : goal.loop-left-init
-loop-left-init c = walking_start c.args.part _ _ _ _ _ _ (λ i. (c.type_inv.s i).fits)
-
-pub returns-in-Stop : goal.returns-in-Stop
-returns-in-Stop c =
-    let l = c.loop-left in
+pub returns-in_err-next-clause-told : goal.returns-in_err-next-clause-told
+returns-in_err-next-clause-told c =
+    let l = c.loop in
     let x = c.take_record in
-    record {
-      spare = x.ensures.spare ∙ l.invariant.size;
-      told = λ i d w g m f. walking-stop l.invariant c.loop-left-test.true x.new.counts x.new.spare x.result x.ensures.told c.in-Stop.is c.args.out.now w (begins g m i d) f;
-    }
+    let one_more : c.args.count - l.counter ≡ suc (c.args.count - (l.counter + 1)) = omega (arith, c.loop-test.true) in
+    λ i d w g m f. search (rules, walking-stop l.invariant one_more x.new.tables.counts x.new.spare x.result x.ensures.told c.in_err-next.was c.args.out.now w (begins g m i d) f)
 
-pub slice_bounds-rest-count : goal.slice_bounds-rest-count
-slice_bounds-rest-count c = subst (TakenInside c.loop-left.rest.now) c.in-On.is c.take_record.ensures.inside
-
-pub slice_bounds-rest-start : goal.slice_bounds-rest-start
-slice_bounds-rest-start c = subst (TakenInside c.loop-left.rest.now) c.in-On.is c.take_record.ensures.inside
-
-pub loop-left-preserved : goal.loop-left-preserved
-loop-left-preserved c =
+pub loop-preserved : goal.loop-preserved
+loop-preserved c =
+    let l = c.loop in
     let x = c.take_record in
-    walking_on c.loop-left.invariant c.loop-left-test.true x.new.counts x.new.spare x.result x.ensures.told x.ensures.ids x.ensures.spare c.in-On.is
+    let one_more : c.args.count - l.counter ≡ suc (c.args.count - (l.counter + 1)) = omega (arith, c.loop-test.true) in
+    walking_on l.invariant one_more x.new.tables.counts x.new.spare x.result x.ensures.told x.ensures.ids x.ensures.spare c.in_ok-next.was
 
-pub returns-then-rest-gt0 : goal.returns-then-rest-gt0
-returns-then-rest-gt0 c =
-    let l = c.loop-left in
-    record {
-      spare = l.invariant.size;
-      told = λ i d w g m f. walking-more l.invariant c.loop-left-test.false c.if-rest-gt0.true c.args.out.now w (begins g m i d) f;
-    }
+pub returns-then-not-is_empty-clause-told : goal.returns-then-not-is_empty-clause-told
+returns-then-not-is_empty-clause-told c =
+    let l = c.loop in
+    let more : 0 < length l.rest.now = search rules in
+    λ i d w g m f. walking-more l.invariant (omega (arith, c.loop-test.false)) more c.args.out.now w (begins g m i d) f
 
-pub returns : goal.returns
-returns c =
-    let l = c.loop-left in
-    record {
-      spare = l.invariant.size;
-      told = λ i d w g m f. walking-end l.invariant c.loop-left-test.false c.if-rest-gt0.false c.args.out.now c.finish.new.out c.finish.result c.finish.ensures.told w (begins g m i d) f;
-    }
+pub returns-clause-told : goal.returns-clause-told
+returns-clause-told c =
+    let l = c.loop in
+    let none : length l.rest.now ≡ 0 = search rules in
+    λ i d w g m f. walking-end l.invariant (omega (arith, c.loop-test.false)) none c.args.out.now c.finish.new.out c.finish.result c.finish.ensures.told w (begins g m i d) f

@@ -1,7 +1,8 @@
--- The digits that io's decimal counts are the number's.
-use Rattle.std.proofs.Common.{arith}
-use Rattle.report.proofs.Decimals.{decimal-many}
+use native.Mathlib.Omega.{arith}
+use mathlib.Core.Path.{ap, ◌∙◌}
+use lib.ListN.{length}
+use Rattle.report.proofs.Decimals.{shown}
 use Rattle.report.proofs.decimal.decimal_length.Goals as goal
 
-pub returns : goal.returns
-returns c = decimal-many _ _ c.decimal.new.out (omega arith) c.decimal.ensures.in_bounds c.decimal.ensures.len c.decimal.ensures.digits
+pub returns-clause-told : goal.returns-clause-told
+returns-clause-told c = ap length (c.format.ensures.text ∙ shown c.args.n (omega arith))

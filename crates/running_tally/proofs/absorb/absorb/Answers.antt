@@ -1,26 +1,25 @@
-use Rattle.std.proofs.Common.{◌∙◌, subst}
-use Rattle.wire.specs.Bytes.{Bytes}
-use Rattle.running_tally.specs.Passes.{RaisedAs}
-use Rattle.running_tally.specs.declared.absorb.Raised.{Raised}
-use Rattle.running_tally.proofs.Absorbing.{still-over, no_room_lem, all-added}
+use Rattle.std.proofs.Common.{◌∙◌, refl}
+use Rattle.running_tally.proofs.Absorbing.{still-none, not_short, no_room_lem, all-added}
 use Rattle.running_tally.proofs.absorb.absorb.Goals as goal
 
-pub returns-then-running-clause-told : goal.returns-then-running-clause-told
-returns-then-running-clause-told c R x =
+pub returns-in_err-size-clause-told : goal.returns-in_err-size-clause-told
+returns-in_err-size-clause-told c R x =
     let a = c.args in
-    let bytes : Bytes a.s.now = λ i. (c.type_inv.s i).fits in
-    still-over a.s.now a.counts.now a.places.now a.buffer.now a.running bytes R x c.if-running.true
+    rw c.from_residual.ensures (still-none a.s.now a.counts.now a.places.now a.buffer.now a.running (λ i. (c.type_inv.s i).fits) R x c.in_err-size.was)
 
-pub returns-in-NoRoom-clause-told : goal.returns-in-NoRoom-clause-told
-returns-in-NoRoom-clause-told c R x =
+pub returns-then-buffer-size-clause-told : goal.returns-then-buffer-size-clause-told
+returns-then-buffer-size-clause-told c R x =
     let a = c.args in
-    let bytes : Bytes a.s.now = λ i. (c.type_inv.s i).fits in
-    let As : Raised → Type 0 = RaisedAs a.s.now a.counts.now a.places.now a.buffer.now c.raise.new.buffer a.running.size in
-    no_room_lem a.s.now a.counts.now a.places.now a.buffer.now a.running bytes R x c.if-running.false _ c.raise.auto.buffer (subst As c.in-NoRoom.is c.raise.ensures)
+    not_short a.s.now a.counts.now a.places.now a.buffer.now a.running (λ i. (c.type_inv.s i).fits) R x _ c.in_ok-size.was c.if-buffer-size.true
 
-pub returns-in-Missing-clause-told : goal.returns-in-Missing-clause-told
-returns-in-Missing-clause-told c R x =
+pub returns-in_err-missing-clause-told : goal.returns-in_err-missing-clause-told
+returns-in_err-missing-clause-told c R x =
     let a = c.args in
-    let bytes : Bytes a.s.now = λ i. (c.type_inv.s i).fits in
-    let As : Raised → Type 0 = RaisedAs a.s.now a.counts.now a.places.now a.buffer.now c.raise.new.buffer a.running.size in
-    all-added a.s.now a.counts.now a.places.now a.buffer.now a.running bytes R x c.if-running.false _ _ _ (subst As c.in-Missing.is c.raise.ensures) _ _ (c.spread.auto.buffer ∙ c.raise.auto.buffer) c.wrapping_add_u64.ensures.value c.spread.ensures
+    rw c.from_residual-in_err-missing.ensures
+    (no_room_lem a.s.now a.counts.now a.places.now a.buffer.now a.running (λ i. (c.type_inv.s i).fits) R x _ c.in_ok-size.was _ c.raise.auto.buffer c.in_err-missing.ensures)
+
+pub returns-clause-told : goal.returns-clause-told
+returns-clause-told c R x =
+    let a = c.args in
+    all-added a.s.now a.counts.now a.places.now a.buffer.now a.running (λ i. (c.type_inv.s i).fits) R x _ c.in_ok-size.was _ _ _ c.in_ok-missing.ensures _ _
+    (c.spread.auto.buffer ∙ c.raise.auto.buffer) refl c.spread.ensures

@@ -1,112 +1,57 @@
-use Rattle.std.proofs.Common.{◌≡◌, ℕ, ◌+◌, ◌-◌, ◌≤◌, List, take, drop, get_or, Fits, w8, ◌∙◌, arith, rules}
-use Rattle.tally.specs.Rows.{Row}
-use Rattle.tally.specs.LookedUp.{LookedUp, lookup_of}
-use Rattle.tally.specs.declared.lookup.Lookup.{Lookup}
+use Rattle.std.proofs.Common.{◌∙◌, ◌-◌, take, drop, arith, rules}
+use Rattle.wire.specs.Bytes.{Bytes}
+use Rattle.tally.specs.LookedUp.{LookedUp}
 use Rattle.tally.specs.declared.lookup.Lookup.TheVariants as lookups
 use Rattle.tally.proofs.LookingUp.{looked-up-told}
-use Rattle.running_tally.specs.Passes.{Inside}
-use Rattle.running_tally.specs.declared.absorb.Hole.{Hole}
 use Rattle.running_tally.proofs.FilledRow.{row_in, row-passed, place_in, place-full, place-filled}
 use Rattle.running_tally.proofs.absorb.fill_row.Goals as goal
+use Rattle.running_tally.proofs.absorb.fill_row.Goals.{In-Present, In-Absent}
 
--- what the search among the rows behind the hole told of the row r
-module _ (t : List ℕ) (g : Hole) (n : ℕ) (i : Inside t g n) (r : Row ℕ) (fits : (k : ℕ) → Fits w8 (get_or t k 0)) {q : Lookup} (told : q ≡ lookup_of (take (n - g.read) (drop g.read t)) r.name) where
-  found : {x : Lookup} → q ≡ x → LookedUp (take (n - g.read) (drop g.read t)) r.name x
-  found = looked-up-told t g.read (n - g.read) r.name (λ k. (fits k).fits) told
-
-  row-there : {p before : ℕ} → q ≡ lookups.Present p before → g.read + p ≤ n
-  row-there is = row_in t g n i r _ _ (found is)
-
-  place-there : {p : ℕ} → q ≡ lookups.Absent p → g.read + p ≤ n
-  place-there is = place_in t g n i r _ (found is)
-
-pub move_front-requires : goal.move_front-requires
-move_front-requires c =
+-- what the search among the rows behind the hole told
+row_found : (c : In-Present) → LookedUp (take (c.args.end - c.args.hole.read) (drop c.args.hole.read c.args.buffer.now)) c.args.name.now (lookups.Present c.in-Present.at c.in-Present.count)
+row_found c =
     let a = c.args in
-    let asked : Row ℕ = record { name = a.name.now; count = a.count } in
-    let fits : (i : ℕ) → Fits w8 (get_or a.buffer.now i 0) = search rules in
-    (c.requires.ahead, omega (arith, row-there a.buffer.now a.hole a.end c.requires asked fits c.look_up.ensures c.in-Present.is, c.requires.inside))
+    let bytes : Bytes a.buffer.now = search rules in
+    looked-up-told a.buffer.now a.hole.read (a.end - a.hole.read) a.name.now bytes c.look_up.ensures c.in-Present.is
 
-pub overflow_add-result : goal.overflow_add-result
-overflow_add-result c =
+place_found : (c : In-Absent) → LookedUp (take (c.args.end - c.args.hole.read) (drop c.args.hole.read c.args.buffer.now)) c.args.name.now (lookups.Absent c.in-Absent.at)
+place_found c =
     let a = c.args in
-    let asked : Row ℕ = record { name = a.name.now; count = a.count } in
-    let fits : (i : ℕ) → Fits w8 (get_or a.buffer.now i 0) = search rules in
-    omega (arith, row-there a.buffer.now a.hole a.end c.requires asked fits c.look_up.ensures c.in-Present.is, c.requires.inside)
+    let bytes : Bytes a.buffer.now = search rules in
+    looked-up-told a.buffer.now a.hole.read (a.end - a.hole.read) a.name.now bytes c.look_up.ensures c.in-Absent.is
 
-pub overflow_add-result-in-Present : goal.overflow_add-result-in-Present
-overflow_add-result-in-Present c =
+pub pass-requires : goal.pass-requires
+pass-requires c =
     let a = c.args in
-    let asked : Row ℕ = record { name = a.name.now; count = a.count } in
-    let fits : (i : ℕ) → Fits w8 (get_or a.buffer.now i 0) = search rules in
-    omega (arith, row-there a.buffer.now a.hole a.end c.requires asked fits c.look_up.ensures c.in-Present.is, c.requires.inside, c.requires.ahead)
+    let found = row_found (goal.at.pass-requires c).In-Present in
+    (c.requires.ahead, omega (arith, row_in a.buffer.now a.hole a.end c.requires (record { name = a.name.now; count = a.count }) _ _ found, c.requires.inside))
 
-pub move_front-requires-in-Absent : goal.move_front-requires-in-Absent
-move_front-requires-in-Absent c =
+pub pass-passed-requires : goal.pass-passed-requires
+pass-passed-requires c =
     let a = c.args in
-    let asked : Row ℕ = record { name = a.name.now; count = a.count } in
-    let fits : (i : ℕ) → Fits w8 (get_or a.buffer.now i 0) = search rules in
-    (c.requires.ahead, omega (arith, place-there a.buffer.now a.hole a.end c.requires asked fits c.look_up.ensures c.in-Absent.is, c.requires.inside))
-
-pub overflow_add-result-then-read-write : goal.overflow_add-result-then-read-write
-overflow_add-result-then-read-write c =
-    let a = c.args in
-    let asked : Row ℕ = record { name = a.name.now; count = a.count } in
-    let fits : (i : ℕ) → Fits w8 (get_or a.buffer.now i 0) = search rules in
-    omega (arith, place-there a.buffer.now a.hole a.end c.requires asked fits c.look_up.ensures c.in-Absent.is, c.requires.inside)
-
-pub overflow_add-result-then-read-write-2 : goal.overflow_add-result-then-read-write-2
-overflow_add-result-then-read-write-2 c =
-    let a = c.args in
-    let asked : Row ℕ = record { name = a.name.now; count = a.count } in
-    let fits : (i : ℕ) → Fits w8 (get_or a.buffer.now i 0) = search rules in
-    omega (arith, place-there a.buffer.now a.hole a.end c.requires asked fits c.look_up.ensures c.in-Absent.is, c.requires.inside, c.requires.ahead)
-
-pub returns-then-read-write : goal.returns-then-read-write
-returns-then-read-write c =
-    let a = c.args in
-    let asked : Row ℕ = record { name = a.name.now; count = a.count } in
-    let fits : (i : ℕ) → Fits w8 (get_or a.buffer.now i 0) = search rules in
-    place-full a.buffer.now a.hole a.end c.requires asked _ (found a.buffer.now a.hole a.end c.requires asked fits c.look_up.ensures c.in-Absent.is) _ c.move_front-in-Absent.ensures c.if-read-write.true
-
-pub overflow_add-write : goal.overflow_add-write
-overflow_add-write c =
-    let a = c.args in
-    let asked : Row ℕ = record { name = a.name.now; count = a.count } in
-    let fits : (i : ℕ) → Fits w8 (get_or a.buffer.now i 0) = search rules in
-    omega (arith, place-there a.buffer.now a.hole a.end c.requires asked fits c.look_up.ensures c.in-Absent.is, c.requires.inside, c.requires.ahead)
-
-pub overflow_add-result-in-Absent : goal.overflow_add-result-in-Absent
-overflow_add-result-in-Absent c =
-    let a = c.args in
-    let asked : Row ℕ = record { name = a.name.now; count = a.count } in
-    let fits : (i : ℕ) → Fits w8 (get_or a.buffer.now i 0) = search rules in
-    omega (arith, place-there a.buffer.now a.hole a.end c.requires asked fits c.look_up.ensures c.in-Absent.is, c.requires.inside)
-
-pub overflow_add-result-in-Absent-2 : goal.overflow_add-result-in-Absent-2
-overflow_add-result-in-Absent-2 c =
-    let a = c.args in
-    let asked : Row ℕ = record { name = a.name.now; count = a.count } in
-    let fits : (i : ℕ) → Fits w8 (get_or a.buffer.now i 0) = search rules in
-    omega (arith, place-there a.buffer.now a.hole a.end c.requires asked fits c.look_up.ensures c.in-Absent.is, c.requires.inside, c.requires.ahead)
-
-pub overflow_add-result-in-Absent-3 : goal.overflow_add-result-in-Absent-3
-overflow_add-result-in-Absent-3 c =
-    let a = c.args in
-    let asked : Row ℕ = record { name = a.name.now; count = a.count } in
-    let fits : (i : ℕ) → Fits w8 (get_or a.buffer.now i 0) = search rules in
-    omega (arith, place-there a.buffer.now a.hole a.end c.requires asked fits c.look_up.ensures c.in-Absent.is, c.requires.inside, c.requires.ahead, c.if-read-write.false)
+    let found = place_found (goal.at.pass-passed-requires c).In-Absent in
+    (c.requires.ahead, omega (arith, place_in a.buffer.now a.hole a.end c.requires (record { name = a.name.now; count = a.count }) _ found, c.requires.inside))
 
 pub returns-in-Present : goal.returns-in-Present
 returns-in-Present c =
     let a = c.args in
-    let asked : Row ℕ = record { name = a.name.now; count = a.count } in
-    let fits : (i : ℕ) → Fits w8 (get_or a.buffer.now i 0) = search rules in
-    row-passed a.buffer.now a.hole a.end c.requires asked _ _ (found a.buffer.now a.hole a.end c.requires asked fits c.look_up.ensures c.in-Present.is) _ c.move_front.ensures
+    let found = row_found (goal.at.returns-in-Present c).In-Present in
+    rw c.pass.ensures.hole (row-passed a.buffer.now a.hole a.end c.requires (record { name = a.name.now; count = a.count }) _ _ found _ c.pass.ensures.bytes)
 
-pub returns-else-read-write : goal.returns-else-read-write
-returns-else-read-write c =
+pub returns-then-passed-more : goal.returns-then-passed-more
+returns-then-passed-more c =
     let a = c.args in
-    let asked : Row ℕ = record { name = a.name.now; count = a.count } in
-    let fits : (i : ℕ) → Fits w8 (get_or a.buffer.now i 0) = search rules in
-    place-filled a.buffer.now a.hole a.end c.requires asked _ (found a.buffer.now a.hole a.end c.requires asked fits c.look_up.ensures c.in-Absent.is) _ c.move_front-in-Absent.ensures c.if-read-write.false _ (c.put_row.auto.out ∙ c.move_front-in-Absent.auto.buffer) c.put_row.ensures
+    let found = place_found (goal.at.returns-then-passed-more c).In-Absent in
+    let passed = c.pass-passed.ensures in
+    let short = rw passed.hole at c.if-passed-more.true in
+    rw passed.hole (place-full a.buffer.now a.hole a.end c.requires (record { name = a.name.now; count = a.count }) _ found _ passed.bytes (omega (arith, short)))
+
+pub returns-else-passed-more : goal.returns-else-passed-more
+returns-else-passed-more c =
+    let a = c.args in
+    let found = place_found (goal.at.returns-else-passed-more c).In-Absent in
+    let passed = c.pass-passed.ensures in
+    let long = rw passed.hole at c.if-passed-more.false in
+    let row = rw passed.hole at c.put_row.ensures in
+    rw passed.hole
+    (place-filled a.buffer.now a.hole a.end c.requires (record { name = a.name.now; count = a.count }) _ found _ passed.bytes (omega (arith, long)) _ (c.put_row.auto.out ∙ c.pass-passed.auto.buffer) row)

@@ -1,12 +1,10 @@
+use Rattle.wire.proofs.Handed.{handed_on}
 use Rattle.sheetcount_lib.proofs.Nexts.{next-stops, next-told}
 use Rattle.sheetcount_lib.proofs.program.take_next.Goals as goal
 
-pub returns-in-Misframed-clause-told : goal.returns-in-Misframed-clause-told
-returns-in-Misframed-clause-told c = λ w k. next-stops w c.args.s.now 15 k (c.in-Misframed.ensures w.records)
+pub returns-in_err-block_length-clause-told : goal.returns-in_err-block_length-clause-told
+returns-in_err-block_length-clause-told c = rw (handed_on _ c.from_residual.ensures.1) (λ w k. next-stops w c.args.s.now k _ c.in_err-block_length.ensures.told)
 
-pub returns-in-TooLong-clause-told : goal.returns-in-TooLong-clause-told
-returns-in-TooLong-clause-told c = λ w k. next-stops w c.args.s.now 11 k (c.in-TooLong.ensures w.records)
-
-pub returns-in-Block-clause-told : goal.returns-in-Block-clause-told
-returns-in-Block-clause-told c =
-    λ w k. next-told w c.args.s.now _ (c.in-Block.ensures w.records) c.take_record.new.counts c.take_record.new.spare c.take_record.result (c.take_record.ensures.told w k)
+pub returns-clause-told : goal.returns-clause-told
+returns-clause-told c =
+    λ w k. next-told w c.args.s.now k c.in_ok-block_length.ensures.told c.take_record.new.tables.counts c.take_record.new.spare c.take_record.result (c.take_record.ensures.told w k)

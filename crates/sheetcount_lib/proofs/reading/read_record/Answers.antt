@@ -1,24 +1,14 @@
-use Rattle.std.proofs.Common.{ℕ, ◌≤◌, List, ◌++◌, drop, sym, arith, rules}
-use Rattle.wire.specs.Bytes.{bytes_take}
-use Rattle.sheetcount_lib.specs.Program.{max_block_length}
-use Rattle.sheetcount_lib.proofs.Sheetcount.{length_most}
-use Rattle.sheetcount_lib.proofs.Counts.{within-part, within_more, record-within}
+use Rattle.std.proofs.Common.{ℕ, ◌≤◌, List, drop, sym, arith, rules}
+use lib.ListN.{length-take}
+use Rattle.sheetcount_lib.proofs.Counts.{bytes-read, at-most, record-within}
 use Rattle.sheetcount_lib.proofs.reading.read_record.Goals as goal
 
-pub read_block-requires : goal.read_block-requires
-read_block-requires g c =
-    let filled : List ℕ = c.read_bytes.new.bytes ++ drop 12 c.args.bytes.now in
-    (search rules, length_most 0 _ _ (bytes_take c.in-Bytes.head filled (λ j. search rules)) (sym (c.in-Block.ensures 0)))
-
 -- no more is read than the record has
-pub returns-in-Block-clause-told : goal.returns-in-Block-clause-told
-returns-in-Block-clause-told g c =
-    let filled : List ℕ = c.read_bytes.new.bytes ++ drop 12 c.args.bytes.now in
-    let short : c.in-Block.size ≤ max_block_length = length_most 0 _ _ (bytes_take c.in-Bytes.head filled (λ j. search rules)) (sym (c.in-Block.ensures 0)) in
-    within_more c.read_block.result (omega arith) c.read_block.ensures.told
+pub returns-clause-told : goal.returns-clause-told
+returns-clause-told g c = at-most c.read_block.result (omega (arith, c.in-Ok.ensures.short)) c.read_block.ensures.told
 
-pub returns-in-Block-clause-inside : goal.returns-in-Block-clause-inside
-returns-in-Block-clause-inside g c =
-    let filled : List ℕ = c.read_bytes.new.bytes ++ drop 12 c.args.bytes.now in
-    let short : c.in-Bytes.head ≤ 12 = within-part 12 c.args.bytes.now c.read_bytes.ensures c.in-Bytes.is in
-    record-within filled c.in-Bytes.head c.in-Block.size short (bytes_take c.in-Bytes.head filled (λ j. search rules)) (sym (c.in-Block.ensures 0)) _ c.read_block.result c.read_block.ensures.bytes c.read_block.ensures.told
+pub returns-clause-inside : goal.returns-clause-inside
+returns-clause-inside g c =
+    let behind : List ℕ = drop 12 c.args.bytes.now in
+    let short : c.in_ok-head.head ≤ 12 = omega (arith, c.in_ok-head.ensures.told, length-take 12 c.args.bytes.now) in
+    record-within _ c.in_ok-head.head c.in-Ok.size short (bytes-read c.read_bytes.new.bytes behind (search rules) c.read_bytes.ensures.bytes) (sym c.in-Ok.ensures.told) _ c.read_block.result c.read_block.ensures.bytes c.read_block.ensures.told

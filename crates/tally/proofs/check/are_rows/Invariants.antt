@@ -1,9 +1,7 @@
--- The invariant: the rows so far were taken, and those that are left give the answer asked. The measure: `left`, the rows that are left.
+-- The rows so far were taken, and those that are left give the answer asked.
+use Prim.Native.Nat.{◌-◌}
 use Rattle.tally.proofs.Checking.{Checking}
 use Rattle.tally.proofs.check.are_rows.Given as goal
 
-abbrev pub invariant-loop-left : goal.invariant-loop-left
-invariant-loop-left l = Checking l.count l.s l.rest l.last l.first l.left
-
-abbrev pub decreases-loop-left : goal.decreases-loop-left
-decreases-loop-left l = l.left
+abbrev pub invariant-loop : goal.invariant-loop
+invariant-loop l = Checking l.count l.s l.rest l.last (l.count - l.counter)

@@ -7,19 +7,18 @@ use Rattle.tally.proofs.Checks.{check-long, rows-there, rows_start, rows-nowhere
 use Rattle.tally.proofs.check.rows_of.Goals as goal
 
 pub slice_bounds-result-count : goal.slice_bounds-result-count
-slice_bounds-result-count c = check-long c.args.t.now (λ i. (c.type_inv.t i).fits) (told-as told_check c.check.ensures c.in-Tally.is)
+slice_bounds-result-count c = check-long c.args.t.now (λ i. (c.type_inv.t i).fits) c.in-Some.ensures
 
 pub slice_bounds-result-start : goal.slice_bounds-result-start
-slice_bounds-result-start c = check-long c.args.t.now (λ i. (c.type_inv.t i).fits) (told-as told_check c.check.ensures c.in-Tally.is)
+slice_bounds-result-start c = check-long c.args.t.now (λ i. (c.type_inv.t i).fits) c.in-Some.ensures
 
-pub returns-in-Tally : goal.returns-in-Tally
-returns-in-Tally c =
+pub returns-in-Some : goal.returns-in-Some
+returns-in-Some c =
     let t = c.args.t in
-    let told = told-as told_check c.check.ensures c.in-Tally.is in
-    record { told = rest-is 9 t.now ∙ rows-there t.now told; place = place_is t (rows_start t.now told) }
+    record { told = rest-is 9 t.now ∙ rows-there t.now c.in-Some.ensures; place = place_is t (rows_start t.now c.in-Some.ensures) }
 
-pub returns-in-Malformed : goal.returns-in-Malformed
-returns-in-Malformed c =
+pub returns-in-None : goal.returns-in-None
+returns-in-None c =
     let t = c.args.t in
-    let told = told-as told_check c.check.ensures c.in-Malformed.is in
+    let told = told-as told_check c.check.ensures c.in-None.is in
     record { told = rows-nowhere t.now told; place = place-first t (rows-first t.now told) }

@@ -1,23 +1,14 @@
-use mathlib.Core.Path.{sym, ◌∙◌}
-use Rattle.wire.proofs.Steps.{told-as}
-use Rattle.tally.specs.Told.{told_row}
 use Rattle.tally.proofs.LookingUp.{looks-up-end, looks-up-on, looks-up-row, looks-up-over}
 use Rattle.tally.proofs.lookup.look_up.Goals as goal
 
-pub returns-in_default : goal.returns-in_default
-returns-in_default c = looks-up-end c.loop-n.invariant (told-as (told_row c.loop-n.rest.now) c.front_row.ensures c.in_default.is)
-
 pub loop-n-preserved : goal.loop-n-preserved
-loop-n-preserved c =
-    let l = c.loop-n in
-    looks-up-on l.invariant _ _ (told-as (told_row l.rest.now) c.front_row.ensures c.in-Row.is) (sym c.in-Before.is ∙ c.compare.ensures)
+loop-n-preserved c = looks-up-on c.loop-n.invariant _ _ c.in-Some.ensures c.in-Less.ensures
 
-pub returns-in-Same : goal.returns-in-Same
-returns-in-Same c =
-    let l = c.loop-n in
-    looks-up-row l.invariant c.in-Row.n c.in-Row.count (told-as (told_row l.rest.now) c.front_row.ensures c.in-Row.is) (sym c.in-Same.is ∙ c.compare.ensures)
+pub returns-in-Equal : goal.returns-in-Equal
+returns-in-Equal c = looks-up-row c.loop-n.invariant c.in-Some.n c.in-Some.count c.in-Some.ensures c.in-Equal.ensures
 
-pub returns-in-After : goal.returns-in-After
-returns-in-After c =
-    let l = c.loop-n in
-    looks-up-over l.invariant c.in-Row.n c.in-Row.count (told-as (told_row l.rest.now) c.front_row.ensures c.in-Row.is) (sym c.in-After.is ∙ c.compare.ensures)
+pub returns-in-Greater : goal.returns-in-Greater
+returns-in-Greater c = looks-up-over c.loop-n.invariant c.in-Some.n c.in-Some.count c.in-Some.ensures c.in-Greater.ensures
+
+pub returns : goal.returns
+returns c = looks-up-end c.loop-n.invariant c.in_default.ensures

@@ -1,24 +1,15 @@
-use mathlib.Core.Path.{subst}
 use native.Mathlib.Omega.{arith}
-use Rattle.tally.specs.Sums.{SumRowIs}
 use Rattle.tally.proofs.Measuring.{measuring-start, measuring-end, measuring-many, measuring-on}
 use Rattle.tally.proofs.merge.measure.Goals as goal
 
-pub loop-first-init : goal.loop-first-init
-loop-first-init c = measuring-start _ _
+pub loop-row-init : goal.loop-row-init
+loop-row-init c = measuring-start _ _
 
-pub returns-in-End : goal.returns-in-End
-returns-in-End c =
-    let l = c.loop-first in
-    measuring-end l.invariant (subst (SumRowIs l.x.now l.y.now) c.in-End.is c.sum_row.ensures)
+pub returns-in_err-row : goal.returns-in_err-row
+returns-in_err-row c = measuring-many c.loop-row.invariant c.in_err-row.ensures c.from_residual.result c.from_residual.ensures.0
 
-pub returns-in-TooMany : goal.returns-in-TooMany
-returns-in-TooMany c =
-    let l = c.loop-first in
-    measuring-many l.invariant (subst (SumRowIs l.x.now l.y.now) c.in-TooMany.is c.sum_row.ensures)
+pub loop-row-preserved : goal.loop-row-preserved
+loop-row-preserved c = measuring-on c.loop-row.invariant c.in-Some.is c.in_ok-row.ensures (omega arith)
 
-pub loop-first-preserved : goal.loop-first-preserved
-loop-first-preserved c =
-    let l = c.loop-first in
-    let next = subst (SumRowIs l.x.now l.y.now) c.in-Row.is c.sum_row.ensures in
-    measuring-on l.invariant next (omega arith)
+pub returns : goal.returns
+returns c = measuring-end c.loop-row.invariant c.in_default.is c.in_ok-row.ensures

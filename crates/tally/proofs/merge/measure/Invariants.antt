@@ -4,8 +4,8 @@ use lib.ListN.{length}
 use Rattle.tally.proofs.Measuring.{Measuring}
 use Rattle.tally.proofs.merge.measure.Given as goal
 
-abbrev pub invariant-loop-first : goal.invariant-loop-first
-invariant-loop-first l = Measuring l.a l.b l.x l.y l.rows l.size
+abbrev pub invariant-loop-row : goal.invariant-loop-row
+invariant-loop-row l = Measuring l.a l.b l.x l.y l.rows l.size
 
-abbrev pub decreases-loop-first : goal.decreases-loop-first
-decreases-loop-first l = length l.x + length l.y
+abbrev pub decreases-loop-row : goal.decreases-loop-row
+decreases-loop-row l = length l.x + length l.y

@@ -4,8 +4,8 @@ use lib.ListN.{length}
 use Rattle.tally.proofs.PutSums.{Writing}
 use Rattle.tally.proofs.merge.put_rows.Given as goal
 
-abbrev pub invariant-loop-first : goal.invariant-loop-first
-invariant-loop-first l = Writing l.a l.b l.x l.y l.initial.out l.out l.at
+abbrev pub invariant-loop-row : goal.invariant-loop-row
+invariant-loop-row l = Writing l.a l.b l.x l.y l.initial.out l.out l.at
 
-abbrev pub decreases-loop-first : goal.decreases-loop-first
-decreases-loop-first l = length l.x + length l.y
+abbrev pub decreases-loop-row : goal.decreases-loop-row
+decreases-loop-row l = length l.x + length l.y

@@ -1,42 +1,36 @@
-use mathlib.Core.Path.{subst}
-use Rattle.tally.proofs.SumRows.{Front, first_ended, first_alone, both-before, both-after, both-same, both-many}
+use Prim.Native.Nat.{◌+◌, ◌<◌}
+use mathlib.Core.Path.{◌≡◌}
+use borrow.Author.Rules.{rules}
+use Rattle.tally.specs.Tally.{max_count}
+use Rattle.tally.proofs.SumRows.{both-ended, first_alone, second-alone, both-before, both-after, both-same, both-many}
 use Rattle.tally.proofs.merge.sum_row.Goals as goal
 
-pub returns-in_default : goal.returns-in_default
-returns-in_default c =
-    let x = c.args.x.now in
-    first_ended x c.args.y.now (subst (Front x) c.in_default.is c.front_row.ensures) c.sum_row_of_second.result c.sum_row_of_second.ensures
+pub returns-in_err-ok_or-in-Equal : goal.returns-in_err-ok_or-in-Equal
+returns-in_err-ok_or-in-Equal c =
+    let s = c.in-Some-Some in
+    let large : max_count < s.c + s.d = search rules in
+    both-many _ _ _ _ s.ensures s.ensures' c.compare.ensures c.in-Equal.is large c.from_residual.result c.from_residual.ensures.0
 
-pub returns-in_default-front_row : goal.returns-in_default-front_row
-returns-in_default-front_row c =
-    let x = c.args.x.now in
-    let y = c.args.y.now in
-    first_alone x y c.in-Row.n c.in-Row.c (subst (Front x) c.in-Row.is c.front_row.ensures) (subst (Front y) c.in_default-front_row.is c.front_row-2.ensures)
+pub returns-in-None-None : goal.returns-in-None-None
+returns-in-None-None c =
+    both-ended _ _ c.in-None-None.is-0 c.in-None-None.is-1 c.front_row.ensures c.front_row-2.ensures
 
-pub returns-then-c-d : goal.returns-then-c-d
-returns-then-c-d c =
-    let x = c.args.x.now in
-    let y = c.args.y.now in
-    both-many x y c.in-Row.n c.in-Row.c c.in-Row-front_row.m c.in-Row-front_row.d (subst (Front x) c.in-Row.is c.front_row.ensures)
-    (subst (Front y) c.in-Row-front_row.is c.front_row-2.ensures) c.compare.ensures c.in-Same.is c.if-c-d.true
+pub returns-in-None-Some : goal.returns-in-None-Some
+returns-in-None-Some c =
+    rw c.row_of_second.ensures (second-alone _ _ _ c.in-None-Some.ensures c.in-None-Some.is-0 c.front_row.ensures)
 
-pub returns-in-Before : goal.returns-in-Before
-returns-in-Before c =
-    let x = c.args.x.now in
-    let y = c.args.y.now in
-    both-before x y c.in-Row.n c.in-Row.c c.in-Row-front_row.m c.in-Row-front_row.d (subst (Front x) c.in-Row.is c.front_row.ensures)
-    (subst (Front y) c.in-Row-front_row.is c.front_row-2.ensures) c.compare.ensures c.in-Before.is
+pub returns-in-Some-None : goal.returns-in-Some-None
+returns-in-Some-None c =
+    rw c.row_of_first.ensures (first_alone _ _ _ c.in-Some-None.ensures c.in-Some-None.is-1 c.front_row-2.ensures)
 
-pub returns-in-After : goal.returns-in-After
-returns-in-After c =
-    let x = c.args.x.now in
-    let y = c.args.y.now in
-    both-after x y c.in-Row.n c.in-Row.c c.in-Row-front_row.m c.in-Row-front_row.d (subst (Front x) c.in-Row.is c.front_row.ensures)
-    (subst (Front y) c.in-Row-front_row.is c.front_row-2.ensures) c.compare.ensures c.in-After.is
+pub returns-in-Less : goal.returns-in-Less
+returns-in-Less c = let s = c.in-Some-Some in rw c.row_of_first-in-Less.ensures (both-before _ _ _ _ s.ensures s.ensures' c.compare.ensures c.in-Less.is)
 
-pub returns-else-c-d : goal.returns-else-c-d
-returns-else-c-d c =
-    let x = c.args.x.now in
-    let y = c.args.y.now in
-    both-same x y c.in-Row.n c.in-Row.c c.in-Row-front_row.m c.in-Row-front_row.d (subst (Front x) c.in-Row.is c.front_row.ensures)
-    (subst (Front y) c.in-Row-front_row.is c.front_row-2.ensures) c.compare.ensures c.in-Same.is
+pub returns-in-Greater : goal.returns-in-Greater
+returns-in-Greater c = let s = c.in-Some-Some in rw c.row_of_second-in-Greater.ensures (both-after _ _ _ _ s.ensures s.ensures' c.compare.ensures c.in-Greater.is)
+
+pub returns-in_ok-ok_or-in-Equal : goal.returns-in_ok-ok_or-in-Equal
+returns-in_ok-ok_or-in-Equal c =
+    let s = c.in-Some-Some in
+    let sum : c.in_ok-ok_or-in-Equal.field-0 ≡ s.c + s.d = search rules in
+    rw sum (both-same _ _ _ _ s.ensures s.ensures' c.compare.ensures c.in-Equal.is)

@@ -3,22 +3,11 @@ use native.Mathlib.Omega.{arith}
 use Rattle.tally.proofs.Opening.{row-long, row-short, row-stored}
 use Rattle.tally.proofs.rows.put_row.Goals as goal
 
-pub returns-then-name-gt-MAX_NAME_LENGTH : goal.returns-then-name-gt-MAX_NAME_LENGTH
-returns-then-name-gt-MAX_NAME_LENGTH c =
-    let a = c.args in
-    sym (row-long a.at (record { name = a.name.now; count = a.count }) a.out.now c.if-name-gt-MAX_NAME_LENGTH.true)
+pub returns-in_default : goal.returns-in_default
+returns-in_default c = sym (row-long _ _ _ (omega (arith, c.in_default.ensures)))
 
-pub returns-then-out-at : goal.returns-then-out-at
-returns-then-out-at c =
-    let a = c.args in
-    sym (row-short a.at (record { name = a.name.now; count = a.count }) a.out.now (omega arith) (omega arith))
-
-pub returns-then-out-at-2 : goal.returns-then-out-at-2
-returns-then-out-at-2 c =
-    let a = c.args in
-    sym (row-short a.at (record { name = a.name.now; count = a.count }) a.out.now (omega arith) (omega arith))
+pub returns-then-saturating_sub-name : goal.returns-then-saturating_sub-name
+returns-then-saturating_sub-name c = sym (row-short _ _ _ (omega arith) (omega arith))
 
 pub returns : goal.returns
-returns c =
-    let a = c.args in
-    row-stored a.at (record { name = a.name.now; count = a.count }) a.out.now (omega arith) _ _ _ (omega arith) c.put_u16.ensures c.put_bytes.ensures c.put_u64.ensures
+returns c = row-stored _ _ _ (omega arith) _ _ _ (omega arith) (rw (c.in-Ok.ensures.1) at c.put_number.ensures) c.put_bytes.ensures c.put_number-2.ensures

@@ -1,8 +1,0 @@
-use borrow.Author.Rules.{rules}
-use Rattle.position.specs.Keys.{between}
-use Rattle.position.proofs.Keys.{key-range}
-use Rattle.position.proofs.key.is_key.Goals as goal
-
-pub returns : goal.returns
-unfolding between
-returns c = search (rules, key-range c.args.key)
