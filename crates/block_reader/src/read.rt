@@ -14,6 +14,7 @@ use mapblock::fault::Refusal;
 use mapblock::head::{Head, NO_SECTIONS, Sections};
 use mapblock::nodes::{IDS, NODES, width};
 use wire::ranges::slice_of;
+use wire::store::put_bytes;
 
 // Judges a block by itself: all ids are free.
 pub(crate) fn judge(block: &[u8]) -> Result<(Scanned, usize), Refusal>
@@ -84,8 +85,8 @@ fn fill(version: u8, s: &[u8], param0: &mut [u16], param1: &mut [u8], param2: &m
         fill16(s, param0);
     }
     let at = NODES * width(version);
-    param1.copy_from_slice(&s[at..at + NODES]);
-    param2.copy_from_slice(&s[at + NODES..at + 2 * NODES]);
+    put_bytes(param1, 0, &s[at..at + NODES]);
+    put_bytes(param2, 0, &s[at + NODES..at + 2 * NODES]);
 }
 
 // Fills the three lent lists of a block that is taken, and tells its head and where its sections are. A refusal leaves the lists as they were.

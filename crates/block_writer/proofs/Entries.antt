@@ -1,19 +1,17 @@
 -- Entries of one or two bytes each, put from the first on.
-use Prim.Native.Nat.{ℕ, ◌+◌, ◌*◌, ◌%◌, ◌<◌, ◌≤◌}
-use mathlib.Core.Path.{◌≡◌, sym, ◌∙◌}
+use Prim.Native.Nat.{ℕ, ◌+◌, ◌*◌, ◌/◌, ◌%◌, ◌<◌, ◌≤◌}
+use mathlib.Core.Path.{◌≡◌, ap, sym, ◌∙◌}
 use mathlib.Core.List.{List, [], ◌∷◌, ◌++◌, append_assoc, append-nil}
 use native.Mathlib.Nat.{mul-zero, mul-suc, mul-le-mul_left, add_comm}
 use native.Mathlib.Numerals.{add-one}
 use native.Mathlib.Omega.{arith}
-use lib.ListN.{length, get_or, take, length-append}
+use lib.ListN.{length, get_or, take, set, length-append}
 use lib.Seq.{take-suc, take_all, length-take-le}
 use Rattle.wire.specs.Bytes.{to_be, to_be-length}
-use Rattle.wire.specs.Store.{overwrite, stored, PutAt}
-use Rattle.wire.specs.Told.{short}
-use Rattle.wire.proofs.Puts.{put-number, put_two}
+use Rattle.wire.specs.Store.{overwrite, PutAt}
 use Rattle.wire.specs.Format.{iso, run, encode_items}
 use Rattle.wire.specs.Formats.{number}
-use Rattle.wire.proofs.Overwrites.{overwrite-none}
+use Rattle.wire.proofs.Overwrites.{overwrite-none, overwrite-length, overwrite-last}
 use Rattle.mapblock.specs.Inventory.{BlockFormat}
 use Rattle.mapblock.specs.Layout.{width}
 use Rattle.mapblock.proofs.Entries.{width-old, width-new}
@@ -53,27 +51,38 @@ module _ (w at : ℕ) (l d : List ℕ) where
   laying-start = record { shape = sym (overwrite-none at d); less = omega arith }
 
   module _ (out : List ℕ) (i : ℕ) (p : Laying w at l d out i) where
+    pub laying-length : at + length (entry_bytes w l) ≤ length d → length out ≡ length d
+    laying-length room =
+        let fewer : w * i ≤ w * length l = mul-le-mul_left w p.less in
+        ap length p.shape ∙ overwrite-length at (entry_bytes w (take i l)) d (omega (arith, entries-length w l, part_length w l i p.less))
+
     pub laying-end : length l ≤ i → out ≡ overwrite at (entry_bytes w l) d
     laying-end h = p.shape ∙ rw (take_all i l h)
 
--- one entry more: x has the bytes of the entry
-module _ (w at : ℕ) (l d out : List ℕ) (i : ℕ) (h : i < length l) (room : at + length (entry_bytes w l) ≤ length d) (p : Laying w at l d out i) where
-  pub laying-on : (x : ℕ) {place : ℕ} {e : List ℕ} → to_be w x ≡ to_be w (get_or l i 0) → place ≡ at + w * i
-      → e ≡ stored place ((number {ends = short} w).encode x) out → Laying w at l d e (i + 1)
-  laying-on x {place} {e} same is s =
-      let W = entry_bytes w (take i l) in
-      let more : w * (i + 1) ≤ w * length l = mul-le-mul_left w (omega arith) in
-      let next : w * (i + 1) ≡ w * i + w = omega arith in
-      let before : PutAt at W d out place = record { ends = omega (arith, part_length w l i p.less); overwrites = p.shape } in
-      let room-here : at + length (W ++ to_be w x) ≤ length d = omega (arith, length-append W (to_be w x), to_be-length w x, entries-length w l, part_length w l i p.less) in
+module _ (at : ℕ) (l d out : List ℕ) (i : ℕ) (h : i < length l) where
+  pub narrow-on : at + length (entry_bytes 1 l) ≤ length d → Laying 1 at l d out i → Laying 1 at l d (set out (at + i) (get_or l i 0 % 256)) (i + 1)
+  narrow-on room p =
+      let W = entry_bytes 1 (take i l) in
+      let place : at + i ≡ at + length W = omega (arith, part_length 1 l i p.less) in
       record {
-        shape = rw (entries-suc w l i h, ← same) (put_two room-here before (λ r. put-number place w x (rw to_be-length at r) s)).overwrites;
+        shape = rw (p.shape, place, entries-suc 1 l i h) (overwrite-last at W d (get_or l i 0 % 256) (omega (arith, entries-length 1 l)));
         less = omega arith;
       }
 
--- the code puts the low byte of an entry
-pub low-byte : (x : ℕ) → to_be 1 (x % 256) ≡ to_be 1 x
-low-byte x = let same : x % 256 % 256 ≡ x % 256 = omega arith in rw same
+  pub wide-on : at + length (entry_bytes 2 l) ≤ length d → get_or l i 0 < 65536 → Laying 2 at l d out i
+      → Laying 2 at l d (set (set out (at + 2 * i) (get_or l i 0 / 256)) (at + 2 * i + 1) (get_or l i 0 % 256)) (i + 1)
+  wide-on room k p =
+      let x = get_or l i 0 in
+      let W = entry_bytes 2 (take i l) in
+      let high : x / 256 % 256 ≡ x / 256 = omega arith in
+      let first : at + 2 * i ≡ at + length W = omega (arith, part_length 2 l i p.less) in
+      let second : at + 2 * i + 1 ≡ at + length (W ++ x / 256 ∷ []) = rw length-append (omega arith) in
+      record {
+        shape =
+            rw (p.shape, second, first, overwrite-last at W d (x / 256) (omega (arith, entries-length 2 l)), entries-suc 2 l i h, high)
+            (overwrite-last at (W ++ x / 256 ∷ []) d (x % 256) (omega (arith, entries-length 2 l)) ∙ ap (λ (b : List ℕ). overwrite at b d) (append_assoc W (x / 256 ∷ []) (x % 256 ∷ [])));
+        less = omega arith;
+      }
 
 -- ---- as many bytes each as the version has
 module _ (v at : ℕ) (l d a : List ℕ) where

@@ -76,13 +76,14 @@ fn put_name_mapping(out: &mut [u8], at: usize, timestamp: u32, count: u16, rows:
     put_byte_and_list(out, at + 4, 0, count, rows)
 }
 
-// Puts param0 in two bytes each.
+// Puts param0 in two bytes each. Its bounds were tested once.
 fn put_wide(out: &mut [u8], at: usize, param0: &[u16])
     requires { at + length (entry_bytes 2 param0.now) ≤ length out.old }
     ensures { out.new ≡ overwrite at (entry_bytes 2 param0.now) out.old }
 {
     for (i, &entry) in param0.iter().enumerate() {
-        put_number(out, at + 2 * i, entry);
+        out[at + 2 * i] = (entry / 256) as u8;
+        out[at + 2 * i + 1] = (entry % 256) as u8;
     }
 }
 
@@ -92,7 +93,7 @@ fn put_narrow(out: &mut [u8], at: usize, param0: &[u16])
     ensures { out.new ≡ overwrite at (entry_bytes 1 param0.now) out.old }
 {
     for (i, &entry) in param0.iter().enumerate() {
-        put_number(out, at + i, (entry % 256) as u8);
+        out[at + i] = (entry % 256) as u8;
     }
 }
 

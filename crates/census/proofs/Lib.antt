@@ -10,7 +10,8 @@ pub mod Cleared
 -- Rows at places.
 pub mod RowsAt
 -- Places in the order of their names.
-pub mod Sorting
+pub mod Joining
+pub mod Halves
 -- The rows that are used.
 pub mod UsedWalk
 pub mod UsedRuns

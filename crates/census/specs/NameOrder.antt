@@ -1,5 +1,5 @@
 -- Places in the order of their names.
-use Rattle.std.specs.Prelude.{◌≡◌, ℕ, ◌+◌, Bool, false, List, [], ◌∷◌}
+use Rattle.std.specs.Prelude.{◌≡◌, ℕ, ◌+◌, ◌≤◌, Bool, true, false, cond, List, [], ◌∷◌, length, take, drop, nat_lt, slice_index}
 use Rattle.wire.specs.Order.{order, is_before}
 use Rattle.census.specs.NamePlaces.{row_at}
 
@@ -26,3 +26,14 @@ total f (p ∷ ps) = f p + total f ps
 pub record SortedFrom (s xs ys : List ℕ) : Type 0 where
   pub rises : Sorted s ys
   pub same : (f : ℕ → ℕ) → total f ys ≡ total f xs
+
+-- whether the next of two runs of places, a from i to mid and a from j on, is the first's
+abbrev pub left_at : List ℕ → List ℕ → ℕ → ℕ → ℕ → Bool
+left_at s a i mid j = cond (nat_lt i mid) (cond (nat_lt j (length a)) (cond (comes_before s (slice_index a j) (slice_index a i)) false true) true) false
+
+-- two runs of places, each in order, that a room can take
+pub record HalvesSorted (s a : List ℕ) (mid : ℕ) (b : List ℕ) : Type 0 where
+  pub cut : mid ≤ length a
+  pub room : length a ≤ length b
+  pub first : Sorted s (take mid a)
+  pub second : Sorted s (drop mid a)

@@ -48,7 +48,7 @@ pub fn count_nodes(
 // Counts the nodes of a block that stand in a part by content id, and puts the places of the names that they use in order, at the front of
 // `places`; tells how many these are. The block stands at `at`, and `scanned` is what the scan told of it. This is an inner function: of
 // whatever tables it promises that a block outside the span leaves the counters as they were, and of clear counters the census; `clear` makes
-// them so again.
+// them so again. `scratch` is a table to work in: what it holds afterwards is open.
 pub fn take_census(
     block: &[u8],
     scanned: Scanned,
@@ -56,6 +56,7 @@ pub fn take_census(
     part: Part,
     counts: &mut [u16; IDS],
     places: &mut [usize; NODES],
+    scratch: &mut [usize; NODES],
 ) -> usize
     ensures bounded { result ≤ 4096 }
     ensures kept { length places.new ≡ 4096 }
@@ -72,6 +73,6 @@ pub fn take_census(
     let sections = scanned.sections;
     let names = slice_of(block, sections.names);
     let n = used(names, counts, places);
-    sort(names, &mut places[..n]);
+    sort(names, &mut places[..n], scratch);
     n
 }

@@ -1,6 +1,6 @@
 -- Where an inventory ends, as a loop goes about it: from place p on, which begins a line where the flag is true.
 use Prim.Native.Nat.{ℕ, suc, ◌+◌, ◌<◌, ◌≤◌}
-use mathlib.Core.Path.{◌≡◌, refl, ap}
+use mathlib.Core.Path.{◌≡◌, refl, ap, sym}
 use mathlib.Core.List.{List, ◌∷◌}
 use mathlib.Core.Bool.{Bool, true, false}
 use mathlib.Core.Option.{Option, some, none}
@@ -8,6 +8,7 @@ use native.Mathlib.Nat.{zero-add}
 use native.Mathlib.Numerals.{add-one}
 use native.Mathlib.Omega.{arith}
 use lib.Dec.{eqb}
+use borrow.Author.Tests.{eqb-true}
 use lib.ListN.{length, get_or, drop, length-drop, drop_of_length-le}
 use lib.Seq.{drop-cons}
 use Rattle.wire.specs.Marks.{starts, starts-long}
@@ -42,6 +43,14 @@ module _ (s : List ℕ) (p : ℕ) where
 
   pub line-inside : {b : Bool} → p < length s → b ≡ false → later p (through b (drop p s)) ≡ later (p + 1) (through (eqb (get_or s p 0) 10) (drop (p + 1) s))
   line-inside {b} h f = rw (f, drop-cons s p 0 h, add-one p) (later-after p (through (eqb (get_or s p 0) 10) (drop (suc p) s)))
+
+  -- what begins with another byte than the end line is none
+  pub line-begins : p < length s → (get_or s p 0 ≡ 69 → ⊥) → starts end_line (drop p s) ≡ false
+  line-begins h n = go (eqb 69 (get_or s p 0)) refl
+    where
+      go : (b : Bool) → eqb 69 (get_or s p 0) ≡ b → starts end_line (drop p s) ≡ false
+      go true e = absurd (n (sym (eqb-true 69 (get_or s p 0) e)))
+      go false e = rw (drop-cons s p 0 h, e)
 
   pub line-fits : starts end_line (drop p s) ≡ true → p + 13 ≤ length s
   line-fits e = omega (arith, simp length-drop at (starts-long end_line (drop p s) e))

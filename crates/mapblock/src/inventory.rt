@@ -9,6 +9,9 @@ use wire::marks::mark_at;
 // The bytes of the end line `EndInventory`, with its newline.
 const END_LINE_LENGTH: usize = 13;
 
+// Its first byte, E. Most lines begin with another, and the rest of the mark is then not compared.
+const FIRST_BYTE: u8 = 69;
+
 // The byte that ends a line.
 const NEWLINE: u8 = 10;
 
@@ -18,7 +21,7 @@ pub fn inventory(s: &[u8]) -> Result<usize, Refusal>
 {
     let mut fresh = true;
     for at in 0..s.len() {
-        if fresh && mark_at(s, at, b"EndInventory\n") {
+        if fresh && s[at] == FIRST_BYTE && mark_at(s, at, b"EndInventory\n") {
             return Ok(at + END_LINE_LENGTH);
         }
         fresh = s[at] == NEWLINE;

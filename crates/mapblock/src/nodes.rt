@@ -69,7 +69,10 @@ pub fn node_data(version: u8, s: &[u8]) -> Result<usize, Refusal>
 pub fn content_id(version: u8, param0: u16, param2: u8) -> usize
     ensures { result ≡ content_id version param0 param2 }
 {
-    if 24 <= version || param0 < 128 {
+    if 24 <= version {
+        return usize::from(param0);
+    }
+    if param0 < 128 {
         return usize::from(param0);
     }
     16 * usize::from(param0) + usize::from(param2) / 16
@@ -91,7 +94,9 @@ fn id_in(version: u8, s: &[u8], i: usize) -> usize
     content_id(version, u16::from(s[i]), s[2 * NODES + i])
 }
 
-// Finds the first node whose content id is not marked as mapped, in bytes that hold the lists.
+// Finds the first node whose content id is not marked as mapped, in bytes that hold the lists. As part of a large function its loop is compiled with a
+// test of the version at each node.
+#[inline(never)]
 fn first_unmapped_in(version: u8, s: &[u8], ids: &[u8; IDS]) -> Option<usize>
     requires { 4096 * width version + 8192 ≤ length s.now }
     ensures { option_of result ≡ first_unmapped_in version s.now ids.now }

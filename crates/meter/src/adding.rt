@@ -5,7 +5,7 @@ ghost use Rattle.tally.specs.Rows.{Rows};
 ghost use Rattle.tally.specs.Tally.{ones};
 ghost use Rattle.meter.specs.Adding.{Adds, Added, with_block};
 
-use crate::tables::Tables;
+use crate::tables::CensusTables;
 use block_reader::scan::Scanned;
 use census::census::take_census;
 use census::clear::clear;
@@ -22,12 +22,11 @@ pub(crate) fn add_block(
     scanned: Scanned,
     at: Coordinates,
     part: Part,
-    tables: &mut Tables,
+    tables: &mut CensusTables,
     buffer: &mut [u8],
     running: Option<RunningTally>,
 ) -> Option<RunningTally>
     ensures kept { length buffer.new ≡ length buffer.old }
-    ensures ids { tables.new.ids ≡ tables.old.ids }
     ensures told { (b : Block) (R : Rows ones)
         → Adds block.now scanned tables.old.counts buffer.old running b R
         → Added tables.new.counts buffer.old buffer.new result R (with_block part at b R) }
@@ -39,6 +38,7 @@ pub(crate) fn add_block(
         part,
         &mut tables.counts,
         &mut tables.places,
+        &mut tables.scratch,
     );
     let names = slice_of(block, scanned.sections.names);
     let sum = absorb(names, &tables.counts, &tables.places[..n], buffer, running);

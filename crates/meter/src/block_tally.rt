@@ -2,16 +2,16 @@
 ghost use Rattle.std.specs.Prelude.{◌≡◌, length};
 ghost use Rattle.wire.specs.Answer.{Answered};
 ghost use Rattle.mapblock.specs.Data.{Block};
-ghost use Rattle.mapblock.specs.Table.{clear_table};
 ghost use Rattle.meter.specs.Counting.{by_one};
 ghost use Rattle.meter.specs.Tallying.{tally_block_of};
 ghost use Rattle.sheet.specs.Records.{ScannedAs};
 ghost use Rattle.meter.specs.Told.{PutAs, told_block};
 
 use crate::adding::add_block;
-use crate::tables::Tables;
+use crate::tables::CensusTables;
 use block_reader::scan::{Scanned, scan};
 use mapblock::fault::Refusal;
+use mapblock::nodes::IDS;
 use position::key::{Coordinates, split};
 use position::part::Part;
 use running_tally::state::{RunningTally, empty};
@@ -38,19 +38,19 @@ impl From<Refusal> for BlockError {
     }
 }
 
-// Writes the tally of a block that was scanned, with clear counters. Where it has no room nothing is written: the rows are measured first.
+// Writes the tally of a block that was scanned. Where it has no room nothing is written: the rows are measured first.
 fn put_tally(
     block: &[u8],
     scanned: Scanned,
     at: Coordinates,
     part: Part,
-    tables: &mut Tables,
     out: &mut [u8],
 ) -> Result<usize, BlockError>
-    requires { ((b : Block) × ScannedAs block.now scanned b) × (tables.old.counts ≡ clear_table) }
+    requires { (b : Block) × ScannedAs block.now scanned b }
     ensures { (b : Block) → ScannedAs block.now scanned b
         → PutAs part at b out.old out.new result }
 {
+    let mut tables = CensusTables::new();
     if out.len() < HEAD_LENGTH {
         return Err(BlockError::NoRoom);
     }
@@ -59,7 +59,7 @@ fn put_tally(
         scanned,
         at,
         part,
-        tables,
+        &mut tables,
         &mut out[HEAD_LENGTH..],
         empty(),
     );
@@ -75,12 +75,12 @@ pub fn tally_block(key: i64, block: &[u8], part: Part, out: &mut [u8]) -> Result
     ensures { Answered (told_block result) out.old out.new
         (tally_block_of by_one key block.now part (length out.old)) }
 {
-    // The tables come first, as in the tally of a sheet.
-    let mut tables = Tables::new();
+    // The table comes first, here and in put_tally, as in the tally of a sheet.
+    let mut ids = [0u8; IDS];
     if !part.is_good() {
         return Err(BlockError::BadPart);
     }
     let at = split(key).ok_or(BlockError::OutOfRange)?;
-    let (scanned, _) = scan(block, &mut tables.ids)?;
-    put_tally(block, scanned, at, part, &mut tables, out)
+    let (scanned, _) = scan(block, &mut ids)?;
+    put_tally(block, scanned, at, part, out)
 }

@@ -28,7 +28,7 @@ fn take_records(
     tables: &mut Tables,
 ) -> Result<usize, SheetError>
     ensures spare { length spare.new ≡ length spare.old }
-    ensures told { tables.old.ids ≡ clear_table → tables.old.counts ≡ clear_table → (state : State by_one)
+    ensures told { tables.old.ids ≡ clear_table → tables.old.census.counts ≡ clear_table → (state : State by_one)
         → Carries spare.old progress state → Numbered state count
         → length out.old ≤ length spare.old
         → Answered (told_sheet result) out.old out.new

@@ -3,6 +3,8 @@ pub mod Counts
 pub mod Measures
 -- Places in order, by groups.
 pub mod Groups
+-- Bytes moved to the front.
+pub mod Moves
 -- The first pass.
 pub mod RaisedRow
 pub mod Raising

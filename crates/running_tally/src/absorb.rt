@@ -28,9 +28,9 @@ struct CountedNames<'a> {
 
 // The sum of the counts at places of one name, and the index of the first place behind them.
 #[derive(Clone, Copy, Debug, PartialEq, Eq, Hash)]
-struct Group {
-    count: u64,
-    next: usize,
+pub struct Group {
+    pub count: u64,
+    pub next: usize,
 }
 
 // Adds up the counts at the i-th place and at those behind it that have the same name.
@@ -113,11 +113,25 @@ fn raise(names: CountedNames, buffer: &mut [u8], size: usize) -> Option<(usize, 
     Some((missing, rows))
 }
 
+// Moves n bytes to a place before theirs, from the first on, so that none is lost.
+fn move_front(buffer: &mut [u8], from: usize, to: usize, n: usize)
+    requires { (to ≤ from) × (from + n ≤ length buffer.old) }
+    ensures { buffer.new
+        ≡ overwrite to (take n (drop from buffer.old)) buffer.old }
+{
+    if from == to {
+        return;
+    }
+    for i in 0..n {
+        buffer[to + i] = buffer[from + i];
+    }
+}
+
 // The hole that moves through the rows: where the next row is read, and where it is written.
 #[derive(Clone, Copy, Debug, PartialEq, Eq, Hash)]
-struct Hole {
-    read: usize,
-    write: usize,
+pub struct Hole {
+    pub read: usize,
+    pub write: usize,
 }
 
 // Moves the n bytes behind the hole to its front, and the hole behind them.
@@ -128,7 +142,7 @@ fn pass(buffer: &mut [u8], hole: Hole, n: usize) -> Hole
     ensures hole { result ≡ record { read = hole.read + n; write = hole.write + n } }
 {
     let Hole { read, write } = hole;
-    buffer.copy_within(read..read + n, write);
+    move_front(buffer, read, write, n);
     Hole {
         read: read + n,
         write: write + n,

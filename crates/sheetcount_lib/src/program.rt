@@ -45,9 +45,9 @@ pub(crate) fn take_next(
 ) -> Result<(Progress, usize), SheetError>
     ensures spare { length spare.new ≡ length spare.old }
     ensures ids { tables.new.ids ≡ tables.old.ids }
-    ensures told { (state : State by_one) → Steps tables.old.ids tables.old.counts spare.old progress state
+    ensures told { (state : State by_one) → Steps tables.old.ids tables.old.census.counts spare.old progress state
         → StepMatches spare.new result (next_of state s.now)
-        × (tables.new.counts ≡ clear_table) }
+        × (tables.new.census.counts ≡ clear_table) }
 {
     block_length(s, progress.records)?;
     take_record(progress, s, Part::EVERYTHING, spare, tables)

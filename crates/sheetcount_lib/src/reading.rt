@@ -124,7 +124,7 @@ fn take_all(
     buffers: &mut Buffers,
     out: &mut [u8; MAX_TALLY_LENGTH],
 ) -> Result<usize, CountError>
-    requires { Ready buffers.old.tables.ids buffers.old.tables.counts
+    requires { Ready buffers.old.tables.ids buffers.old.tables.census.counts
         × Carries buffers.old.spare progress (no_records by_one) }
     ensures { IfRead (SheetCounted (counted_from count (no_records by_one)) out.old out.new) result }
 {
@@ -148,7 +148,7 @@ fn read_sheet(
     buffers: &mut Buffers,
     out: &mut [u8; MAX_TALLY_LENGTH],
 ) -> Result<usize, CountError>
-    requires { Ready buffers.old.tables.ids buffers.old.tables.counts
+    requires { Ready buffers.old.tables.ids buffers.old.tables.census.counts
         × Carries buffers.old.spare progress (no_records by_one) }
     ensures { IfRead (SheetCounted sheetcount_of out.old out.new) result }
 {

@@ -20,10 +20,12 @@ pub const COUNT_SIZE: usize = 8;
 
 pub const ROW_OVERHEAD: usize = 10;
 
-// The longest name and the largest count.
+// The longest name, the largest count and the most rows.
 pub const MAX_NAME_LENGTH: usize = 65535;
 
 pub const MAX_COUNT: u64 = u64::MAX;
+
+pub const MAX_ROWS: u32 = u32::MAX;
 
 // Reads the row at the front of some rows, judged alone.
 pub fn front_row(s: &[u8]) -> Option<(usize, u64)>

@@ -2,13 +2,12 @@
 use Prim.Native.Nat.{ℕ, suc, ◌+◌, ◌-◌, ◌<◌, ◌≤◌}
 use mathlib.Core.Path.{◌≡◌, ap, ap₂, sym, ◌∙◌}
 use mathlib.Core.List.{List, [], ◌∷◌, ◌++◌, append_assoc, append-nil}
-use native.Mathlib.Nat.{sub-zero, add-zero, add_assoc}
+use native.Mathlib.Nat.{add-zero, add_assoc}
 use native.Mathlib.Omega.{arith}
-use lib.ListN.{length, get_or, take, drop, set, length-append, length-drop, take-append-drop}
-use lib.Seq.{paste, take_all, drop-cons, drop-drop, drop-length, drop_at, take_at, take-suc, length-take-le, set_at}
+use lib.ListN.{length, get_or, take, drop, set, length-append, length-drop, take-append-drop, get_or-append}
+use lib.Seq.{drop-cons, drop-drop, drop-length, drop_at, take_at, take-suc, get_or-take, length-take-le, set_at}
 use borrow.Author.Tests.{le-leb, lt-leb}
 use borrow.Rule.Slice.PartMut.{put_mid, post_of, Post-is}
-use Rattle.std.specs.List.{copy_within}
 use Rattle.wire.specs.Store.{overwrite, stored, moved_back}
 
 -- ---- what is put
@@ -28,6 +27,12 @@ module _ (at : ℕ) (w d : List ℕ) (h : at + length w ≤ length d) where
 
   pub overwrite-drop : drop (at + length w) (overwrite at w d) ≡ drop (at + length w) d
   overwrite-drop = rw (← append_assoc) (drop_at (take at d ++ w) (drop (at + length w) d) (at + length w) before-length)
+
+  -- bytes before it are as they were
+  pub overwrite-before : (i : ℕ) → i < at → get_or (overwrite at w d) i 0 ≡ get_or d i 0
+  overwrite-before i k =
+      let long : length (take at d) ≡ at = length-take-le at d (omega arith) in
+      get_or-append (take at d) (w ++ drop (at + length w) d) 0 i (omega arith) ∙ get_or-take at d i 0 k
 
 -- two pieces, one behind the other
 pub overwrite-two : (at : ℕ) (u w d : List ℕ) → at + length u + length w ≤ length d → overwrite (at + length u) w (overwrite at u d) ≡ overwrite at (u ++ w) d
@@ -64,13 +69,6 @@ module _ (at : ℕ) (b d : List ℕ) where
   unfolding stored
   stored-not h = rw (lt-leb (at + length b) (length d) h)
 
--- ---- as the library puts it
-pub pasted : (at n : ℕ) (s d : List ℕ) → n ≤ length s → paste d at s n ≡ overwrite at (take n s) d
-pasted at n s d h = append_assoc (take at d) (take n s) (drop (at + n) d) ∙ rw (length-take-le n s h)
-
-pub pasted-fits : (at : ℕ) (b d : List ℕ) → at + length b ≤ length d → paste d at b (length b) ≡ stored at b d
-pasted-fits at b d h = pasted at (length b) b d (omega arith) ∙ rw (take_all (length b) b (omega arith)) (sym (stored-fits at b d h))
-
 module _ (n by : ℕ) (d : List ℕ) where
   pub moved-fits : by + n ≤ length d → moved_back n by d ≡ overwrite by (take n d) d
   unfolding moved_back
@@ -79,9 +77,6 @@ module _ (n by : ℕ) (d : List ℕ) where
   pub moved-not : length d < by + n → moved_back n by d ≡ d
   unfolding moved_back
   moved-not h = rw (lt-leb (by + n) (length d) h)
-
-  pub moved-within : by + n ≤ length d → copy_within d 0 n by ≡ moved_back n by d
-  moved-within h = rw sub-zero (pasted by n d d (omega arith)) ∙ sym (moved-fits h)
 
 -- a slice to the end that was lent on, back in the whole
 pub part-back : (n : ℕ) (t ys : List ℕ) → n ≤ length t → put_mid n (length t - n) t ys ≡ take n t ++ ys

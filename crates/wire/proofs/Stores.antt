@@ -4,11 +4,11 @@ use mathlib.Core.Path.{◌≡◌, ap, ap₂, sym, ◌∙◌}
 use mathlib.Core.List.{List, [], ◌∷◌, ◌++◌, append_assoc, append-nil}
 use native.Mathlib.Numerals.{add-one}
 use native.Mathlib.Omega.{arith}
-use lib.ListN.{length, get_or, take, set, length-append}
-use lib.Seq.{take-suc, length-take-le}
+use lib.ListN.{length, get_or, take, drop, set, length-append, length-drop, drop_of_length-le}
+use lib.Seq.{drop-cons, take-suc, take_all, get_or-take, length-take-le}
 use Rattle.wire.specs.Bytes.{to_be, to_be-length}
-use Rattle.wire.specs.Store.{overwrite, stored}
-use Rattle.wire.proofs.Overwrites.{overwrite-none, overwrite-length, overwrite-last, overwrite-first, stored-fits}
+use Rattle.wire.specs.Store.{overwrite, stored, moved_back}
+use Rattle.wire.proofs.Overwrites.{overwrite-none, overwrite-length, overwrite-before, overwrite-last, overwrite-first, stored-fits, moved-fits}
 
 -- ---- bytes copied, the first on
 module _ (at : ℕ) (b d out : List ℕ) (i : ℕ) (room : at + length b ≤ length d) (h : out ≡ overwrite at (take i b) d) where
@@ -22,6 +22,9 @@ module _ (at : ℕ) (b d out : List ℕ) (i : ℕ) (room : at + length b ≤ len
       let size : length (take i b) ≡ i = length-take-le i b (omega arith) in
       let place : at + i ≡ at + length (take i b) = ap (λ (n : ℕ). at + n) (sym size) in
       rw (add-one, take-suc b i 0 k, h, place) (overwrite-last at (take i b) d (get_or b i 0) (omega arith))
+
+  pub copy-end : length b ≤ i → out ≡ stored at b d
+  copy-end k = h ∙ rw (take_all i b k, stored-fits at b d room)
 
 -- ---- a number, the last byte first: the bytes W are put, and x is left to be put in i bytes
 pub record Spelling (at k v : ℕ) (d out : List ℕ) (x i : ℕ) : Type 0 where
@@ -59,3 +62,46 @@ module _ (at k v : ℕ) (d out : List ℕ) (x i : ℕ) (room : at + k ≤ length
       let all : p.W ≡ to_be k v = ap (λ (n : ℕ). to_be n x ++ p.W) (sym none) ∙ p.whole in
       let fits : at + length (to_be k v) ≤ length d = rw to_be-length room in
       p.shape ∙ ap₂ (λ (n : ℕ) (l : List ℕ). overwrite n l d) place all ∙ sym (stored-fits at (to_be k v) d fits)
+
+-- ---- bytes moved back, the last on
+pub record Moving (n by : ℕ) (d s : List ℕ) (i : ℕ) : Type 0 where
+  pub shape : s ≡ overwrite (i + by) (drop i (take n d)) d
+  pub less : i ≤ n
+
+module _ (n by : ℕ) (d : List ℕ) (room : by + n ≤ length d) where
+  front : length (take n d) ≡ n
+  front = length-take-le n d (omega arith)
+
+  pub moving-start : Moving n by d d n
+  moving-start = record { shape = rw (drop_of_length-le (take n d) {i = n} (omega (arith, front))) (sym (overwrite-none (n + by) d)); less = omega arith }
+
+  module _ (s : List ℕ) (i : ℕ) (p : Moving n by d s i) where
+    fits : i + by + length (drop i (take n d)) ≤ length d
+    fits = omega (arith, length-drop i (take n d), front, p.less)
+
+    pub moving-length : length s ≡ length d
+    moving-length = ap length p.shape ∙ overwrite-length (i + by) (drop i (take n d)) d fits
+
+    -- what a turn reads is still what stood there
+    pub moving-read : 0 < i → get_or s (i - 1) 0 ≡ get_or d (i - 1) 0
+    moving-read h = ap (λ (l : List ℕ). get_or l (i - 1) 0) p.shape ∙ overwrite-before (i + by) (drop i (take n d)) d fits (i - 1) (omega arith)
+
+    pub moving-on : 0 < i → Moving n by d (set s (i - 1 + by) (get_or s (i - 1) 0)) (i - 1)
+    moving-on h =
+        let one : i ≡ suc (i - 1) = omega arith in
+        let place : i + by ≡ suc (i - 1 + by) = omega arith in
+        let byte : drop (i - 1) (take n d) ≡ get_or d (i - 1) 0 ∷ drop i (take n d) =
+        drop-cons (take n d) (i - 1) 0 (omega (arith, front, p.less))
+        ∙ ap₂ (λ (b m : ℕ). b ∷ drop m (take n d)) (get_or-take n d (i - 1) 0 (omega (arith, p.less))) (sym one) in
+        record {
+          shape = ap₂ (λ (l : List ℕ) (b : ℕ). set l (i - 1 + by) b) (p.shape ∙ ap (λ (m : ℕ). overwrite m (drop i (take n d)) d) place) (moving-read h)
+              ∙ overwrite-first (i - 1 + by) (drop i (take n d)) d (get_or d (i - 1) 0) (omega (arith, fits))
+              ∙ ap (λ (l : List ℕ). overwrite (i - 1 + by) l d) (sym byte);
+          less = omega (arith, p.less);
+        }
+
+    pub moving-end : i ≤ 0 → s ≡ moved_back n by d
+    moving-end h =
+        let none : i ≡ 0 = omega arith in
+        let place : i + by ≡ by = omega arith in
+        p.shape ∙ ap₂ (λ (m j : ℕ). overwrite m (drop j (take n d)) d) place none ∙ sym (moved-fits n by d room)

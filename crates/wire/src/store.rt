@@ -33,15 +33,19 @@ pub fn put_bytes(out: &mut [u8], at: usize, from: &[u8])
     if out.len() < at || out.len() - at < from.len() {
         return;
     }
-    out[at..at + from.len()].copy_from_slice(from);
+    for i in 0..from.len() {
+        out[at + i] = from[i];
+    }
 }
 
-// Moves the first n bytes back by so many places; the bytes before them stay.
+// Moves the first n bytes back by so many places, from the last on, so that none is lost; the bytes before them stay.
 pub fn move_back(s: &mut [u8], n: usize, by: usize)
     ensures { s.new ≡ moved_back n by s.old }
 {
     if s.len() < by || s.len() - by < n {
         return;
     }
-    s.copy_within(..n, by);
+    for i in (0..n).rev() {
+        s[i + by] = s[i];
+    }
 }

@@ -13,8 +13,11 @@ mod reading;
 mod sheets;
 mod shortest;
 
-// Runs the sums. What cannot be printed is left out, and the program ends as it would have.
+use printing::Persistent;
+
+// Runs the sums. What cannot be printed is left out, what comes later is tried all the same, and the program ends as it would have.
 fn main(rt: HostRuntime) {
+    let rt = Persistent(&rt);
     let _ = shortest::run(&rt);
     let _ = mistakes::run(&rt);
     let _ = looking::run(&rt);

@@ -5,6 +5,27 @@ use report::lines::tally_text;
 use report::refusal::refusal_text;
 use std::{fmt, io};
 
+// An output that goes on behind a write that failed: what could not be written is left out, and all that comes later is tried.
+#[derive(Clone, Copy)]
+pub(crate) struct Persistent<'a, P>(pub &'a P);
+
+impl<P: Print> Print for Persistent<'_, P> {
+    fn print<D: fmt::Display + Drop>(&self, value: D) -> io::Result<()> {
+        let _ = self.0.print(value);
+        Ok(())
+    }
+
+    fn println<D: fmt::Display + Drop>(&self, value: D) -> io::Result<()> {
+        let _ = self.0.println(value);
+        Ok(())
+    }
+
+    fn write_all(&self, bytes: &[u8]) -> io::Result<()> {
+        let _ = self.0.write_all(bytes);
+        Ok(())
+    }
+}
+
 // Tells in a word whether a result is right.
 pub(crate) fn verdict(is_right: bool) -> &'static str {
     if is_right { "ok" } else { "WRONG" }

@@ -22,5 +22,5 @@ returns-clause-told c =
     let long : length ys ≡ n = c.sort.ensures.kept ∙ length-take-le n c.used-n.new.places (omega (arith, u.bounded, c.used-n.array_long)) in
     λ b m reads shows clear. census-some a.block.now a.part a.at bytes reads shows c.slice_of-names.ensures.bytes (c.count_nodes.ensures.told b m reads shows clear) record {
       uses = λ l r f. used-places _ _ r f (u.told, u.places);
-      sorts = rw (take_at ys _ n long) c.sort.ensures.sorted;
+      sorts = rw (take_at ys _ n long) (c.sort.ensures.sorted (omega (arith, u.bounded, length-take-le n c.used-n.new.places (omega (arith, u.bounded, c.used-n.array_long)), c.told-scratch)));
     }

@@ -1,6 +1,11 @@
-use Rattle.std.proofs.Common.{rules}
-use Rattle.census.proofs.Sorting.{sorted-from}
+use Rattle.census.proofs.Halves.{sorted-again}
 use Rattle.census.proofs.sort.sort.Goals as goal
+use Rattle.census.proofs.sort.sort.Goals.{then-is_sorted_by, else-is_sorted_by}
 
+-- the places are those that were lent, or these turned round
 pub returns-clause-sorted : goal.returns-clause-sorted
-returns-clause-sorted c = let e = c.sort_unstable_by.ensures in sorted-from e.permutation e.sorted (λ a r f k. search rules)
+returns-clause-sorted c h =
+    elim c.if-is_sorted_by.branch [
+      | then-is_sorted_by w ↦ sorted-again w.reverse.ensures.permutation (rw w.places-is at c.sort_halves.ensures)
+      | else-is_sorted_by w ↦ rw w.places-is at c.sort_halves.ensures
+    ]

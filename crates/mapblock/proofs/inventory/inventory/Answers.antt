@@ -4,8 +4,8 @@ use native.Mathlib.Omega.{arith}
 use lib.ListN.{drop}
 use Rattle.wire.specs.Marks.{starts}
 use Rattle.mapblock.specs.Inventory.{end_line}
-use Rattle.mapblock.proofs.Lines.{line-none, line-here, line_other, line-inside, inventory-ended}
-use Rattle.mapblock.proofs.inventory.inventory.Goals.{else-fresh-via-then-fresh+else-mark_at, else-fresh-via-else-fresh}
+use Rattle.mapblock.proofs.Lines.{line-none, line-here, line_other, line-begins, line-inside, inventory-ended}
+use Rattle.mapblock.proofs.inventory.inventory.Goals.{else-fresh-via-then-fresh+then-s-at-eq-FIRST_BYTE+else-mark_at, else-fresh-via-then-fresh+else-s-at-eq-FIRST_BYTE, else-fresh-via-else-fresh}
 use Rattle.mapblock.proofs.inventory.inventory.Goals as goal
 
 pub returns-then-mark_at : goal.returns-then-mark_at
@@ -18,7 +18,8 @@ pub loop-at-preserved : goal.loop-at-preserved
 loop-at-preserved c =
     let l = c.loop-at in
     elim c.else-fresh.branch [
-      | else-fresh-via-then-fresh+else-mark_at w ↦ sym (line_other _ l.at (omega arith) w.if-fresh.true (sym w.mark_at.ensures ∙ w.if-mark_at.false)) ∙ l.invariant
+      | else-fresh-via-then-fresh+then-s-at-eq-FIRST_BYTE+else-mark_at w ↦ sym (line_other _ l.at (omega arith) w.if-fresh.true (sym w.mark_at.ensures ∙ w.if-mark_at.false)) ∙ l.invariant
+      | else-fresh-via-then-fresh+else-s-at-eq-FIRST_BYTE w ↦ sym (line_other _ l.at (omega arith) w.if-fresh.true (line-begins _ l.at (omega arith) w.if-s-at-eq-FIRST_BYTE.false)) ∙ l.invariant
       | else-fresh-via-else-fresh w ↦ sym (line-inside _ l.at (omega arith) w.if-fresh.false) ∙ l.invariant
     ]
 

@@ -9,23 +9,23 @@ pub returns-in_err-size : goal.returns-in_err-size
 returns-in_err-size c =
     let no = c.in_err-size.ensures in
     let x = c.add_block-sum.ensures in
-    λ b f. search (rules, put-nothing c.args.part c.args.at (λ i. (c.type_inv.block i).fits) f c.args.out.now c.if-out-lt-HEAD_LENGTH.false x.kept c.requires.1 c.empty.ensures (λ R. x.told b R) no.ok_part)
+    λ b f. search (rules, put-nothing c.args.part c.args.at (λ i. (c.type_inv.block i).fits) f c.args.out.now c.if-out-lt-HEAD_LENGTH.false x.kept c.new-tables.ensures c.empty.ensures (λ R. x.told b R) no.ok_part)
 
 pub overflow_cast-rows : goal.overflow_cast-rows
 overflow_cast-rows c =
-    let (b, f) = c.requires.0 in
+    let (b, f) = c.requires in
     let x = c.add_block-sum.ensures in
-    let few = put-rows c.args.part c.args.at (λ i. (c.type_inv.block i).fits) f c.args.out.now c.if-out-lt-HEAD_LENGTH.false x.kept c.requires.1 c.empty.ensures (λ R. x.told b R) c.in_ok-size.ensures.ok_part in
+    let few = put-rows c.args.part c.args.at (λ i. (c.type_inv.block i).fits) f c.args.out.now c.if-out-lt-HEAD_LENGTH.false x.kept c.new-tables.ensures c.empty.ensures (λ R. x.told b R) c.in_ok-size.ensures.ok_part in
     record { fits = omega (arith, few) }
 
 pub overflow_add-result : goal.overflow_add-result
 overflow_add-result c =
-    let (b, f) = c.requires.0 in
+    let (b, f) = c.requires in
     let x = c.add_block-sum.ensures in
-    let inside = put-size c.args.part c.args.at (λ i. (c.type_inv.block i).fits) f c.args.out.now c.if-out-lt-HEAD_LENGTH.false x.kept c.requires.1 c.empty.ensures (λ R. x.told b R) c.in_ok-size.ensures.ok_part in
+    let inside = put-size c.args.part c.args.at (λ i. (c.type_inv.block i).fits) f c.args.out.now c.if-out-lt-HEAD_LENGTH.false x.kept c.new-tables.ensures c.empty.ensures (λ R. x.told b R) c.in_ok-size.ensures.ok_part in
     record { fits = omega (arith, inside, c.well_formed) }
 
 pub returns : goal.returns
 returns c =
     let x = c.add_block-sum.ensures in
-    λ b f. put-all c.args.part c.args.at (λ i. (c.type_inv.block i).fits) f c.args.out.now c.if-out-lt-HEAD_LENGTH.false x.kept c.requires.1 c.empty.ensures (λ R. x.told b R) c.in_ok-size.ensures.ok_part c.put_head.ensures
+    λ b f. put-all c.args.part c.args.at (λ i. (c.type_inv.block i).fits) f c.args.out.now c.if-out-lt-HEAD_LENGTH.false x.kept c.new-tables.ensures c.empty.ensures (λ R. x.told b R) c.in_ok-size.ensures.ok_part c.put_head.ensures

@@ -7,14 +7,14 @@ returns-in_err-next-clause-told c =
     let l = c.loop in
     let x = c.take_record in
     let one_more : c.args.count - l.counter ≡ suc (c.args.count - (l.counter + 1)) = omega (arith, c.loop-test.true) in
-    λ i d w g m f. search (rules, walking-stop l.invariant one_more x.new.tables.counts x.new.spare x.result x.ensures.told c.in_err-next.was c.args.out.now w (begins g m i d) f)
+    λ i d w g m f. search (rules, walking-stop l.invariant one_more x.new.tables.census.counts x.new.spare x.result x.ensures.told c.in_err-next.was c.args.out.now w (begins g m i d) f)
 
 pub loop-preserved : goal.loop-preserved
 loop-preserved c =
     let l = c.loop in
     let x = c.take_record in
     let one_more : c.args.count - l.counter ≡ suc (c.args.count - (l.counter + 1)) = omega (arith, c.loop-test.true) in
-    walking_on l.invariant one_more x.new.tables.counts x.new.spare x.result x.ensures.told x.ensures.ids x.ensures.spare c.in_ok-next.was
+    walking_on l.invariant one_more x.new.tables.census.counts x.new.spare x.result x.ensures.told x.ensures.ids x.ensures.spare c.in_ok-next.was
 
 pub returns-then-not-is_empty-clause-told : goal.returns-then-not-is_empty-clause-told
 returns-then-not-is_empty-clause-told c =

@@ -7,4 +7,4 @@ use Rattle.meter.proofs.sheet_tally.take_records.Given as goal
 
 abbrev pub invariant-loop : goal.invariant-loop
 invariant-loop l =
-    Walking l.part l.s l.count l.initial.spare l.initial.now l.initial.tables.ids l.initial.tables.counts l.spare l.tables.ids l.tables.counts l.rest (l.count - l.counter) l.now
+    Walking l.part l.s l.count l.initial.spare l.initial.now l.initial.tables.ids l.initial.tables.census.counts l.spare l.tables.ids l.tables.census.counts l.rest (l.count - l.counter) l.now

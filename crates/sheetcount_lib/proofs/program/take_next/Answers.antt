@@ -7,4 +7,4 @@ returns-in_err-block_length-clause-told c = rw (handed_on _ c.from_residual.ensu
 
 pub returns-clause-told : goal.returns-clause-told
 returns-clause-told c =
-    λ w k. next-told w c.args.s.now k c.in_ok-block_length.ensures.told c.take_record.new.tables.counts c.take_record.new.spare c.take_record.result (c.take_record.ensures.told w k)
+    λ w k. next-told w c.args.s.now k c.in_ok-block_length.ensures.told c.take_record.new.tables.census.counts c.take_record.new.spare c.take_record.result (c.take_record.ensures.told w k)

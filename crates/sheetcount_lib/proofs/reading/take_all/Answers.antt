@@ -14,14 +14,14 @@ returns-in_err-now g c =
     let are-bytes : Bytes s = bytes_take c.in_ok-n.n c.read_record.new.bytes c.read_record.ensures.bytes in
     let one_more : c.args.count - c.loop.counter ≡ suc (c.args.count - (c.loop.counter + 1)) = omega (arith, c.loop-test.true) in
     rw (handed_on _ c.from_residual-in_err-now.ensures.1)
-    (going-stop c.loop.invariant c.ranges.count.fits one_more s c.take_next.new.spare c.take_next.new.tables.counts are-bytes c.take_next.result c.take_next.ensures.told c.in_err-now.was c.args.out.now)
+    (going-stop c.loop.invariant c.ranges.count.fits one_more s c.take_next.new.spare c.take_next.new.tables.census.counts are-bytes c.take_next.result c.take_next.ensures.told c.in_err-now.was c.args.out.now)
 
 pub loop-preserved : goal.loop-preserved
 loop-preserved g c =
     let s : List ℕ = take c.in_ok-n.n c.read_record.new.bytes in
     let are-bytes : Bytes s = bytes_take c.in_ok-n.n c.read_record.new.bytes c.read_record.ensures.bytes in
     let one_more : c.args.count - c.loop.counter ≡ suc (c.args.count - (c.loop.counter + 1)) = omega (arith, c.loop-test.true) in
-    going_on c.loop.invariant c.ranges.count.fits one_more s c.take_next.new.spare c.take_next.new.tables.counts are-bytes c.take_next.result c.take_next.ensures.told c.take_next.ensures.ids c.in_ok-now.was
+    going_on c.loop.invariant c.ranges.count.fits one_more s c.take_next.new.spare c.take_next.new.tables.census.counts are-bytes c.take_next.result c.take_next.ensures.told c.take_next.ensures.ids c.in_ok-now.was
 
 pub returns : goal.returns
 returns g c =

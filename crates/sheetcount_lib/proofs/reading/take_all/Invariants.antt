@@ -5,4 +5,4 @@ use Rattle.sheetcount_lib.proofs.Going.{Going}
 use Rattle.sheetcount_lib.proofs.reading.take_all.Given as goal
 
 abbrev pub invariant-loop : goal.invariant-loop
-invariant-loop g l = Going l.count l.buffers.spare l.buffers.tables.ids l.buffers.tables.counts (l.count - l.counter) l.now
+invariant-loop g l = Going l.count l.buffers.spare l.buffers.tables.ids l.buffers.tables.census.counts (l.count - l.counter) l.now
