@@ -60,6 +60,7 @@ fn private_byte(rt: &impl Print) -> io::Result<()> {
 }
 
 // Shows each field that is fixed.
+#[inline(never)]
 pub(crate) fn run(rt: &impl Print) -> io::Result<()> {
     println!(rt; "\nFields that are fixed, with another value")?;
     for change in UP_TO_METADATA {

@@ -55,6 +55,7 @@ fn written_line(
 }
 
 // Shows both forms, and each 12.
+#[inline(never)]
 pub(crate) fn run(rt: &impl Print) -> io::Result<()> {
     println!(rt; "\nThe two forms of a metadata list of none")?;
     section_line(rt, 22, LIST_COUNTED, 12_296)?;

@@ -205,6 +205,7 @@ fn positions(rt: &impl Print) -> io::Result<()> {
 }
 
 // Shows all of it.
+#[inline(never)]
 pub(crate) fn run(rt: &impl Print) -> io::Result<()> {
     let mut room = [0u8; ROOM];
     println!(rt; "\nA block of version 29 with rows in every section")?;

@@ -15,7 +15,8 @@ mod shortest;
 
 use printing::Persistent;
 
-// Runs the sums. What cannot be printed is left out, what comes later is tried all the same, and the program ends as it would have.
+// Runs the sums. Each section, and what holds much on the stack in one, is a function that is not compiled into its caller, so that no more is held at
+// once than is used. What cannot be printed is left out, what comes later is tried all the same, and the program ends as it would have.
 fn main(rt: HostRuntime) {
     let rt = Persistent(&rt);
     let _ = shortest::run(&rt);

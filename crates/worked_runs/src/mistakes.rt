@@ -139,6 +139,7 @@ fn seconds(rt: &impl Print) -> io::Result<()> {
 }
 
 // Shows all of them.
+#[inline(never)]
 pub(crate) fn run(rt: &impl Print) -> io::Result<()> {
     negative_key(rt)?;
     longer_line(rt)?;

@@ -87,6 +87,7 @@ fn refusal_line(rt: &impl Print, asked: &str, told: AnowBill, number: u32) -> io
 }
 
 // Shows what the block saved at a second costs in the whole world, alone and as the one record of a sheet.
+#[inline(never)]
 fn price_lines(
     rt: &impl Print,
     asked: &str,
@@ -121,6 +122,7 @@ fn prices(rt: &impl Print) -> io::Result<()> {
 }
 
 // Shows whether air from one second on and then from another is a rate sheet.
+#[inline(never)]
 fn seconds(rt: &impl Print) -> io::Result<()> {
     println!(rt; "\nComparing the seconds of rates as text")?;
     for (first, second, number) in [(9, 10, 0), (10, 9, 40), (9, 9, 40)] {
@@ -282,6 +284,7 @@ fn largest(rt: &impl Print) -> io::Result<()> {
 }
 
 // Shows all of it.
+#[inline(never)]
 pub(crate) fn run(rt: &impl Print) -> io::Result<()> {
     prices(rt)?;
     seconds(rt)?;

@@ -6,7 +6,7 @@ use report::refusal::refusal_text;
 use std::{fmt, io};
 
 // An output that goes on behind a write that failed: what could not be written is left out, and all that comes later is tried.
-#[derive(Clone, Copy)]
+#[derive(Drop)]
 pub(crate) struct Persistent<'a, P>(pub &'a P);
 
 impl<P: Print> Print for Persistent<'_, P> {

@@ -98,6 +98,7 @@ fn shortest(rt: &impl Print, head: Head, length: usize, last: usize) -> io::Resu
 }
 
 // Shows the shortest blocks, each read, written back and tallied, and what the reader says of no bytes.
+#[inline(never)]
 pub(crate) fn run(rt: &impl Print) -> io::Result<()> {
     println!(rt; "Shortest all-air blocks")?;
     for (version, timer, length, last) in COUNTED {
